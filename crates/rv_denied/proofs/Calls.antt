@@ -1,7 +1,7 @@
 -- Calls of a unit that the list in force denies everything are refused.
-use Rattle.std.proofs.Common.{◌≡◌, ◌⊎◌, ◌∙◌, ◌&&◌, not, ℕ, ℤ, Bool, true, false, List, ◌∷◌, ap, sym, refl, subst, inl, inr, Some, None, if◌then◌else◌}
-use Rattle.rv_shape.specs.Catalogue.{Target, Nowhere, OnProtected, OnSuspension, target, is_function, dotted, suspension_operation_name}
-use Rattle.rv_event.specs.Past.{clock, halted, scalars, state}
+use Rattle.std.proofs.Common.{◌≡◌, ◌⊎◌, ◌∙◌, ◌&&◌, not, ℕ, ℤ, Bool, true, false, List, [], ◌∷◌, Option, ap, sym, refl, subst, inl, inr, Some, None, if◌then◌else◌}
+use Rattle.rv_shape.specs.Catalogue.{Target, Nowhere, OnProtected, OnSuspension, target, dotted, suspension_operation_name}
+use Rattle.rv_event.specs.Past.{clock, halted, state}
 use Rattle.rv_event.specs.Recorded.{recorded}
 use Rattle.rv_event.specs.declared.entry.Answer.{Answer}
 use Rattle.rv_event.specs.declared.entry.Answer.TheVariants as Answers
@@ -10,13 +10,13 @@ use Rattle.rv_event.specs.declared.entry.Recorded.{Recorded}
 use Rattle.rv_event.specs.declared.entry.Recorded.TheVariants.{Refused}
 use Rattle.rv_event.specs.declared.entry.Request.{Request}
 use Rattle.rv_event.specs.declared.entry.Request.TheVariants.{Call}
+use Rattle.rv_event.specs.declared.entry.Rule.{Rule}
 use Rattle.rv_event.specs.declared.entry.Rule.TheVariants as Rules
-use Rattle.rv_history.specs.Due.{due, due_call, enough, gate, goes_on, judged, out, performed, within, table}
-use Rattle.rv_history.specs.Exclusion.{excluded, full_queue, is_barred}
+use Rattle.rv_history.specs.Due.{due, due_call, enough, gate, goes_on, judged, let_in, out, performed, unless_refused, within, table}
 use Rattle.rv_history.specs.Fitting.{fits}
 use Rattle.rv_history.specs.History.{History, force, version}
 use Rattle.rv_history.specs.Legal.{Legal, after, entered}
-use Rattle.rv_history.specs.Rules.{breaks, decided, granted}
+use Rattle.rv_history.specs.Rules.{breaks, decided, first_among, granted}
 use Rattle.rv_history.specs.Subject.{home, subject, subject_of}
 use Rattle.rv_history.proofs.Answered.{word_is}
 use Rattle.rv_denied.specs.Denied.{AddsItsRefusal, CallsAreRefused, DeniesAll, RecordedCallsAreRefused, TasksAreRefused}
@@ -35,6 +35,14 @@ fitted : (h : History) (in_room : Bool) (answer : Answer) → Refusing h answer 
 fitted h true answer r = r
 fitted h false answer r = inl refl
 
+-- a call that the list doesn't grant violates the first rule
+denied_first : (h : History) (actor : ℕ) (request : Request) (object : ℕ) (called : Target) (answer : Answer) → granted h (subject h actor) called ≡ false
+    → judged h actor request object called answer ≡ Answers.Refused Rules.Grant (decided h (subject h actor) called) (version h)
+denied_first h actor request object called answer none =
+    let others : Option Rule =
+    first_among (λ rule. breaks h rule actor request object called) (Rules.Blocking ∷ Rules.Reentry ∷ Rules.Ceiling ∷ Rules.Queue ∷ Rules.Waiter ∷ []) in
+    ap (λ (g : Bool). unless_refused (version h) (decided h (subject h actor) called) (if not g then Some Rules.Grant else others) answer) none
+
 -- the answer that is due to a call of this target
 answered : (h : History) (actor : ℕ) (request : Request) (object : ℕ) (called : Target) → DeniesAll (force h) (subject h actor)
     → Refusing h (due_call h actor request object called)
@@ -45,10 +53,7 @@ answered h actor request object (OnProtected site) d =
     denied_grants (force h) (subject h actor) d (dotted site.unit site.object.name) site.operation.name (clock h.past) in
     inr (
       decided h (subject h actor) on,
-      ap (λ (g : Bool). judged (version h) (decided h (subject h actor) on) (scalars h.shapes object h.past)
-          (not g) (breaks h Rules.Blocking actor request object on)
-          (breaks h Rules.Reentry actor request object on) (breaks h Rules.Ceiling actor request object on)
-          (excluded h object (is_function site.operation.kind)) (is_barred h object site.operation.kind) (full_queue h object)) none,
+      denied_first h actor request object on (let_in h object site) none,
     )
 answered h actor request object (OnSuspension unit name wanted) d =
     let on : Target = OnSuspension unit name wanted in
@@ -56,10 +61,7 @@ answered h actor request object (OnSuspension unit name wanted) d =
     denied_grants (force h) (subject h actor) d (dotted unit name) (suspension_operation_name wanted) (clock h.past) in
     inr (
       decided h (subject h actor) on,
-      ap (λ (g : Bool). if not g then
-          Answers.Refused Rules.Grant (decided h (subject h actor) on) (version h)
-          else performed (version h) (breaks h Rules.Blocking actor request object on)
-          (breaks h Rules.Waiter actor request object on) (state object h.past) wanted) none,
+      denied_first h actor request object on (performed (state object h.past) wanted) none,
     )
 
 -- the answer that a call gets

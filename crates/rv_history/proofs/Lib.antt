@@ -61,3 +61,4 @@ pub mod Lines
 -- The headline at each entry, and what never fits, is due or lets anybody in
 pub mod Headlined
 pub mod Entering
+pub mod Sentence

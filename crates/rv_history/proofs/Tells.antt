@@ -1,10 +1,10 @@
 -- What an answer of the table tells of the request that got it: which requests get it at all, and what was so of the history.
 use Rattle.std.proofs.Common.{◌≡◌, ◌⊎◌, inl, inr, ℕ, ◌-◌, List, Some, None, Option, Bool, true, false, ap, subst, sym, ◌∙◌, refl}
-use Rattle.std.specs.Prelude.{ℤ, ◌&&◌, not, if◌then◌else◌, int_le, is_some, pos}
+use Rattle.std.specs.Prelude.{ℤ, ◌&&◌, not, if◌then◌else◌, int_le, pos}
 use Rattle.rv_shape.specs.Catalogue.{OperationNumber, Site, Target, Nowhere, OnProtected, OnSuspension, target, handler, is_function}
 use Rattle.rv_shape.specs.declared.suspension.SuspensionOperation.{SuspensionOperation}
 use Rattle.rv_shape.specs.declared.suspension.SuspensionOperation.TheVariants.{SetTrue, SetFalse, CurrentState, SuspendUntilTrue}
-use Rattle.rv_event.specs.Past.{clock, halted, innermost, released, scalars, stance, state, to_settle, until_then, waiter}
+use Rattle.rv_event.specs.Past.{clock, halted, innermost, released, scalars, stance, state, to_settle, until_then}
 use Rattle.rv_event.specs.Recorded.{recorded}
 use Rattle.rv_event.specs.declared.entry.Answer.{Answer}
 use Rattle.rv_event.specs.declared.entry.Answer.TheVariants as Answers
@@ -24,9 +24,9 @@ use Rattle.rv_history.specs.HandOver.{serves}
 use Rattle.rv_history.specs.History.{History, changes, version}
 use Rattle.rv_history.specs.Rules.{aim, aim_at, breaks, decided, first_at, is_call, is_taken, rules}
 use Rattle.rv_history.specs.Subject.{subject}
-use Rattle.rv_history.proofs.Answered.{off, and_false, and_none, answered, both, word_is}
+use Rattle.rv_history.proofs.Answered.{off, and_none, answered, both, word_is}
 use Rattle.rv_history.proofs.Handled.{handler_enters, handler_is}
-use Rattle.rv_history.proofs.Violations.{each_refused, is_found, none_found, not_taken}
+use Rattle.rv_history.proofs.Violations.{each_refused, is_found, none_found, not_taken, waiter_rule}
 
 -- Answers to calls
 
@@ -50,7 +50,7 @@ behind h a r o s Rules.Blocking e = e
 behind h a r o s Rules.Queue e =
     let barred : Bool = is_barred h o s.operation.kind in
     (both (is_call r) barred (both (is_call r && barred) (not (is_taken h o)) (both ((is_call r && barred) && not (is_taken h o)) (full_queue h o) e).0).0).1
-behind h a r o s Rules.Waiter e = absurd (off (sym (and_none (is_call r && false) (is_some (waiter o h.past)) (and_false (is_call r))) ∙ e))
+behind h a r o s Rules.Waiter e = absurd (off (sym (waiter_rule h a r o s) ∙ e))
 behind h a r o s Rules.Grant e = tt
 behind h a r o s Rules.Reentry e = tt
 behind h a r o s Rules.Ceiling e = tt

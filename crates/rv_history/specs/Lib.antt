@@ -16,6 +16,7 @@ pub mod Untouched
 pub mod Headline
 pub mod Orderly
 pub mod Settling
+pub mod Sentence
 pub mod Frame
 pub mod Suspension
 pub mod Closing

@@ -5,7 +5,7 @@ use Rattle.std.specs.List.{filter}
 use Rattle.std.proofs.lemmas.Bool.Decides.{nat_tests}
 use Rattle.rv_access.specs.Words.{Words}
 use Rattle.rv_shape.specs.Shape.{Shape}
-use Rattle.rv_shape.specs.Catalogue.{OperationNumber, UnitTask, Who, Operator, Line, Task, Nobody, Target, all_tasks, first_of, handler, target, task_of, who}
+use Rattle.rv_shape.specs.Catalogue.{OperationNumber, UnitTask, Who, Operator, Line, Task, Nobody, Nowhere, Target, all_tasks, first_of, handler, target, task_of, who}
 use Rattle.rv_event.proofs.Matching.{by, filter_without}
 use Rattle.rv_event.specs.Past.{begun, clock, closed, ended, fired, halted, handed, held, innermost, last_queued, mode, mode_by, named_in, next_of, or_else, released, scalars, stance, stance_of, started, state, to_settle, under_way, without}
 use Rattle.rv_event.specs.Recorded.{recorded}
@@ -26,12 +26,13 @@ use Rattle.rv_event.specs.declared.entry.Stance.{Stance}
 use Rattle.rv_event.specs.declared.entry.Stance.TheVariants.{Free, InQueue, HandedOver, DroppedBy, WaitsOn, WaitsUntil, Gone}
 use Rattle.rv_exec.specs.Asking.{Trace}
 use Rattle.rv_history.specs.declared.limits.Limits.{Limits}
-use Rattle.rv_history.specs.Due.{out, due, table, gate, within, enough, due_delay, due_end, due_fire, due_resume, end_of, or_waiting}
+use Rattle.rv_history.specs.Due.{out, due, table, gate, within, enough, delayed, due_end, due_fire, due_resume, end_of, judged, or_waiting}
 use Rattle.rv_history.specs.Fitting.{call_fits, end_fits, idle_line, idle_task, in_body, is_operator, is_tick, is_time, may_call}
-use Rattle.rv_history.specs.History.{History}
+use Rattle.rv_history.specs.History.{History, version}
 use Rattle.rv_history.specs.HandOver.{serves}
 use Rattle.rv_history.specs.Legal.{IsLegal, Legal}
-use Rattle.rv_history.specs.Rules.{holds_any}
+use Rattle.rv_history.specs.Rules.{decided, first_at}
+use Rattle.rv_history.specs.Subject.{subject}
 use Rattle.rv_history.proofs.Answered.{answered, both, off, within_recorded, word_is}
 use Rattle.rv_history.proofs.Bodies.{count_less}
 use Rattle.rv_history.proofs.Done.{done_serves}
@@ -42,6 +43,7 @@ use Rattle.rv_history.proofs.Modes.{calls_at, calls_none, ends_at, fires_at, fir
 use Rattle.rv_history.proofs.Standing.{legal_standing, settler_at}
 use Rattle.rv_history.proofs.Stances.{another, held_other, is_other, itself, own_stance, own_stances, same_number, unnamed_stance}
 use Rattle.rv_history.proofs.Tells.{Tells, each_waiting, out_each}
+use Rattle.rv_history.proofs.Violations.{each_refused}
 use Rattle.rv_history.proofs.Waits.{Waits}
 use Rattle.rv_meant.specs.Asks.{held_after, held_behind}
 use Rattle.rv_meant.specs.Histories.{ask_of, asked_in, asks_of, own_ask}
@@ -75,10 +77,13 @@ answer_holds h a n q c wakes x t = refl
 out_holds : (h : History) (a n : ℕ) (q : Request) (w : Recorded) → serves q ≡ false → (q ≡ Resume → ⊥) → recorded (out h a q) ≡ Some w → held_after n (out h a q) ≡ behind_word n w
 out_holds h a n q w c wakes e = out_each (λ x. held_after n x ≡ behind n (recorded x)) h a q refl (answer_holds h a n q c wakes) ∙ ap (λ o. behind n o) e
 
-delay_holds : (h : History) (n : ℕ) (blocking over : Bool) → held_after n (due_delay h blocking over) ≡ n
-delay_holds h n true over = refl
-delay_holds h n false true = refl
-delay_holds h n false false = refl
+delay_holds : (h : History) (a n : ℕ) (time : ℤ) (over : Bool) → held_after n (judged h a (DelayUntil time) 0 Nowhere (delayed over)) ≡ n
+delay_holds h a n time over =
+    each_refused (λ x. held_after n x ≡ n) (version h) (decided h (subject h a) Nowhere) (first_at h a (DelayUntil time) 0 Nowhere) (delayed over) (λ rule line found. refl) (λ none. by_time over)
+  where
+    by_time : (b : Bool) → held_after n (delayed b) ≡ n
+    by_time true = refl
+    by_time false = refl
 
 waiting_holds : (h : History) (n : ℕ) (ready : Bool) → held_after n (or_waiting h ready) ≡ n
 waiting_holds h n ready = each_waiting (λ x. held_after n x ≡ n) h ready refl refl refl
@@ -291,7 +296,7 @@ module _ (h : History) (a n : ℕ) (k : length (held h.shapes a h.past) ≡ n + 
   own_counts l some Settle w e = own_settled l w e
   own_counts l some Resume w e = own_resume w e (next_none Resume w e refl)
   own_counts l some (DelayUntil t) w e =
-      own_calm (DelayUntil t) w e refl refl (delay_holds h n (holds_any h a) (int_le t (pos (clock h.past))))
+      own_calm (DelayUntil t) w e refl refl (delay_holds h a n t (int_le t (pos (clock h.past))))
       (may_call_free (who h.shapes a) (held h.shapes a h.past) (stance a h.past) (calls (both (may_call (who h.shapes a) (mode h.shapes a h.past)) (is_time t) (answered h a (DelayUntil t) w e).fits_in).0))
   own_counts l some Clock w e = own_calm Clock w e refl refl refl (may_call_free (who h.shapes a) (held h.shapes a h.past) (stance a h.past) (calls (answered h a Clock w e).fits_in))
   own_counts l some Fire w e = own_fire w e

@@ -3,17 +3,16 @@
 
 ghost use Rattle.std.specs.Prelude.{◌≡◌, None, List, ℤ, Option, if◌then◌else◌};
 ghost use Rattle.rv_event.specs.declared.entry.Answer.TheVariants as answers;
-ghost use Rattle.rv_event.specs.declared.entry.Rule.TheVariants as rule;
 ghost use Rattle.rv_history.specs.Due as due;
-ghost use Rattle.rv_host.specs.Decisions.{answer_with, or_none};
-ghost use Rattle.rv_host.specs.Facts.{resumed};
+ghost use Rattle.rv_host.specs.Decisions.{answer_with};
+ghost use Rattle.rv_host.specs.Facts.{breaks_as_call, breaks_as_delay, breaks_as_suspension, let_in, resumed, unless_broken};
 
 use crate::decision::Decision;
 use rv_event::entry::Rule;
 use rv_shape::suspension::SuspensionOperation;
 
 /// Of a call of a protected operation, or of a fired line: the version of the list and the line that
-/// decides, and the tests, in the order of the rules.
+/// decides, and the tests, in the order of the rules. A fired line finds no queue full.
 #[derive(Clone, Copy, Drop)]
 pub struct CallFacts {
     pub version: usize,
@@ -31,7 +30,7 @@ impl CallFacts {
     /// What is decided.
     pub fn decision(&self) -> Decision
         ensures { (given : Option (List ℤ)) → answer_with given result
-            ≡ due.judged self.now.version self.now.line (or_none given) self.now.denied self.now.blocking self.now.reentry self.now.above self.now.busy self.now.barred self.now.full }
+            ≡ unless_broken self.now.version self.now.line (breaks_as_call self.now) (let_in self.now given) }
     {
         if self.denied {
             return Decision::Refused(Rule::Grant, self.line, self.version);
@@ -59,7 +58,8 @@ impl CallFacts {
     }
 }
 
-/// Of a call of an operation of a suspension object (D.10).
+/// Of a call of an operation of a suspension object (D.10): all but Suspend_Until_True block nobody
+/// and find nobody waiting.
 #[derive(Clone, Copy, Drop)]
 pub struct SuspensionFacts {
     pub version: usize,
@@ -74,34 +74,35 @@ impl SuspensionFacts {
     /// What is decided of a call of this operation.
     pub fn decision(&self, operation: SuspensionOperation) -> Decision
         ensures { (given : Option (List ℤ)) → answer_with given result
-            ≡ (if self.now.denied then answers.Refused rule.Grant self.now.line self.now.version
-            else due.performed self.now.version self.now.blocking self.now.waited self.now.state operation) }
+            ≡ unless_broken self.now.version self.now.line (breaks_as_suspension self.now) (due.performed self.now.state operation) }
     {
         if self.denied {
             return Decision::Refused(Rule::Grant, self.line, self.version);
         }
-        match operation {
-            SuspensionOperation::SetTrue => Decision::Accepted(0),
-            SuspensionOperation::SetFalse => Decision::Accepted(0),
-            SuspensionOperation::CurrentState => Decision::Accepted(one_or_none(self.state)),
-            SuspensionOperation::SuspendUntilTrue => self.suspended(),
-        }
-    }
-
-    // The answer to Suspend_Until_True that the list grants.
-    fn suspended(&self) -> Decision
-        ensures { (given : Option (List ℤ)) → answer_with given result ≡ due.suspended self.now.version self.now.blocking self.now.waited self.now.state }
-    {
         if self.blocking {
             return Decision::Refused(Rule::Blocking, 0, self.version);
         }
         if self.waited {
             return Decision::Refused(Rule::Waiter, 0, self.version);
         }
-        if self.state {
-            Decision::Accepted(0)
-        } else {
-            Decision::Suspended
+        performed(self.state, operation)
+    }
+}
+
+// The answer to a call of an operation of a suspension object, by its state, that no rule refuses.
+fn performed(state: bool, operation: SuspensionOperation) -> Decision
+    ensures { (given : Option (List ℤ)) → answer_with given result ≡ due.performed state operation }
+{
+    match operation {
+        SuspensionOperation::SetTrue => Decision::Accepted(0),
+        SuspensionOperation::SetFalse => Decision::Accepted(0),
+        SuspensionOperation::CurrentState => Decision::Accepted(one_or_none(state)),
+        SuspensionOperation::SuspendUntilTrue => {
+            if state {
+                Decision::Accepted(0)
+            } else {
+                Decision::Suspended
+            }
         }
     }
 }
@@ -126,8 +127,7 @@ impl DelayFacts {
     /// What is decided.
     pub fn decision(&self) -> Decision
         ensures { (given : Option (List ℤ)) → answer_with given result
-            ≡ (if self.now.blocking then answers.Refused rule.Blocking 0 self.now.version
-            else (if self.now.over then due.nothing_more else answers.Delayed)) }
+            ≡ unless_broken self.now.version 0 (breaks_as_delay self.now) (due.delayed self.now.over) }
     {
         if self.blocking {
             return Decision::Refused(Rule::Blocking, 0, self.version);

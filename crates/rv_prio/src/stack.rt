@@ -1,6 +1,6 @@
 //! The objects that an actor holds, one within the other.
 
-ghost use Rattle.std.specs.Prelude.{◌≡◌, ◌==◌, ◌<◌, ◌≤◌, [], ◌∷◌, drop, length, slice_get};
+ghost use Rattle.std.specs.Prelude.{◌≡◌, ◌==◌, ◌<◌, ◌≤◌, [], ◌∷◌, drop, length, nat_lt, slice_get};
 ghost use Rattle.std.specs.List.{list_any};
 ghost use Rattle.rv_prio.specs.Priority.{active_priority};
 
@@ -88,6 +88,14 @@ impl Stack {
             priority = priority.max(held.ceiling);
         }
         priority
+    }
+
+    /// Whether the active priority of an actor with this base priority is above a ceiling: then it may not call the
+    /// object that has it (ISO/IEC 8652:2012, D.3).
+    pub fn above_ceiling(&self, base: usize, ceiling: usize) -> bool
+        ensures { result ≡ nat_lt ceiling (active_priority base self.now) }
+    {
+        ceiling < self.active(base)
     }
 }
 

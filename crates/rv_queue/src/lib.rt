@@ -2,7 +2,7 @@
 #![tactic(auto)]
 
 ghost use Rattle.std.specs.List.{list_any};
-ghost use Rattle.std.specs.Prelude.{◌≡◌, ◌==◌, ◌<◌, ◌≤◌, [], ◌∷◌, ◌++◌, drop, length, not, slice_get, IsTrue, ◌↔◌};
+ghost use Rattle.std.specs.Prelude.{◌≡◌, ◌==◌, ◌<◌, ◌≤◌, ◌&&◌, [], ◌∷◌, ◌++◌, drop, length, nat_lt, not, slice_get, IsTrue, ◌↔◌};
 
 use arrayvec::ArrayVec;
 use std::marker::Model;
@@ -80,6 +80,14 @@ impl<const LIMIT: usize> Queue<LIMIT> {
         ensures { result ≡ slice_get self.now 0 }
     {
         self.callers.first().copied()
+    }
+
+    /// Whether a caller is due to be served where the barrier is open or closed: it is open, and somebody waits
+    /// (ISO/IEC 8652:2012, 9.5.3).
+    pub fn due(&self, barrier: bool) -> bool
+        ensures { result ≡ (barrier && nat_lt 0 (length self.now)) }
+    {
+        barrier && 0 < self.len()
     }
 
     /// Whether anybody but this actor waits.

@@ -1,15 +1,16 @@
 -- The answers that are due go on.
-use Rattle.std.proofs.Common.{◌≡◌, ℕ, Bool, true, false, if◌then◌else◌, List, [], Option, Some, None, refl, sym, ap, ◌∙◌, subst}
-use Rattle.std.specs.Prelude.{ℤ, pos, int_le, slice_index_or, ◌&&◌, ◌||◌, not}
+use Rattle.std.proofs.Common.{◌≡◌, ℕ, Bool, true, false, List, [], Option, Some, None, refl, sym, ap, ◌∙◌, subst}
+use Rattle.std.specs.Prelude.{ℤ, pos, int_le, is_some, slice_index_or, ◌&&◌, ◌||◌, not}
 use Rattle.rv_code.specs.declared.expression.Callee.{Callee}
 use Rattle.rv_code.specs.declared.expression.Callee.TheVariants as callee
 use Rattle.rv_shape.specs.Catalogue.{UnitObject, Site, Target, Nowhere, OnProtected, OnSuspension, place, target, at_object, at_unit_object, is_function, is_entry}
 use Rattle.rv_shape.specs.declared.kind.Kind.{Kind}
 use Rattle.rv_shape.specs.declared.kind.Kind.TheVariants.{Function, Procedure, Entry as EntryKind, Handler}
+use Rattle.rv_shape.specs.declared.suspension.SuspensionOperation.{SuspensionOperation}
 use Rattle.rv_shape.specs.declared.suspension.SuspensionOperation.TheVariants as operation
 use Rattle.rv_shape.specs.declared.object.Object.{Object}
 use Rattle.rv_shape.specs.declared.object.Object.TheVariants.{Protected, Suspension}
-use Rattle.rv_event.specs.Past.{clock, halted, released, scalars, stance, state}
+use Rattle.rv_event.specs.Past.{clock, halted, released, scalars, stance, state, waiter}
 use Rattle.rv_event.specs.declared.entry.Answer.{Answer}
 use Rattle.rv_event.specs.declared.entry.Answer.TheVariants as Answers
 use Rattle.rv_event.specs.declared.entry.Request.{Request}
@@ -22,12 +23,14 @@ use Rattle.rv_exec.specs.Asking.{stands}
 use Rattle.rv_exec.specs.Calls.{internal, request_of, replied, resumed}
 use Rattle.rv_exec.specs.Stops.{is_final, is_stopped, stops_at_once}
 use Rattle.rv_fits.specs.Fits.{calls_function, calls_procedure, calls_entry, suspends, is_suspension, callee_fits}
-use Rattle.rv_history.specs.Due.{out, table, nothing_more, suspended, due_call, due_delay, due_resume, one_or_none, or_waiting}
-use Rattle.rv_history.specs.Exclusion.{excluded, is_open, is_barred, full_queue}
+use Rattle.rv_history.specs.Due.{delayed, due_call, due_resume, judged, one_or_none, or_waiting, out, performed, table}
+use Rattle.rv_history.specs.Exclusion.{is_open, is_barred}
 use Rattle.rv_history.specs.History.{History, version}
-use Rattle.rv_history.specs.Rules.{decided, breaks, holds_any}
+use Rattle.rv_history.specs.Rules.{breaks, decided, first_at, holds_any, rules, waits}
 use Rattle.rv_history.specs.Subject.{subject}
-use Rattle.rv_history.proofs.Tells.{Behind, each_halted, each_judged, each_waiting, out_all}
+use Rattle.rv_history.proofs.Answered.{both}
+use Rattle.rv_history.proofs.Tells.{Behind, each_call, each_halted, each_waiting, out_all}
+use Rattle.rv_history.proofs.Violations.{each_refused, is_found}
 use Rattle.rv_replies.specs.Answers.{queued, paused, waits_by, CallsGoOn, ResumesGoOn}
 
 -- it stands, is final, or goes on
@@ -42,10 +45,6 @@ last_of true b d e f g = absurd (cc f)
 last_of false true d e f g = absurd (cc g)
 last_of false false true e f g = absurd (cc e)
 last_of false false false e f g = refl
-
-if_goes : (P : Answer → Bool) (b : Bool) (x y : Answer) → P x ≡ true → P y ≡ true → P (if b then x else y) ≡ true
-if_goes P true x y p q = p
-if_goes P false x y p q = q
 
 out_goes : (P : Answer → Bool) → P Answers.Misuse ≡ true → P Answers.Halted ≡ true → P Answers.Full ≡ true → (h : History) (a : ℕ) (q : Request) → P (table h a q) ≡ true → P (out h a q) ≡ true
 out_goes P m k f h a q e = out_all (λ r. P r ≡ true) h a q f m (λ on. k) e
@@ -73,11 +72,7 @@ site_goes : (c : Callee) (h : History) (a o p : ℕ) (vs : List ℤ) (site : Sit
     ((rule : Rule) (line : ℕ) → Behind (breaks h Rules.Blocking a q o (OnProtected site)) (is_barred h o site.operation.kind) rule → goes c (Answers.Refused rule line (version h)) ≡ true)
     → (is_barred h o site.operation.kind ≡ true → goes c Answers.Queued ≡ true) → ((values : List ℤ) → goes c (Answers.Started values) ≡ true) → goes c (due_call h a q o (OnProtected site)) ≡ true
 site_goes c h a o p vs site refused queued started =
-    let q : Request = Call o p vs in let called : Target = OnProtected site in
-    each_judged (λ r. goes c r ≡ true) (version h) (decided h (subject h a) called) (scalars h.shapes o h.past)
-    (breaks h Rules.Grant a q o called) (breaks h Rules.Blocking a q o called) (breaks h Rules.Reentry a q o called) (breaks h Rules.Ceiling a q o called)
-    (excluded h o (is_function site.operation.kind)) (is_barred h o site.operation.kind) (full_queue h o)
-    refused refl (λ t. queued t.shut) (λ t. started (scalars h.shapes o h.past))
+    each_call (λ r. goes c r ≡ true) h a (Call o p vs) o site (λ shut. refl) (λ rule line behind. refused rule line behind) refl (λ t. queued t.shut) (λ t. started (scalars h.shapes o h.past))
 
 -- what is no entry might not block, and is never queued
 inner_goes : (c : Callee) (h : History) (a o p : ℕ) (vs : List ℤ) (site : Site) → is_entry site.operation.kind ≡ false → ((rule : Rule) (line number : ℕ) → Behind false false rule → goes c (Answers.Refused rule line number) ≡ true)
@@ -124,49 +119,100 @@ entry_goes h a o p vs (OnProtected site) e = site_goes (callee.Entry o p) h a o 
 
 -- Operations of suspension objects
 
+-- the rules that a call of this operation may violate: only Suspend_Until_True might block, and finds who waits
+abbrev MayBreak : SuspensionOperation → Rule → Type 0
+MayBreak wanted Rules.Grant = Unit {0}
+MayBreak wanted Rules.Blocking = waits wanted ≡ true
+MayBreak wanted Rules.Waiter = waits wanted ≡ true
+MayBreak wanted rule = ⊥
+
+may_break : (h : History) (a o p : ℕ) (vs : List ℤ) (unit name : List ℕ) (wanted : SuspensionOperation) (rule : Rule) → breaks h rule a (Call o p vs) o (OnSuspension unit name wanted) ≡ true → MayBreak wanted rule
+may_break h a o p vs unit name wanted Rules.Grant e = tt
+may_break h a o p vs unit name wanted Rules.Blocking e = (both (holds_any h a) (waits wanted) e).1
+may_break h a o p vs unit name wanted Rules.Waiter e = (both (waits wanted) (is_some (waiter o h.past)) e).0
+may_break h a o p vs unit name wanted Rules.Reentry e = absurd (cc e)
+may_break h a o p vs unit name wanted Rules.Ceiling e = absurd (cc e)
+may_break h a o p vs unit name wanted Rules.Queue e = absurd (cc e)
+
+-- a call goes on by each answer that its operation may get
+operation_goes : (c : Callee) (h : History) (a o p : ℕ) (unit name : List ℕ) (wanted : SuspensionOperation) → ((rule : Rule) (line : ℕ) → MayBreak wanted rule → goes c (Answers.Refused rule line (version h)) ≡ true)
+    → goes c (performed (state o h.past) wanted) ≡ true → goes c (due_call h a (Call o p []) o (OnSuspension unit name wanted)) ≡ true
+operation_goes c h a o p unit name wanted refused goes_by =
+    let q : Request = Call o p [] in let called : Target = OnSuspension unit name wanted in
+    each_refused (λ r. goes c r ≡ true) (version h) (decided h (subject h a) called) (first_at h a q o called) (performed (state o h.past) wanted)
+    (λ rule line found. refused rule line (may_break h a o p [] unit name wanted rule (is_found (λ rule. breaks h rule a q o called) rules rule found)))
+    (λ none. goes_by)
+
 state_goes : (o : ℕ) (now : Bool) → goes (callee.CurrentState o) (Answers.Accepted (one_or_none now)) ≡ true
 state_goes o true = refl
 state_goes o false = refl
 
-suspended_goes : (o number : ℕ) (blocking waited now : Bool) → goes (callee.SuspendUntilTrue o) (suspended number blocking waited now) ≡ true
-suspended_goes o number true waited now = refl
-suspended_goes o number false true now = refl
-suspended_goes o number false false true = refl
-suspended_goes o number false false false = refl
+suspended_goes : (o : ℕ) (now : Bool) → goes (callee.SuspendUntilTrue o) (performed now operation.SuspendUntilTrue) ≡ true
+suspended_goes o true = refl
+suspended_goes o false = refl
 
 on_suspension : (c : Callee) (p : ℕ) (h : History) (a o : ℕ) (at : Option UnitObject) → ((unit : List ℕ) (object : Object) → suspends object ≡ true → goes c (due_call h a (Call o p []) o (at_object p unit object)) ≡ true)
     → is_suspension at ≡ true → goes c (due_call h a (Call o p []) o (at_unit_object p at)) ≡ true
 on_suspension c p h a o None f e = absurd (cc e)
 on_suspension c p h a o (Some at) f e = f at.unit at.object e
 
+set_true_refused : (o : ℕ) (rule : Rule) (line number : ℕ) → MayBreak operation.SetTrue rule → goes (callee.SetTrue o) (Answers.Refused rule line number) ≡ true
+set_true_refused o Rules.Grant line number e = refl
+set_true_refused o Rules.Blocking line number e = absurd (cc e)
+set_true_refused o Rules.Waiter line number e = absurd (cc e)
+set_true_refused o rule line number e = absurd e
+
 set_true_goes : (h : History) (a o : ℕ) (unit : List ℕ) (object : Object) → suspends object ≡ true → goes (callee.SetTrue o) (due_call h a (Call o 1 []) o (at_object 1 unit object)) ≡ true
 set_true_goes h a o unit (Protected object) e = absurd (cc e)
 set_true_goes h a o unit (Suspension object) e =
-    let q : Request = Call o 1 [] in let called : Target = OnSuspension unit object.name operation.SetTrue in
-    if_goes (goes (callee.SetTrue o)) (breaks h Rules.Grant a q o called) (Answers.Refused Rules.Grant (decided h (subject h a) called) (version h)) nothing_more refl refl
+    operation_goes (callee.SetTrue o) h a o 1 unit object.name operation.SetTrue (λ rule line may. set_true_refused o rule line (version h) may) refl
+
+set_false_refused : (o : ℕ) (rule : Rule) (line number : ℕ) → MayBreak operation.SetFalse rule → goes (callee.SetFalse o) (Answers.Refused rule line number) ≡ true
+set_false_refused o Rules.Grant line number e = refl
+set_false_refused o Rules.Blocking line number e = absurd (cc e)
+set_false_refused o Rules.Waiter line number e = absurd (cc e)
+set_false_refused o rule line number e = absurd e
 
 set_false_goes : (h : History) (a o : ℕ) (unit : List ℕ) (object : Object) → suspends object ≡ true → goes (callee.SetFalse o) (due_call h a (Call o 2 []) o (at_object 2 unit object)) ≡ true
 set_false_goes h a o unit (Protected object) e = absurd (cc e)
 set_false_goes h a o unit (Suspension object) e =
-    let q : Request = Call o 2 [] in let called : Target = OnSuspension unit object.name operation.SetFalse in
-    if_goes (goes (callee.SetFalse o)) (breaks h Rules.Grant a q o called) (Answers.Refused Rules.Grant (decided h (subject h a) called) (version h)) nothing_more refl refl
+    operation_goes (callee.SetFalse o) h a o 2 unit object.name operation.SetFalse (λ rule line may. set_false_refused o rule line (version h) may) refl
+
+current_refused : (o : ℕ) (rule : Rule) (line number : ℕ) → MayBreak operation.CurrentState rule → goes (callee.CurrentState o) (Answers.Refused rule line number) ≡ true
+current_refused o Rules.Grant line number e = refl
+current_refused o Rules.Blocking line number e = absurd (cc e)
+current_refused o Rules.Waiter line number e = absurd (cc e)
+current_refused o rule line number e = absurd e
 
 current_goes : (h : History) (a o : ℕ) (unit : List ℕ) (object : Object) → suspends object ≡ true → goes (callee.CurrentState o) (due_call h a (Call o 3 []) o (at_object 3 unit object)) ≡ true
 current_goes h a o unit (Protected object) e = absurd (cc e)
 current_goes h a o unit (Suspension object) e =
-    let q : Request = Call o 3 [] in let called : Target = OnSuspension unit object.name operation.CurrentState in
-    if_goes (goes (callee.CurrentState o)) (breaks h Rules.Grant a q o called) (Answers.Refused Rules.Grant (decided h (subject h a) called) (version h)) (Answers.Accepted (one_or_none (state o h.past))) refl (state_goes o (state o h.past))
+    operation_goes (callee.CurrentState o) h a o 3 unit object.name operation.CurrentState (λ rule line may. current_refused o rule line (version h) may) (state_goes o (state o h.past))
+
+suspend_refused : (o : ℕ) (rule : Rule) (line number : ℕ) → MayBreak operation.SuspendUntilTrue rule → goes (callee.SuspendUntilTrue o) (Answers.Refused rule line number) ≡ true
+suspend_refused o Rules.Grant line number e = refl
+suspend_refused o Rules.Blocking line number e = refl
+suspend_refused o Rules.Waiter line number e = refl
+suspend_refused o rule line number e = absurd e
 
 suspend_goes : (h : History) (a o : ℕ) (unit : List ℕ) (object : Object) → suspends object ≡ true → goes (callee.SuspendUntilTrue o) (due_call h a (Call o 4 []) o (at_object 4 unit object)) ≡ true
 suspend_goes h a o unit (Protected object) e = absurd (cc e)
 suspend_goes h a o unit (Suspension object) e =
-    let q : Request = Call o 4 [] in let called : Target = OnSuspension unit object.name operation.SuspendUntilTrue in
-    if_goes (goes (callee.SuspendUntilTrue o)) (breaks h Rules.Grant a q o called) (Answers.Refused Rules.Grant (decided h (subject h a) called) (version h)) (suspended (version h) (breaks h Rules.Blocking a q o called) (breaks h Rules.Waiter a q o called) (state o h.past)) refl (suspended_goes o (version h) (breaks h Rules.Blocking a q o called) (breaks h Rules.Waiter a q o called) (state o h.past))
+    operation_goes (callee.SuspendUntilTrue o) h a o 4 unit object.name operation.SuspendUntilTrue (λ rule line may. suspend_refused o rule line (version h) may) (suspended_goes o (state o h.past))
 
-delay_goes : (h : History) (blocking over : Bool) → goes callee.DelayUntil (due_delay h blocking over) ≡ true
-delay_goes h true over = refl
-delay_goes h false true = refl
-delay_goes h false false = refl
+-- a delay violates the rule of blocking, or none
+delay_refused : (h : History) (a : ℕ) (time : ℤ) (rule : Rule) (line : ℕ) → breaks h rule a (DelayUntil time) 0 Nowhere ≡ true → goes callee.DelayUntil (Answers.Refused rule line (version h)) ≡ true
+delay_refused h a time Rules.Blocking line e = refl
+delay_refused h a time rule line e = absurd (cc e)
+
+delay_goes : (h : History) (a : ℕ) (time : ℤ) (over : Bool) → goes callee.DelayUntil (judged h a (DelayUntil time) 0 Nowhere (delayed over)) ≡ true
+delay_goes h a time over =
+    each_refused (λ r. goes callee.DelayUntil r ≡ true) (version h) (decided h (subject h a) Nowhere) (first_at h a (DelayUntil time) 0 Nowhere) (delayed over)
+    (λ rule line found. delay_refused h a time rule line (is_found (λ rule. breaks h rule a (DelayUntil time) 0 Nowhere) rules rule found)) (λ none. by_time over)
+  where
+    by_time : (b : Bool) → goes callee.DelayUntil (delayed b) ≡ true
+    by_time true = refl
+    by_time false = refl
 
 -- Requests
 
@@ -179,7 +225,7 @@ request_goes h a (callee.SetTrue o) vs n e = on_suspension (callee.SetTrue o) 1 
 request_goes h a (callee.SetFalse o) vs n e = on_suspension (callee.SetFalse o) 2 h a o (place h.shapes o) (set_false_goes h a o) e
 request_goes h a (callee.CurrentState o) vs n e = on_suspension (callee.CurrentState o) 3 h a o (place h.shapes o) (current_goes h a o) e
 request_goes h a (callee.SuspendUntilTrue o) vs n e = on_suspension (callee.SuspendUntilTrue o) 4 h a o (place h.shapes o) (suspend_goes h a o) e
-request_goes h a callee.DelayUntil vs n e = delay_goes h (holds_any h a) (int_le (slice_index_or vs 0 (pos 0)) (pos (clock h.past)))
+request_goes h a callee.DelayUntil vs n e = delay_goes h a (slice_index_or vs 0 (pos 0)) (int_le (slice_index_or vs 0 (pos 0)) (pos (clock h.past)))
 request_goes h a callee.Clock vs n e = refl
 
 pub calls_go_on : CallsGoOn

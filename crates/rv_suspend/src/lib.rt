@@ -57,16 +57,17 @@ impl SuspensionObject {
         self.waiter
     }
 
-    /// Set_True: releases the actor that waits, and the object stays False; where nobody waits, it is True. Whom
-    /// an earlier call released must be collected.
+    /// Set_True: releases the actor that waits, and the object stays False; where nobody waits, it is True. Whom an
+    /// earlier call released, and nobody collected, stays the one to collect.
     pub fn set_true(&mut self)
-        requires { self.old.released ≡ None }
         ensures state { self.new.state ≡ not (is_some self.old.waiter) }
         ensures waiter { self.new.waiter ≡ None }
-        ensures released { self.new.released ≡ self.old.waiter }
+        ensures released { self.new.released ≡ (if is_some self.old.released then self.old.released else self.old.waiter) }
     {
         self.state = self.waiter.is_none();
-        self.released = self.waiter;
+        if self.released.is_none() {
+            self.released = self.waiter;
+        }
         self.waiter = None;
     }
 

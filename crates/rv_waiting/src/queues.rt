@@ -1,7 +1,7 @@
 //! The queues of the objects' entries, each as the entries so far leave it (9.5.3, D.7).
 
 ghost use Rattle.std.specs.List.{list_any};
-ghost use Rattle.std.specs.Prelude.{◌≡◌, ◌==◌, ◌<◌, [], ◌∷◌, ℕ, List, Some, length, not, replicate, slice_get};
+ghost use Rattle.std.specs.Prelude.{◌≡◌, ◌==◌, ◌<◌, ◌&&◌, [], ◌∷◌, ℕ, List, Some, length, nat_lt, not, replicate, slice_get};
 ghost use Rattle.std.specs.Prelude.{slice_index_or, IfOk};
 ghost use Rattle.rv_event.specs.Lent.{whole};
 ghost use Rattle.rv_event.specs.Past as past;
@@ -77,6 +77,17 @@ impl Queues {
             result ≡ slice_get (callers object history) 0 }
     {
         self.items.get(object)?.head()
+    }
+
+    /// Whether a caller is due to be served on the object where its barrier is open or closed.
+    pub fn is_due(&self, object: usize, open: bool) -> bool
+        ensures { (history : List Entry) → AreQueues history self.now →
+            result ≡ (open && nat_lt 0 (length (callers object history))) }
+    {
+        match self.items.get(object) {
+            Some(queue) => queue.due(open),
+            None => false,
+        }
     }
 
     // Whether anybody but this actor waits on the object.

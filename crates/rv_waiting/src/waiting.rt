@@ -1,6 +1,6 @@
 //! All that is kept of those that wait.
 
-ghost use Rattle.std.specs.Prelude.{◌≡◌, [], ◌∷◌, ℕ, List, slice_get, IfOk};
+ghost use Rattle.std.specs.Prelude.{◌≡◌, ◌&&◌, [], ◌∷◌, ℕ, List, length, nat_lt, slice_get, IfOk};
 ghost use Rattle.rv_event.specs.Lent.{whole};
 ghost use Rattle.rv_event.specs.Past as past;
 ghost use Rattle.rv_event.specs.declared.entry.Entry.{Entry};
@@ -85,6 +85,15 @@ impl Waiting {
             slice_get (past.queue object h.past) 0 ≡ call_of result h.past }
     {
         self.queues.head(object)
+    }
+
+    /// Whether a caller is due to be served on the object where its barrier is open or closed: it is open, and
+    /// somebody waits (9.5.3).
+    pub fn is_due(&self, object: usize, open: bool) -> bool
+        ensures { (history : List Entry) → IsWaiting history self.now →
+            result ≡ (open && nat_lt 0 (length (callers object history))) }
+    {
+        self.queues.is_due(object, open)
     }
 
     /// Whether the queue of the object is full, where queues have this limit (D.7).

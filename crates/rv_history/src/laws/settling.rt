@@ -15,7 +15,16 @@ ghost use Rattle.rv_history.specs.Fitting.{fits};
 ghost use Rattle.rv_history.specs.Legal.{Legal, after, after_list, after_load, out_list, out_load};
 ghost use Rattle.rv_history.specs.Owed.{IsSolvent};
 ghost use Rattle.rv_history.specs.Settling.{HasToSettle, IsNoSettleOf, IsSettledWithin, ServesFirst, StaysUnsettled};
+ghost use Rattle.rv_history.specs.Sentence.{left_waiting};
 ghost use Rattle.rv_history.specs.Settling.{settled};
+
+/// An object is unsettled exactly where the last entry that served its queue dropped a caller and left
+/// others waiting.
+#[tactic(auto, using(crate::proofs::Sentence::unsettled_sentence))]
+pub fn unsettled_where_the_last_service_dropped()
+    ensures { (h : History) (object : ℕ) → Legal h →
+        is_unsettled h.shapes object h.past ≡ left_waiting h.shapes object h.past }
+{}
 
 /// An actor with an object to settle may settle it and do nothing else; nobody holds the object, and
 /// somebody waits there.

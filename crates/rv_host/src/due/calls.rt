@@ -49,7 +49,7 @@ fn call_facts(
     ensures above { result.above ≡ nat_lt ceiling (subjects.active (history_of seen.now) asked.0) }
     ensures busy { result.busy ≡ exclusion.excluded (history_of seen.now) object (catalogues.is_function kind) }
     ensures barred { result.barred ≡ exclusion.is_barred (history_of seen.now) object kind }
-    ensures full { result.full ≡ exclusion.full_queue (history_of seen.now) object }
+    ensures full { result.full ≡ (asked.1 && exclusion.full_queue (history_of seen.now) object) }
 {
     let (actor, call, may_block) = asked;
     let (granted, line) = decided;
@@ -64,7 +64,7 @@ fn call_facts(
         above: is_above(seen, actor, ceiling),
         busy: is_busy(seen, object, kind.is_function()),
         barred: is_closed(seen, object, kind),
-        full: is_full(seen, object),
+        full: call && is_full(seen, object),
     }
 }
 

@@ -12,7 +12,7 @@ use crate::decision::Decision;
 use crate::due::waits::is_halted;
 use crate::rules::exclusion::{opens_among, opens_at, scalars_of};
 use crate::rules::grant::decide_call;
-use crate::rules::queue::head_call;
+use crate::rules::queue::{head_call, is_due};
 use crate::seen::Seen;
 use rv_event::entry::{Body, Next};
 use rv_shape::actor::Callee;
@@ -45,7 +45,7 @@ fn after_end(seen: &Seen, object: usize, opens: bool) -> Next
     if is_halted(seen) {
         return Next::Nothing;
     }
-    if !opens {
+    if !is_due(seen, object, opens) {
         return Next::Nothing;
     }
     serve(seen, head_call(seen, object))
