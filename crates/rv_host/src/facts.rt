@@ -1,5 +1,4 @@
-//! What the answer to a request depends on, and what is decided by it: whoever finds these facts,
-//! by a scan or otherwise, has the decision from here.
+//! What the answer to a request depends on, and what is decided by it.
 
 ghost use Rattle.std.specs.Prelude.{◌≡◌, None, List, ℤ, Option, if◌then◌else◌};
 ghost use Rattle.rv_event.specs.declared.entry.Answer.TheVariants as answers;

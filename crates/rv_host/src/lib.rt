@@ -1,15 +1,14 @@
 //! The host: it carries out commands one after another, and each of its answers is a function of its
 //! journal, as rv_history defines it. `host` is what is used: it keeps what is so after its entries in
 //! fields (rv_present, rv_waiting), which `seen` holds for `rules`, what the rules ask; `facts` has what an
-//! answer depends on and what is decided by it, for whoever finds these facts; `due` puts them together, `answering` asks the
-//! room.
+//! answer depends on and what is decided by it; `due` puts them together, `answering` asks the room.
 #![tactic(auto)]
 
 mod answering;
 pub mod answers;
-pub mod decision;
+mod decision;
 mod due;
-pub mod facts;
+mod facts;
 pub mod host;
 pub mod pages;
 mod rules;

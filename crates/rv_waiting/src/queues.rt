@@ -80,12 +80,12 @@ impl Queues {
     }
 
     /// Whether a caller is due to be served on the object where its barrier is open or closed.
-    pub fn is_due(&self, object: usize, open: bool) -> bool
+    pub fn is_due(&self, object: usize, barrier: bool) -> bool
         ensures { (history : List Entry) → AreQueues history self.now →
-            result ≡ (open && nat_lt 0 (length (callers object history))) }
+            result ≡ (barrier && nat_lt 0 (length (callers object history))) }
     {
         match self.items.get(object) {
-            Some(queue) => queue.due(open),
+            Some(queue) => queue.due(barrier),
             None => false,
         }
     }

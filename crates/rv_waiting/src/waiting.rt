@@ -89,11 +89,11 @@ impl Waiting {
 
     /// Whether a caller is due to be served on the object where its barrier is open or closed: it is open, and
     /// somebody waits (9.5.3).
-    pub fn is_due(&self, object: usize, open: bool) -> bool
+    pub fn is_due(&self, object: usize, barrier: bool) -> bool
         ensures { (history : List Entry) → IsWaiting history self.now →
-            result ≡ (open && nat_lt 0 (length (callers object history))) }
+            result ≡ (barrier && nat_lt 0 (length (callers object history))) }
     {
-        self.queues.is_due(object, open)
+        self.queues.is_due(object, barrier)
     }
 
     /// Whether the queue of the object is full, where queues have this limit (D.7).

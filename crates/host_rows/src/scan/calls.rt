@@ -1,16 +1,15 @@
 //! The answers to calls and to fired lines.
 
-use crate::scan::answers::answer_by;
 use crate::scan::bodies::{count_held, is_holding};
 use crate::scan::exclusion::{is_busy, is_open, scalars_of};
 use crate::scan::grants::decide_call;
 use crate::scan::priorities::active_priority;
 use crate::scan::queues::count_waiting;
+use crate::scan::rules::Violations;
 use crate::scan::seen::Seen;
 use crate::scan::suspension::{has_waiter, state};
 use crate::scan::time::count_lists;
 use rv_event::entry::Answer;
-use rv_host::facts::{CallFacts, SuspensionFacts};
 use rv_shape::actor::Callee;
 use rv_shape::kind::Kind;
 use rv_shape::suspension::SuspensionOperation;
@@ -25,75 +24,89 @@ pub struct Asked {
     pub is_fired: bool,
 }
 
-// What the answer to a call of a protected operation of this kind, of an object of this ceiling, depends on.
-fn call_facts(
+// The rules that a call of a protected operation of this kind violates, of an object of this ceiling. An entry call that
+// its closed barrier keeps waiting finds its queue full where nobody has the object.
+fn violations(
     seen: &Seen,
     asked: Asked,
     kind: Kind,
     ceiling: usize,
-    decided: (bool, usize),
-    scalars: &Scalars,
-) -> CallFacts {
+    granted: bool,
+    open: bool,
+) -> Violations {
     let bodies = seen.bodies.as_slice();
-    let (granted, line) = decided;
     let inside = 0 < count_held(bodies, asked.actor);
-    let holding = is_holding(bodies, asked.actor, asked.object);
-    let open = is_open(seen.catalogue, asked.object, scalars);
-    CallFacts {
-        version: count_lists(seen.entries),
-        line,
-        denied: !granted,
+    let waits = kind.is_entry() && !open && !is_busy(seen, asked.object, kind);
+    let full = seen.limit <= count_waiting(seen.waiting.as_slice(), asked.object);
+    Violations {
+        grant: !granted,
         blocking: inside && kind.is_entry() && !asked.is_fired,
-        reentry: holding && !asked.is_fired,
-        above: ceiling < active_priority(seen, asked.actor),
-        busy: is_busy(seen, asked.object, kind),
-        barred: kind.is_entry() && !open,
-        full: seen.limit <= count_waiting(seen.waiting.as_slice(), asked.object),
+        reentry: is_holding(bodies, asked.actor, asked.object) && !asked.is_fired,
+        ceiling: ceiling < active_priority(seen, asked.actor),
+        queue: waits && full && !asked.is_fired,
+        waiter: false,
     }
 }
 
-// What the answer to a call of an operation of a suspension object depends on. Suspend_Until_True alone waits.
-fn suspension_facts(
+// The answer to a lawful call of an operation of this kind: it is kept out, queued or started.
+fn let_in(seen: &Seen, asked: Asked, kind: Kind, open: bool, scalars: &Scalars) -> Answer {
+    if is_busy(seen, asked.object, kind) {
+        return Answer::Busy;
+    }
+    if kind.is_entry() && !open {
+        return Answer::Queued;
+    }
+    Answer::Started(*scalars)
+}
+
+// The rules that a call of an operation of a suspension object violates. Suspend_Until_True alone waits.
+fn violations_of_suspension(
     seen: &Seen,
     asked: Asked,
     operation: SuspensionOperation,
-    decided: (bool, usize),
-) -> SuspensionFacts {
+    granted: bool,
+) -> Violations {
     let waits = operation == SuspensionOperation::SuspendUntilTrue;
     let inside = 0 < count_held(seen.bodies.as_slice(), asked.actor);
-    let waited = has_waiter(seen.entries, asked.object);
-    let (granted, line) = decided;
-    SuspensionFacts {
-        version: count_lists(seen.entries),
-        line,
-        denied: !granted,
+    Violations {
+        grant: !granted,
         blocking: inside && waits,
-        waited: waited && waits,
-        state: state(seen.entries, asked.object),
+        reentry: false,
+        ceiling: false,
+        queue: false,
+        waiter: waits && has_waiter(seen.entries, asked.object),
+    }
+}
+
+// The answer to a lawful one, by the object's state.
+fn perform(operation: SuspensionOperation, state: bool) -> Answer {
+    match operation {
+        SuspensionOperation::SetTrue | SuspensionOperation::SetFalse => Answer::Accepted(0),
+        SuspensionOperation::CurrentState => Answer::Accepted(if state { 1 } else { 0 }),
+        SuspensionOperation::SuspendUntilTrue if state => Answer::Accepted(0),
+        SuspensionOperation::SuspendUntilTrue => Answer::Suspended,
     }
 }
 
 /// The answer to a call, or to a line that has a handler.
 pub fn answer_call(seen: &Seen, asked: Asked) -> Answer {
     let callee = seen.catalogue.callee(asked.object, asked.operation);
-    let decided = decide_call(seen, asked.actor, &callee);
+    let (granted, line) = decide_call(seen, asked.actor, &callee);
+    let version = count_lists(seen.entries);
     match callee {
         Callee::Nowhere => Answer::Misuse,
         Callee::Protected(_, object, operation) => {
             let scalars = scalars_of(seen, asked.object);
-            let facts = call_facts(
-                seen,
-                asked,
-                operation.kind(),
-                object.ceiling(),
-                decided,
-                &scalars,
-            );
-            answer_by(&facts.decision(), &scalars)
+            let open = is_open(seen.catalogue, asked.object, &scalars);
+            let kind = operation.kind();
+            let lawful = let_in(seen, asked, kind, open, &scalars);
+            violations(seen, asked, kind, object.ceiling(), granted, open)
+                .refusal_or(line, version, lawful)
         }
         Callee::Suspension(_, _, operation) => {
-            let facts = suspension_facts(seen, asked, operation, decided);
-            answer_by(&facts.decision(operation), &Scalars::new())
+            let lawful = perform(operation, state(seen.entries, asked.object));
+            violations_of_suspension(seen, asked, operation, granted)
+                .refusal_or(line, version, lawful)
         }
     }
 }
