@@ -1,9 +1,9 @@
 -- The stances, and one write.
-use Rattle.std.proofs.Common.{◌≡◌, ◌≢◌, ℕ, ◌<◌, List, length, get_or, set, Bool, true, false, arith, subst, sym, refl}
+use Rattle.std.proofs.Common.{◌≡◌, ◌≢◌, ◌∙◌, ℕ, ◌<◌, List, length, get_or, set, Bool, true, false, ap, arith, subst, sym, refl}
 use Rattle.std.specs.Prelude.{◌==◌, if◌then◌else◌}
 use Rattle.std.proofs.lemmas.Bool.Decides.{nat_tests}
 use Rattle.std.proofs.lemmas.Grind.{get_or-set_at}
-use Rattle.std.proofs.lemmas.List.{get_or-set_other}
+use Rattle.std.proofs.lemmas.List.{get_or-set_other, set-get_or}
 use Rattle.rv_event.specs.declared.entry.Stance.{Stance}
 use Rattle.rv_event.specs.declared.entry.Stance.TheVariants.{Free}
 use Rattle.rv_history.proofs.Stances.{same_number}
@@ -20,3 +20,7 @@ set_at ss a j s some = by_test (a == j) refl
     by_test false is =
         let other : j ≢ a = grind (arith, nat_tests) in
         get_or-set_other ss a j s Free other
+
+-- one that is free is made free
+pub set_same : (ss : List Stance) (a : ℕ) → get_or ss a Free ≡ Free → set ss a Free ≡ ss
+set_same ss a is = ap (λ s. set ss a s) (sym is) ∙ set-get_or ss a Free

@@ -19,6 +19,7 @@ pub mod Empty
 -- The next entry of a legal history
 pub mod Ready
 pub mod Settling
+pub mod Plain
 -- Loads
 pub mod Growing
 pub mod Renewing

@@ -1,12 +1,17 @@
 -- The present, and the history that it stands for (own).
-use Rattle.std.specs.Prelude.{◌≡◌, ℕ, ◌<◌, ◌≤◌, ◌^◌, List, ◌∷◌, length, slice_index_or}
+use Rattle.std.specs.Prelude.{◌≡◌, ℕ, ℤ, ◌<◌, ◌≤◌, ◌^◌, List, ◌∷◌, length, slice_index_or}
 use Rattle.rv_access.specs.Words.{Words}
 use Rattle.rv_object.specs.Actions.{ObjectView}
 use Rattle.rv_shape.specs.Catalogue.{all_objects}
 use Rattle.rv_shape.specs.Shape.{Shape}
 use Rattle.rv_event.specs.Past.{started, under_way, unsettled, scalars}
+use Rattle.rv_event.specs.declared.entry.Body.{Body}
 use Rattle.rv_event.specs.declared.entry.Entry.{Entry}
-use Rattle.rv_event.specs.declared.entry.Entry.TheVariants.{Load}
+use Rattle.rv_event.specs.declared.entry.Entry.TheVariants.{Asked, Load}
+use Rattle.rv_event.specs.declared.entry.Exit.{Exit}
+use Rattle.rv_event.specs.declared.entry.Next.TheVariants.{Nothing}
+use Rattle.rv_event.specs.declared.entry.Recorded.TheVariants.{Done, Started}
+use Rattle.rv_event.specs.declared.entry.Request.TheVariants.{Call, Complete}
 use Rattle.rv_history.specs.declared.limits.Limits.{Limits}
 use Rattle.rv_history.specs.History.{History}
 use Rattle.rv_history.specs.Legal.{IsLegal}
@@ -66,6 +71,24 @@ pub record IsChange (shapes : List Shape) (past : List Entry) (entry : Entry) (c
   pub start_is : change.start ≡ started shapes past entry
   pub leaver_is : change.leaver ≡ leaver shapes past entry
   pub dues_are : change.dues ≡ each (actors shapes) (dues (entry ∷ past))
+
+-- the entry is the next of a legal history of a capacity that hosts have
+pub record ComesNext (shapes : List Shape) (entry : Entry) (present : Present) : Type 0 where
+  pub limits : Limits
+  pub past : List Entry
+  pub lists : List (List Words)
+  pub legal : IsLegal limits (entry ∷ past) shapes lists
+  pub least : 1 ≤ limits.capacity
+  pub most : limits.capacity ≤ 2 ^ 20
+  pub is_present : IsPresent shapes past present
+
+-- a call that is answered by the start of its body
+abbrev pub start_of : Body → List ℤ → Entry
+start_of body values = Asked body.actor (Call body.object body.operation values) Started
+
+-- an end that hands nothing over
+abbrev pub end_of : ℕ → List ℤ → Exit → Entry
+end_of actor given exit = Asked actor (Complete given exit) (Done Nothing)
 
 -- and the entry, which changes this, is the next of a legal history
 pub record IsNext (shapes : List Shape) (entry : Entry) (change : Change) (present : Present) : Type 0 where

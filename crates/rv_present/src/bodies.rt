@@ -168,8 +168,8 @@ impl Bodies {
         }
     }
 
-    // A body starts.
-    fn begin(&mut self, catalogue: &Catalogue, body: Body)
+    /// A body starts.
+    pub fn begin(&mut self, catalogue: &Catalogue, body: Body)
         requires actor { body.actor < length self.old.stacks }
         requires object { body.object < length self.old.objects }
         requires room { length (slice_index_or self.old.stacks body.actor []) < 16 }
@@ -201,8 +201,8 @@ impl Bodies {
         self.number += 1;
     }
 
-    // An actor ends its innermost body, if it is in one.
-    fn end(&mut self, catalogue: &Catalogue, actor: usize, given: &Scalars)
+    /// An actor ends its innermost body, if it is in one.
+    pub fn end(&mut self, catalogue: &Catalogue, actor: usize, given: &Scalars)
         requires { (bodies : List Body) × IsBodies catalogue.now bodies self.old }
         ensures same { (length self.new.stacks ≡ length self.old.stacks) ×
             (length self.new.objects ≡ length self.old.objects) }

@@ -231,6 +231,30 @@ impl Stances {
         }
     }
 
+    /// What all would owe if one waited for nothing.
+    #[tactic(auto, using(crate::proofs::Arrays::set_same))]
+    pub fn dues_freed(&self, actor: usize) -> usize
+        ensures { result ≡ dues_by (slice_set self.now.stances actor Stance.Free) self.now.actors }
+    {
+        if let Stance::Free = self.of(actor) {
+            return self.dues;
+        }
+        self.dues_with(actor, Stance::Free)
+    }
+
+    /// One waits for nothing.
+    #[tactic(auto, using(crate::proofs::Arrays::set_same))]
+    pub fn free(&mut self, actor: usize)
+        requires { actor < length self.old.stances }
+        ensures { self.new ≡ record self.old { stances = slice_set self.old.stances actor Stance.Free } }
+    {
+        if let Stance::Free = self.items[actor] {
+            return;
+        }
+        self.dues = self.dues_with(actor, Stance::Free);
+        self.items[actor] = Stance::Free;
+    }
+
     /// One more entry, and what all owe after it.
     pub fn note(&mut self, entry: &EntryRef, dues: usize)
         requires below { AreBelow most_actors (whole entry.now) }

@@ -4,5 +4,6 @@ pub mod Suspending
 pub mod Queueing
 pub mod Numbers
 pub mod Telling
+pub mod Plain
 pub mod Releasing
 pub mod Marks

@@ -5,6 +5,7 @@ ghost use Rattle.std.specs.Prelude.{◌≡◌, ◌<◌, [], ◌∷◌, ℕ, List
 ghost use Rattle.rv_event.specs.Lent.{whole};
 ghost use Rattle.rv_event.specs.Past as past;
 ghost use Rattle.rv_event.specs.declared.entry.Entry.{Entry};
+ghost use Rattle.rv_event.specs.declared.entry.Next.TheVariants.{Nothing};
 ghost use Rattle.rv_history.specs.History.{changes};
 ghost use Rattle.rv_waiting.specs.Limits.{most_actors};
 ghost use Rattle.rv_waiting.specs.Versions as versions;
@@ -75,6 +76,17 @@ impl Versions {
         if let Some(actor) = actor {
             self.items[actor] = version;
         }
+    }
+
+    /// One entry more of an actor, which names nobody, at this version.
+    pub fn note_own(&mut self, actor: usize, version: usize)
+        requires { actor < most_actors }
+        ensures { (history : List Entry) (entry : Entry) → versions.asker entry ≡ Some actor →
+            past.next_of entry ≡ Nothing → version ≡ changes history →
+            AreVersions history self.old → AreVersions (entry ∷ history) self.new }
+    {
+        let _ = &self.items;
+        self.tell(Some(actor), version);
     }
 
     /// One entry more, at this version.

@@ -1,17 +1,18 @@
 //! All that is kept of those that wait.
 
-ghost use Rattle.std.specs.Prelude.{◌≡◌, ◌&&◌, [], ◌∷◌, ℕ, List, length, nat_lt, slice_get, IfOk};
+ghost use Rattle.std.specs.Prelude.{◌≡◌, ◌<◌, ◌&&◌, [], ◌∷◌, ℕ, List, length, nat_lt, slice_get, IfOk};
 ghost use Rattle.rv_event.specs.Lent.{whole};
 ghost use Rattle.rv_event.specs.Past as past;
 ghost use Rattle.rv_event.specs.declared.entry.Entry.{Entry};
 ghost use Rattle.rv_event.specs.declared.entry.Next.{Next};
 ghost use Rattle.rv_event.specs.declared.entry.Stance.{Stance};
 ghost use Rattle.rv_history.specs.Exclusion.{full_queue};
-ghost use Rattle.rv_history.specs.History.{History};
+ghost use Rattle.rv_history.specs.History.{History, changes};
 ghost use Rattle.rv_history.specs.Legal.{Legal};
+ghost use Rattle.rv_waiting.specs.Limits.{most_actors};
 ghost use Rattle.rv_waiting.specs.Queues.{call_of, callers};
 ghost use Rattle.rv_waiting.specs.Versions.{version_then};
-ghost use Rattle.rv_waiting.specs.Waiting.{IsNext, IsWaiting};
+ghost use Rattle.rv_waiting.specs.Waiting.{IsNext, IsPlain, IsWaiting};
 
 use crate::queues::Queues;
 use crate::suspensions::Suspensions;
@@ -146,6 +147,16 @@ impl Waiting {
             result ≡ version_then actor history }
     {
         self.versions.version_then(actor)
+    }
+
+    /// One entry more of an actor, at this version of the list: one that queues no call, names nobody, and does nothing
+    /// to a suspension object.
+    pub fn note_plain(&mut self, actor: usize, version: usize)
+        requires { actor < most_actors }
+        ensures { (history : List Entry) (entry : Entry) → IsPlain actor entry → version ≡ changes history →
+            IsWaiting history self.old → IsWaiting (entry ∷ history) self.new }
+    {
+        self.versions.note_own(actor, version);
     }
 
     /// One entry more, with the last queued call of the actor that it names as handed the object or
