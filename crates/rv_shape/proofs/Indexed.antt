@@ -10,7 +10,7 @@ use Rattle.std.proofs.lemmas.Bool.Decides.{nat_tests}
 use Rattle.rv_shape.specs.Objects.{TaskShape}
 use Rattle.rv_shape.specs.declared.object.Object.{Object}
 use Rattle.rv_shape.specs.Shape.{Shape}
-use Rattle.rv_shape.specs.Catalogue.{UnitTask, UnitObject, handler, numbered, place, tasks_of, objects_of, all_tasks}
+use Rattle.rv_shape.specs.Catalogue.{UnitTask, UnitObject, OperationNumber, numbered, place, tasks_of, objects_of, all_tasks}
 use Rattle.rv_shape.specs.Readers.{actor_task, unit_named}
 use Rattle.rv_shape.specs.Places.{operation_of, part_at, part_in, places, places_from}
 use Rattle.rv_shape.specs.declared.catalogue.places.Place.{Place}
@@ -176,16 +176,16 @@ pub task_of_unit : (s : Shape) (k : ℕ) → slice_get (tasks_of s) k ≡ option
 task_of_unit s k = slice_get-map (λ t. record { unit = s.name; task = t }) s.tasks k
 
 -- the handlers, one line more
-pub handlers_set : (shapes : List Shape) (handlers : List (Option (ℕ × ℕ))) (line k : ℕ) (found : Option (ℕ × ℕ)) → line < length handlers →
-    option_map operation_of found ≡ handler shapes line →
-    ((j : ℕ) → j < line → option_map operation_of (get_or handlers j None) ≡ handler shapes j) →
-    k < line + 1 → option_map operation_of (get_or (set handlers line found) k None) ≡ handler shapes k
-handlers_set shapes handlers line k found within here before less = by_test (k == line) refl
+pub handlers_set : (due : ℕ → Option OperationNumber) (handlers : List (Option (ℕ × ℕ))) (line k : ℕ) (found : Option (ℕ × ℕ)) → line < length handlers →
+    option_map operation_of found ≡ due line →
+    ((j : ℕ) → j < line → option_map operation_of (get_or handlers j None) ≡ due j) →
+    k < line + 1 → option_map operation_of (get_or (set handlers line found) k None) ≡ due k
+handlers_set due handlers line k found within here before less = by_test (k == line) refl
   where
-    by_test : (b : Bool) → (k == line) ≡ b → option_map operation_of (get_or (set handlers line found) k None) ≡ handler shapes k
+    by_test : (b : Bool) → (k == line) ≡ b → option_map operation_of (get_or (set handlers line found) k None) ≡ due k
     by_test true is =
         let same : k ≡ line = grind (arith, nat_tests) in
-        ap (option_map operation_of) (get_or-set_at handlers line k found None same within) ∙ here ∙ ap (handler shapes) (sym same)
+        ap (option_map operation_of) (get_or-set_at handlers line k found None same within) ∙ here ∙ ap due (sym same)
     by_test false is =
         let other : k ≢ line = grind (arith, nat_tests) in
         ap (option_map operation_of) (get_or-set_other handlers line k found None other) ∙ before k (omega (arith, less, other))
