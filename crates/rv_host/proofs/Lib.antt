@@ -4,6 +4,7 @@ pub mod Opening
 pub mod Decided
 pub mod Times
 pub mod RoomLeft
+pub mod Plain
 pub mod Solvent
 pub mod Loading
 pub mod Changing
