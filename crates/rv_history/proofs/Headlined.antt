@@ -5,9 +5,9 @@ use Rattle.std.specs.List.{filter, list_any}
 use Rattle.rv_access.specs.Words.{Words}
 use Rattle.rv_prio.specs.Priority.{greatest}
 use Rattle.rv_shape.specs.Shape.{Shape}
-use Rattle.rv_shape.specs.Catalogue.{Target, OnProtected, ceiling, handler, target, who}
+use Rattle.rv_shape.specs.Catalogue.{Target, ceiling, target, who}
 use Rattle.rv_event.specs.Recorded.{recorded}
-use Rattle.rv_event.specs.Past.{handed, innermost, is_unsettled, scalars, started, to_settle, under_way, unsettled, waiting}
+use Rattle.rv_event.specs.Past.{is_unsettled, last_queued, started, under_way, unsettled}
 use Rattle.rv_event.specs.declared.entry.Answer.{Answer}
 use Rattle.rv_event.specs.declared.entry.Answer.TheVariants as Answers
 use Rattle.rv_event.specs.declared.entry.Body.{Body}
@@ -31,14 +31,14 @@ use Rattle.rv_history.specs.Legal.{IsLegal, Legal}
 use Rattle.rv_history.specs.Owed.{IsSolvent}
 use Rattle.rv_history.specs.Rewound.{one_back, rewound, without_newest}
 use Rattle.rv_history.specs.Exclusion.{full_queue}
-use Rattle.rv_history.specs.Rules.{breaks, holds, is_barred_at, is_protected, is_taken, may_block, violates}
+use Rattle.rv_history.specs.Rules.{breaks, is_barred_at, is_protected, is_taken, may_block, violates}
 use Rattle.rv_history.specs.Subject.{base_of}
 use Rattle.rv_history.proofs.Answered.{and_false, and_none, answered, word_is}
 use Rattle.rv_history.proofs.Ending.{head_on, head_waits}
 use Rattle.rv_history.proofs.Exactly.{allowed_due, started_allowed}
 use Rattle.rv_history.proofs.First.{names_first}
 use Rattle.rv_history.proofs.Growing.{front_is}
-use Rattle.rv_history.proofs.HandOver.{handed_exactly}
+use Rattle.rv_history.proofs.HandOver.{dropped_exactly, handed_exactly, only_dropped}
 use Rattle.rv_history.proofs.Refused.{refused_leaves}
 use Rattle.rv_history.proofs.Room.{legal_solvent}
 use Rattle.rv_history.proofs.Stances.{itself, same_number, some_is}
@@ -99,6 +99,20 @@ handed_lawful h a r n l w =
     lawful_waiter h w.call (head_waits h.shapes h.past m.body.object w.call m.behind (legal_waits h.limits h.past h.shapes h.lists l) m.first)
     (ap (is_taken h) there ∙ served_taken h a r m.body m.serving) (ap not w.grant)
 
+-- The queued call is the one whose body starts.
+handed_body : (h : History) (a : ℕ) (r : Request) (w : Recorded) (n : ℕ) → Legal h → (over : IsHandedOver h a r n) → w ≡ Words.Done (HandedTo n) → started h.shapes h.past (Asked a r w) ≡ Some over.call
+handed_body h a r w n l over e = ap (λ v. started h.shapes h.past (Asked a r v)) e ∙ by_request r over.reached.serving
+  where
+    last : last_queued n h.past ≡ Some over.call
+    last =
+        ap (λ m. last_queued m h.past) (sym over.its)
+        ∙ (head_waits h.shapes h.past over.reached.body.object over.call over.reached.behind (legal_waits h.limits h.past h.shapes h.lists l) over.reached.first).last
+
+    by_request : (r : Request) → served h.shapes a h.past r ≡ Some over.reached.body → started h.shapes h.past (Asked a r (Words.Done (HandedTo n))) ≡ Some over.call
+    by_request (Complete vs x) f = last
+    by_request Settle f = last
+    by_request r f = absurd (cc)
+
 -- No other entry starts a body.
 
 started_by : (h : History) (a : ℕ) (r : Request) (w : Recorded) (b : Body) → started h.shapes h.past (Asked a r w) ≡ Some b → (w ≡ Words.Started) ⊎ ((n : ℕ) × (w ≡ Words.Done (HandedTo n)))
@@ -128,7 +142,13 @@ headline_at c past shapes lists a r w some l = record {
     λ e. (handed_exactly h a r n l.0 solvent).0 (done_is (out h a r) (HandedTo n) (l.1 ∙ ap (λ v. Some v) e)),
     λ over. sym (word_is (Words.Done (HandedTo n)) w (sym (ap recorded ((handed_exactly h a r n l.0 solvent).1 over)) ∙ l.1)),
   );
+  takes_over = λ n over e. handed_body h a r w n l.0 over e;
   lawfully = λ n over. handed_lawful h a r n l.0 over;
+  drops = λ n line. (
+    λ e. (dropped_exactly h a r n line l.0 solvent).0 (done_is (out h a r) (Dropped n line) (l.1 ∙ ap (λ v. Some v) e)),
+    λ drop. sym (word_is (Words.Done (Dropped n line)) w (sym (ap recorded ((dropped_exactly h a r n line l.0 solvent).1 drop)) ∙ l.1)),
+  );
+  only_drops = λ n line e. only_dropped h a r n line l.0 (done_is (out h a r) (Dropped n line) (l.1 ∙ ap (λ v. Some v) e));
   nowhere_else = λ b e. started_by h a r w b e;
   names_first = λ rule line version calls e. names_first h a r rule line version calls (refused_is (out h a r) rule line version (l.1 ∙ ap (λ v. Some v) e));
   changes_nothing = λ rule line version calls e. refused_leaves h a r rule line version calls;

@@ -6,7 +6,7 @@ use Rattle.rv_event.specs.declared.entry.Answer.TheVariants as Answers
 use Rattle.rv_event.specs.declared.entry.Body.{Body}
 use Rattle.rv_event.specs.declared.entry.Entry.TheVariants.{Asked}
 use Rattle.rv_event.specs.declared.entry.Mode.TheVariants.{Idle}
-use Rattle.rv_event.specs.declared.entry.Next.TheVariants.{HandedTo}
+use Rattle.rv_event.specs.declared.entry.Next.TheVariants.{Nothing, HandedTo, Dropped}
 use Rattle.rv_event.specs.declared.entry.Recorded.{Recorded}
 use Rattle.rv_event.specs.declared.entry.Recorded.TheVariants.{Started, Done, Refused}
 use Rattle.rv_event.specs.declared.entry.Request.{Request}
@@ -17,7 +17,7 @@ use Rattle.rv_history.specs.Exclusion.{excluded, is_open}
 use Rattle.rv_history.specs.Rules.{aim, granted, violates}
 use Rattle.rv_history.specs.Fitting.{fits}
 use Rattle.rv_history.specs.Due.{goes_on}
-use Rattle.rv_history.specs.HandOver.{IsHandedOver}
+use Rattle.rv_history.specs.HandOver.{IsDropped, IsHandedOver, IsOnlyDropped}
 use Rattle.rv_history.specs.Legal.{after}
 use Rattle.rv_history.specs.Refusal.{IsRefusal}
 use Rattle.rv_history.specs.Untouched.{Untouched}
@@ -54,13 +54,19 @@ IsLawful h call =
     (values : List ℤ) (rule : Rule) → violates h rule call.actor (Call call.object call.operation values) ≡ false
 
 -- The headline, of a request that got this recorded answer after these entries. It started a body exactly where it was
--- allowed. It handed the object over to a queued caller exactly where it reached its call and the list in force grants it,
--- and then that call violates no rule. No body starts otherwise. A refusal names the first rule violated, and changes
--- nothing.
+-- allowed: the one that it calls. It handed the object over to a queued caller exactly where it reached its call and the
+-- list in force grants it; then that call's body starts, and violates no rule. It dropped a queued caller exactly where it
+-- reached its call and the list denies it, and that is all that the denial changed. No body starts otherwise. A refused
+-- call, delay or fired line names the first rule that it violates, and changes nothing that the rules ask.
 pub record Headline (h : History) (actor : ℕ) (request : Request) (answer : Recorded) : Type 0 where
   pub starts : (answer ≡ Started) ↔ IsAllowed h actor request
   pub hands_over : (caller : ℕ) → (answer ≡ Done (HandedTo caller)) ↔ IsHandedOver h actor request caller
+  pub takes_over : (caller : ℕ) → (over : IsHandedOver h actor request caller) → answer ≡ Done (HandedTo caller) →
+      started h.shapes h.past (Asked actor request answer) ≡ Some over.call
   pub lawfully : (caller : ℕ) → (over : IsHandedOver h actor request caller) → IsLawful h over.call
+  pub drops : (caller line : ℕ) → (answer ≡ Done (Dropped caller line)) ↔ IsDropped h actor request caller line
+  pub only_drops : (caller line : ℕ) → answer ≡ Done (Dropped caller line) →
+      IsOnlyDropped h (after h actor request (Answers.Done (Dropped caller line))) (after h actor request (Answers.Done Nothing)) actor caller
   pub nowhere_else : (body : Body) → started h.shapes h.past (Asked actor request answer) ≡ Some body →
       (answer ≡ Started) ⊎ ((caller : ℕ) × (answer ≡ Done (HandedTo caller)))
   pub names_first : (rule : Rule) (line list_version : ℕ) → goes_on request ≡ false →

@@ -7,7 +7,7 @@ use Rattle.rv_history.specs.declared.limits.Limits.{Limits}
 use Rattle.rv_history.specs.History.{History}
 use Rattle.rv_history.specs.Journal.{shapes_before, lists_before}
 
--- the same by its parts: a load takes its shape with it, and a list change its list
+-- the history of these parts without its newest entry: a load takes its shape with it, and a list change its list
 abbrev pub one_back : Limits → List Entry → List Shape → List (List Words) → History
 one_back limits [] shapes lists = record { limits = limits; past = []; shapes = shapes; lists = lists }
 one_back limits (entry ∷ past) shapes lists =

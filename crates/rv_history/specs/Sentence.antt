@@ -1,5 +1,6 @@
 -- Whether an object is unsettled, in one sentence (9.5.3, own): the last entry that served its queue, an end or a settle,
--- dropped a caller, and others wait there behind it. `is_unsettled` is equal to it in each legal history.
+-- dropped a caller, and others wait there behind it. `is_unsettled` is equal to it in each legal history. A function's end
+-- serves nobody; it is counted here, since none comes while the object is unsettled.
 use Rattle.std.specs.Prelude.{ℕ, Bool, false, ◌==◌, if◌then◌else◌, List, [], ◌∷◌, Some, None, Option}
 use Rattle.rv_shape.specs.Shape.{Shape}
 use Rattle.rv_event.specs.Past.{ended, innermost, is_named, leaves_some, next_of, queue}

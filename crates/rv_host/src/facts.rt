@@ -57,8 +57,8 @@ impl CallFacts {
     }
 }
 
-/// Of a call of an operation of a suspension object (D.10): all but Suspend_Until_True block nobody
-/// and find nobody waiting.
+/// Of a call of an operation of a suspension object (D.10): only Suspend_Until_True might block, and
+/// minds who waits.
 #[derive(Clone, Copy, Drop)]
 pub struct SuspensionFacts {
     pub version: usize,

@@ -7,7 +7,7 @@ use std::marker::Model;
 
 /// A suspension object: True or False, with at most one actor that waits until it is True.
 ///
-/// Contracts see its state, who waits, and whom the last `set_true` released, until that one is collected.
+/// Contracts see its state, who waits, and the first that was released and not collected since.
 #[derive(Drop, Debug)]
 pub struct SuspensionObject {
     // Whether it is True.
@@ -57,8 +57,8 @@ impl SuspensionObject {
         self.waiter
     }
 
-    /// Set_True: releases the actor that waits, and the object stays False; where nobody waits, it is True. Whom an
-    /// earlier call released, and nobody collected, stays the one to collect.
+    /// Set_True: releases the actor that waits, and the object stays False; where nobody waits, it is True. Where one
+    /// that was released before wasn't collected yet, that one stays to be collected, and the other is not kept.
     pub fn set_true(&mut self)
         ensures state { self.new.state ≡ not (is_some self.old.waiter) }
         ensures waiter { self.new.waiter ≡ None }

@@ -92,8 +92,7 @@ pub fn paid_requests_are_never_full()
         is_paid request ≡ true → out h actor request ≢ Full }
 {}
 
-/// No request is answered for want of memory: what it adds was reserved before. Loads and list changes
-/// alone take memory.
+/// No request is answered for want of memory.
 #[tactic(auto, using(crate::proofs::Entering::never_lacks))]
 pub fn requests_never_lack_memory()
     ensures { (h : History) (actor : ℕ) (request : Request) → out h actor request ≢ OutOfMemory }

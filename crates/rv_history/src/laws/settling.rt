@@ -73,7 +73,8 @@ pub fn queues_of_one_leave_nothing_unsettled()
     ensures { (h : History) → Legal h → h.limits.queue ≡ 1 → unsettled h.shapes h.past ≡ [] }
 {}
 
-/// Nor does a load or a change of the list let anybody in.
+/// What the operator loads, and each change of the list, leaves an unsettled object so, with those who
+/// wait there; and nobody is let into it.
 pub fn the_operator_lets_nobody_in()
     ensures loads { (h : History) (shape : Shape) (object : ℕ) → Legal h →
         is_unsettled h.shapes object h.past ≡ true →

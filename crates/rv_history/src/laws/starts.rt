@@ -58,7 +58,8 @@ pub fn handed_calls_violate_no_rule()
 {}
 
 /// The headline holds at each entry of a legal history that answers a request, of the entries before
-/// it: however many entries are newer.
+/// it, however many entries are newer; the history has a capacity for one entry at least, as each
+/// host has. Loads and list changes start no body, by what a start is.
 pub fn headline_at_each_entry()
     ensures { (h : History) (newer actor : ℕ) (request : Request) (answer : Recorded)
         (past : List Entry) → 1 ≤ h.limits.capacity → Legal h →
