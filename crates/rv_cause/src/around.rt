@@ -91,11 +91,6 @@ impl<'a> Around<'a> {
         self.unit
     }
 
-    /// Whether a part is open that ends with `end`.
-    pub fn is_open(&self) -> bool {
-        self.depth > 0
-    }
-
     // A package begins.
     fn begin_package(&mut self, word: &Words<'_, 'a>) {
         let is_body = word.is(1, "body");

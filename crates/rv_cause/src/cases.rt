@@ -14,8 +14,6 @@ pub enum Within {
     Package,
     /// Behind the first word of a package.
     Text,
-    /// Behind the end of a package's body.
-    End,
     /// In the head of a protected unit, a task or an operation.
     Head,
     /// In the declaration of a protected unit, and in no operation's body.
@@ -23,6 +21,10 @@ pub enum Within {
     /// In the body of a protected unit or a task.
     Body,
     Function,
+    /// Behind a parenthesis that is open.
+    Parentheses,
+    /// In an operation or a task, behind its head.
+    Statement,
     /// In a procedure, an entry or a task.
     NoFunction,
     /// A name that a predefined library package declares.
@@ -50,11 +52,12 @@ fn is_within(within: Within, words: &Words<'_, '_>, around: &Around<'_>) -> bool
         Within::Anywhere => true,
         Within::Package => around.home.is_empty(),
         Within::Text => !around.unit.is_empty(),
-        Within::End => around.is_package_body && !around.is_open(),
         Within::Head => around.is_in_head,
         Within::Specification => around.is_specification(),
         Within::Body => around.is_body,
         Within::Function => around.is_function,
+        Within::Parentheses => around.parentheses > 0,
+        Within::Statement => !around.is_in_head && !around.unit.is_empty(),
         Within::NoFunction => !around.is_function,
         Within::Library => library::home_of(words.word(0)).is_some(),
         Within::Reserved => words.is_reserved(),

@@ -8,6 +8,8 @@ use std::alloc::{AllocError, Global};
 pub struct Cause<'a> {
     /// The byte of the text, from 0, that the caret stands under.
     pub at: usize,
+    /// The byte of another place that the sentence speaks of, whose line is `{line}` in it.
+    pub other: Option<usize>,
     // The sentence; `{0}` to `{5}` in it stand for the words.
     said: &'static str,
     words: [&'a str; 6],
@@ -61,12 +63,28 @@ fn put_word(text: &mut String, word: &str) -> Result<(), AllocError> {
     Ok(())
 }
 
+// Adds the number of a line to a sentence.
+fn put_line(alloc: Global, text: &mut String, line: usize) -> Result<(), AllocError> {
+    let number = format!(in alloc; "{line}")?;
+    text.push_str(number.as_str())
+}
+
 // Adds a part of a sentence: the first, or one that begins with a hole.
-fn put_part(text: &mut String, words: &[&str; 6], part: &str) -> Result<(), AllocError> {
+fn put_part(
+    alloc: Global,
+    text: &mut String,
+    words: &[&str; 6],
+    line: usize,
+    part: &str,
+) -> Result<(), AllocError> {
     let Some((hole, behind)) = part.split_once('}') else {
         return text.push_str(part);
     };
-    put_word(text, filling(words, hole))?;
+    if hole == "line" {
+        put_line(alloc, text, line)?;
+    } else {
+        put_word(text, filling(words, hole))?;
+    }
     text.push_str(behind)
 }
 
@@ -75,6 +93,7 @@ impl<'a> Cause<'a> {
     pub fn full(at: usize, said: &'static str, words: [&'a str; 6]) -> Cause<'a> {
         Cause {
             at,
+            other: None,
             said,
             words,
             ending: None,
@@ -97,6 +116,17 @@ impl<'a> Cause<'a> {
         Cause::full(at, said, [first, second, "", "", "", ""])
     }
 
+    /// A sentence with three words.
+    pub fn triple(
+        at: usize,
+        said: &'static str,
+        first: &'a str,
+        second: &'a str,
+        third: &'a str,
+    ) -> Cause<'a> {
+        Cause::full(at, said, [first, second, third, "", "", ""])
+    }
+
     /// A sentence without words.
     pub fn plain(at: usize, said: &'static str) -> Cause<'a> {
         Cause::of(at, said, "")
@@ -106,6 +136,7 @@ impl<'a> Cause<'a> {
     pub fn with_names(self, before: &'static str, near: &'a str, group: Group<'a>) -> Cause<'a> {
         Cause {
             at: self.at,
+            other: self.other,
             said: self.said,
             words: self.words,
             ending: Some(Ending {
@@ -116,11 +147,27 @@ impl<'a> Cause<'a> {
         }
     }
 
-    /// The sentence, where this is known. Err where memory was refused.
-    pub fn sentence(&self, alloc: Global, known: &Known<'_>) -> Result<String, AllocError> {
+    /// The same, which speaks of another place too.
+    pub fn with_other(self, other: usize) -> Cause<'a> {
+        Cause {
+            at: self.at,
+            other: Some(other),
+            said: self.said,
+            words: self.words,
+            ending: self.ending,
+        }
+    }
+
+    /// The sentence, where this is known, and the other place stands in the line of a number. Err where memory was refused.
+    pub fn sentence(
+        &self,
+        alloc: Global,
+        known: &Known<'_>,
+        line: usize,
+    ) -> Result<String, AllocError> {
         let mut text = String::new(alloc);
         for part in self.said.split('{') {
-            put_part(&mut text, &self.words, part)?;
+            put_part(alloc, &mut text, &self.words, line, part)?;
         }
         if let Some(ending) = self.ending {
             ending.put(&mut text, known)?;

@@ -1,15 +1,14 @@
-//! Words behind which no text of the grammar goes on.
+//! Words of other Ada, behind which no text of the grammar goes on.
 
 use crate::around::Around;
-use crate::cases::{Case, Within, first_of, told};
+use crate::cases::{Case, Within, first_of};
 use crate::cause::Cause;
 use crate::line::is_listed;
-use crate::words::{Words, is_literal};
+use crate::words::Words;
 use rv_lex::token::Token;
-use rv_text::is_identifier;
 
 // Reserved words of Ada that no production has.
-const OTHER_WORDS: [&str; 24] = [
+const OTHER_WORDS: [&str; 23] = [
     "abstract",
     "access",
     "aliased",
@@ -32,47 +31,11 @@ const OTHER_WORDS: [&str; 24] = [
     "synchronized",
     "tagged",
     "declare",
-    "exception",
     "type",
 ];
 
-// Others that can't end a statement or a declaration.
-const GOING_ON: [&str; 22] = [
-    "and", "or", "xor", "is", "then", "else", "do", "not", "abs", "mod", "rem", "in", "out",
-    "when", "until", "constant", "range", "reverse", "if", "with", "use", "begin",
-];
-
-// What begins a statement or a declaration.
-const BEGINNINGS: [&str; 20] = [
-    "null",
-    "if",
-    "case",
-    "while",
-    "for",
-    "loop",
-    "exit",
-    "return",
-    "raise",
-    "delay",
-    "begin",
-    "end",
-    "protected",
-    "task",
-    "function",
-    "procedure",
-    "entry",
-    "private",
-    "subtype",
-    "package",
-];
-
 // What can't be declared here, and names that are none.
-const DECLARATIONS: [Case; 11] = [
-    Case {
-        within: Within::End,
-        words: "; ^_",
-        said: "{0} stands behind the end of the package's body",
-    },
+const DECLARATIONS: [Case; 9] = [
     Case {
         within: Within::Package,
         words: "^procedure|function",
@@ -114,11 +77,6 @@ const DECLARATIONS: [Case; 11] = [
         said: RESERVED,
     },
     Case {
-        within: Within::Anywhere,
-        words: "package ^NAME",
-        said: "body is missing before {0}: behind the package stands its body only",
-    },
-    Case {
         within: Within::OtherAda,
         words: "^_",
         said: "{0} isn't in the part of Ada that is taken here",
@@ -127,23 +85,19 @@ const DECLARATIONS: [Case; 11] = [
 
 const RESERVED: &str = "{0} is a reserved word, and no name (2.9)";
 
-const FIRST: &str = "{0} begins no unit text: with, use, pragma or package does";
-
-const BEHIND: &str = "{0} can't stand behind {3} here (docs/GRAMMAR.md)";
-
 const DEFAULT: &str = "no initial value stands here: parameters and objects of packages have none";
 
-// What is wrong with an assignment sign, a comparison or another word.
-const OPERATORS: [Case; 9] = [
+// What is said of operators and signs.
+const OPERATORS: [Case; 6] = [
+    Case {
+        within: Within::Statement,
+        words: "NAME|NUMBER|) ^in",
+        said: "there are no membership tests here; compare with both bounds (4.5.2)",
+    },
     Case {
         within: Within::Anywhere,
         words: "= ^=",
         said: "write one = to compare (4.5.2)",
-    },
-    Case {
-        within: Within::Anywhere,
-        words: "^=",
-        said: "= compares; write := to assign (5.2)",
     },
     Case {
         within: Within::Anywhere,
@@ -156,29 +110,14 @@ const OPERATORS: [Case; 9] = [
         said: DEFAULT,
     },
     Case {
-        within: Within::Anywhere,
-        words: "^:=",
-        said: ":= assigns, in a statement of its own; write = to compare (4.5.2)",
-    },
-    Case {
-        within: Within::Anywhere,
+        within: Within::Parentheses,
         words: "NAME ^=>",
         said: "arguments have no names here; give them in order (6.4)",
     },
     Case {
         within: Within::Anywhere,
-        words: "and|or|xor ^and|or|xor",
-        said: BEHIND,
-    },
-    Case {
-        within: Within::Anywhere,
-        words: "^and|or|xor",
+        words: "NAME|NUMBER|) ^and|or|xor",
         said: "{0} can't follow another logical operator without parentheses (4.4)",
-    },
-    Case {
-        within: Within::Anywhere,
-        words: "^_",
-        said: BEHIND,
     },
 ];
 
@@ -187,84 +126,12 @@ pub(crate) fn is_other_ada(word: &str) -> bool {
     is_listed(&OTHER_WORDS, word)
 }
 
-// What the text lacks where it ends too early, behind its last word.
-fn at_end<'a>(end: usize, last: &'a str, around: &Around<'a>) -> Cause<'a> {
-    if around.unit.is_empty() {
-        return Cause::plain(end, "a unit text is a package and its body; there is none");
+/// Why a word that other Ada has can't stand here, and what to write instead; `None` where it has no such word.
+pub fn other_ada<'a>(words: &Words<'_, 'a>, around: &Around<'a>) -> Option<Cause<'a>> {
+    match first_of(&DECLARATIONS, words, around) {
+        Some(cause) => Some(cause),
+        None => first_of(&OPERATORS, words, around),
     }
-    if around.is_open() {
-        let said = "the text ends here, within {0}: write end {0};";
-        return Cause::of(end, said, around.innermost());
-    }
-    if around.is_package_body {
-        return Cause::of(end, "a ; is missing behind {0}", last);
-    }
-    let said = "the text ends here, without the body of package {0}";
-    Cause::of(end, said, around.unit)
-}
-
-// What is missing before a word that begins something new: `;`, or what opens a part.
-fn missing_before(words: &Words<'_, '_>) -> &'static str {
-    for count in 1..64usize {
-        let word = words.back(count);
-        if is_listed(&["if", "elsif"], word) {
-            return "then";
-        }
-        if is_listed(&["while", "for"], word) {
-            return "loop";
-        }
-        if is_listed(&["case"], word) {
-            return "is";
-        }
-        if is_listed(
-            &[";", "then", "loop", "is", "=>", "begin", "else", "when"],
-            word,
-        ) {
-            return "a ;";
-        }
-    }
-    "a ;"
-}
-
-// Whether something new begins at a word, behind one that ends something.
-fn is_behind_end(words: &Words<'_, '_>, around: &Around<'_>) -> bool {
-    let before = words.back(1);
-    let is_new = !around.is_in_head && words.fit("^NAME :=|.|;|:|(");
-    if !is_new && !is_listed(&BEGINNINGS, words.word(0)) {
-        return false;
-    }
-    if is_other_ada(before) || is_listed(&GOING_ON, before) {
-        return false;
-    }
-    before == ")" || is_identifier(before) || is_literal(before)
-}
-
-// What stands against a word, from what it is and what stands before it.
-fn unexpected_word<'a>(words: &Words<'_, 'a>, around: &Around<'a>) -> Cause<'a> {
-    if let Some(cause) = first_of(&DECLARATIONS, words, around) {
-        return cause;
-    }
-    if is_behind_end(words, around) {
-        let said = "{0} is missing behind {1}";
-        return Cause::pair(words.place(0), said, missing_before(words), words.back(1));
-    }
-    if words.back(1).is_empty() {
-        return words.cause(0, FIRST);
-    }
-    match first_of(&OPERATORS, words, around) {
-        Some(cause) => cause,
-        None => told(words, around, BEHIND),
-    }
-}
-
-/// Why no text goes on with the word at a place, or ends there.
-pub fn unexpected<'a>(text: &str, tokens: &[Token<'a>], place: usize) -> Cause<'a> {
-    let around = Around::of(tokens, place);
-    let words = Words::at(tokens, place);
-    if place >= text.len() {
-        return at_end(place, words.back(1), &around);
-    }
-    unexpected_word(&words, &around)
 }
 
 /// Why a word nests too deep.

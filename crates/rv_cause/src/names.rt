@@ -201,17 +201,47 @@ fn is_body_of(words: &Words<'_, '_>, sort: Sort) -> bool {
     }
 }
 
+// How many words behind a word the next of a profile stands: `in` may be left out where no `out` follows.
+fn behind_in(words: &Words<'_, '_>, count: usize) -> usize {
+    let next = count.saturating_add(1);
+    if words.is(count, "in") && !words.is(next, "out") {
+        return next;
+    }
+    count
+}
+
+// The first words in which the profiles behind two names differ; empty where none do.
+fn differing<'a>(declared: &Words<'_, 'a>, body: &Words<'_, 'a>) -> (&'a str, &'a str) {
+    let mut first = 1usize;
+    let mut second = 1usize;
+    for _turn in 0..256usize {
+        first = behind_in(declared, first);
+        second = behind_in(body, second);
+        let one = declared.word(first);
+        let other = body.word(second);
+        if !is_same_name(one, other) {
+            return (one, other);
+        }
+        first = first.saturating_add(1);
+        second = second.saturating_add(1);
+    }
+    ("", "")
+}
+
+// What is wrong with the parameters or the result of a body.
+fn bad_profile<'a>(words: &Words<'_, 'a>, declared: &Declared<'a>) -> Cause<'a> {
+    let said =
+        "the parameters or the result of {0} aren't as in line {line}, which has `{1}` where `{2}` stands here (6.3.1)";
+    let (one, other) = differing(&words.seen_from(declared.at), words);
+    Cause::new(words.place(0), said, [words.word(0), one, other]).with_other(declared.at)
+}
+
 // What is wrong with a body whose declaration is there.
 fn bad_body<'a>(words: &Words<'_, 'a>, around: &Around<'a>, known: &Known<'a>) -> Cause<'a> {
     let word = words.word(0);
     let members = Group::Members(around.unit, around.home);
     let found = match known.find(members, word) {
-        Some(item) if is_body_of(words, item.sort) => {
-            return words.cause(
-                0,
-                "the parameters or the result of {0} aren't as in its declaration (6.3.1)",
-            );
-        }
+        Some(item) if is_body_of(words, item.sort) => return bad_profile(words, item),
         Some(item) => Some(item),
         None => known.find(Group::Package(around.unit), word),
     };

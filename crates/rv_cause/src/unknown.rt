@@ -129,6 +129,23 @@ fn near_name<'a>(
     }
 }
 
+// Reserved words that are statements, or begin one that may look like a call.
+const STATEMENTS: [&str; 5] = ["null", "return", "exit", "raise", "others"];
+
+// That nothing of a simple name is declared, and nothing of a name near to it; it may be a reserved word.
+fn nameless<'a>(alloc: Global, words: &Words<'_, 'a>) -> Result<Cause<'a>, AllocError> {
+    let word = words.word(0);
+    match near_among(alloc, word, &STATEMENTS)? {
+        "" => Ok(words.cause(0, "nothing named {0} is declared (8.3)")),
+        near => Ok(Cause::pair(
+            words.place(0),
+            "nothing named {0} is declared; {1} is a reserved word",
+            word,
+            near,
+        )),
+    }
+}
+
 // That nothing of a simple name is declared.
 fn simple<'a>(
     alloc: Global,
@@ -138,7 +155,7 @@ fn simple<'a>(
 ) -> Result<Cause<'a>, AllocError> {
     let word = words.word(0);
     match near_name(alloc, word, around, known)? {
-        "" => Ok(words.cause(0, "nothing named {0} is declared (8.3)")),
+        "" => nameless(alloc, words),
         near => Ok(Cause::new(
             words.place(0),
             "nothing named {0} is declared; {1} is",

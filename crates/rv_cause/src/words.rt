@@ -56,6 +56,11 @@ impl<'t, 'a> Words<'t, 'a> {
         }
     }
 
+    /// The same words, seen from the word at a place, or the next one.
+    pub fn seen_from(&self, place: usize) -> Words<'t, 'a> {
+        Words::at(self.tokens, place)
+    }
+
     /// Seen from the word of a number, from 0.
     pub fn from(tokens: &'t [Token<'a>], here: usize) -> Words<'t, 'a> {
         Words { tokens, here }
@@ -123,6 +128,14 @@ impl<'t, 'a> Words<'t, 'a> {
             self.up_to(last, 4),
             "",
         ]
+    }
+
+    /// What the word is that stands here; `None` where the text ends.
+    pub fn kind(&self) -> Option<Kind> {
+        match self.tokens.get(self.here) {
+            Some(token) => Some(token.kind),
+            None => None,
+        }
     }
 
     /// Whether a reserved word stands here.

@@ -18,16 +18,17 @@ pub struct Explanation<'a> {
     sentence: String,
 }
 
-// What is said of a cause at a place, where this is known.
+// What is said of a cause at a place, whose other place stands in a line, where this is known.
 fn at_spot<'a>(
     alloc: Global,
     spot: Spot<'a>,
     cause: &Cause<'_>,
     known: &Known<'_>,
+    line: usize,
 ) -> Result<Explanation<'a>, AllocError> {
     Ok(Explanation {
         excerpt: Some(Excerpt::new(spot)),
-        sentence: cause.sentence(alloc, known)?,
+        sentence: cause.sentence(alloc, known, line)?,
     })
 }
 
@@ -43,7 +44,7 @@ pub(crate) fn of_line<'a>(
         line: spot.line,
         offset: cause.at,
     };
-    at_spot(alloc, spot, cause, known)
+    at_spot(alloc, spot, cause, known, spot.number)
 }
 
 /// The same of one whose place counts in a section's text, without carriage returns before line feeds.
@@ -55,7 +56,14 @@ pub(crate) fn of_section<'a>(
 ) -> Result<Explanation<'a>, AllocError>
     requires { section.now.line + length section.now.text.now ≤ 2 ^ 63 }
 {
-    at_spot(alloc, spot_of(section, cause.at), cause, known)
+    let other = spot_of(section, cause.other.unwrap_or(cause.at));
+    at_spot(
+        alloc,
+        spot_of(section, cause.at),
+        cause,
+        known,
+        other.number,
+    )
 }
 
 /// The same of one without a place.

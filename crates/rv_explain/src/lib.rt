@@ -5,6 +5,7 @@
 mod excerpt;
 mod explanation;
 mod finding;
+mod grammar;
 mod places;
 mod sections;
 pub mod spot;

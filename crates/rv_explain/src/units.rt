@@ -3,6 +3,7 @@
 ghost use Rattle.std.specs.Prelude.{◌+◌, ◌≤◌, ◌^◌, length};
 
 use crate::explanation::{Explanation, of_section};
+use crate::grammar::Stop;
 use crate::places::place_of;
 use crate::sections::{known_before, texts_before};
 use rv_cause::around::Around;
@@ -16,6 +17,7 @@ use rv_lex::lexer::tokens;
 use rv_lex::token::Token;
 use rv_names::NameFault;
 use rv_parse::ParseFault;
+use rv_reason::reason_of;
 use rv_restrict::Restriction;
 use rv_script::unit_text::unit_text;
 use rv_shape::fault::ShapeFault;
@@ -49,11 +51,24 @@ fn of_words(text: &str, fault: LexFault) -> Cause<'_> {
 }
 
 // The cause of a fault of the grammar.
-fn of_grammar<'a>(text: &'a str, tokens: &[Token<'a>], fault: ParseFault) -> Cause<'a> {
+fn of_grammar<'a>(
+    alloc: Global,
+    text: &'a str,
+    seen: &Seen<'_, 'a, '_>,
+    fault: ParseFault,
+) -> Cause<'a> {
     match fault {
         ParseFault::Lex(fault) => of_words(text, fault),
-        ParseFault::Unexpected(at) => grammar::unexpected(text, tokens, at),
-        ParseFault::TooDeep(at) => grammar::too_deep(tokens, at),
+        ParseFault::Unexpected(at) => {
+            let stop = Stop {
+                tokens: seen.tokens,
+                words: seen.words,
+                around: seen.around,
+                at,
+            };
+            stop.cause(&reason_of(alloc, seen.tokens, text.len(), at))
+        }
+        ParseFault::TooDeep(at) => grammar::too_deep(seen.tokens, at),
         ParseFault::NoMemory => Cause::plain(0, NO_MEMORY),
     }
 }
@@ -88,16 +103,21 @@ fn said_of_restriction(restriction: Restriction) -> &'static str {
 }
 
 // The cause of a broken restriction.
-fn of_restriction<'a>(seen: &Seen<'_, 'a, '_>, restriction: Restriction) -> Cause<'a> {
+fn of_restriction<'a>(
+    alloc: Global,
+    seen: &Seen<'_, 'a, '_>,
+    restriction: Restriction,
+) -> Result<Cause<'a>, AllocError> {
+    let words = &seen.words;
     match restriction {
         Restriction::SimpleBarriers => {
-            restrictions::barrier(&seen.words, &seen.around, seen.known)
+            restrictions::barrier(alloc, words, &seen.around, seen.known)
         }
         Restriction::NoDynamicPriorities => {
-            restrictions::dynamic_priority(&seen.words, &seen.around)
+            Ok(restrictions::dynamic_priority(words, &seen.around))
         }
-        Restriction::NoDependence => restrictions::library_unit(&seen.words, &seen.around),
-        _ => told(&seen.words, &seen.around, said_of_restriction(restriction)),
+        Restriction::NoDependence => Ok(restrictions::library_unit(words, &seen.around)),
+        _ => Ok(told(words, &seen.around, said_of_restriction(restriction))),
     }
 }
 
@@ -206,8 +226,8 @@ fn cause_of<'a>(
     let seen = seen_at(tokens, known, place);
     match fault {
         UnitFault::Lex(fault) => Ok(of_words(text, fault)),
-        UnitFault::Parse(fault) => Ok(of_grammar(text, tokens, fault)),
-        UnitFault::Restriction(violation) => Ok(of_restriction(&seen, violation.restriction)),
+        UnitFault::Parse(fault) => Ok(of_grammar(alloc, text, &seen, fault)),
+        UnitFault::Restriction(violation) => of_restriction(alloc, &seen, violation.restriction),
         UnitFault::Names(fault) => of_names(alloc, &seen, fault),
         UnitFault::Types(fault) => of_types(&seen, fault),
         UnitFault::Shape(fault) => Ok(of_shape(&seen, fault)),
