@@ -1,8 +1,10 @@
 //! A feed as a reader, which waits for what comes, and a pipe beside it that ends it.
 
-ghost use Rattle.rv_feed.specs.Hearing.{Hears};
+ghost use Rattle.std.specs.Prelude.{◌≡◌, ◌≤◌, None, false, IfOk, length};
+ghost use Rattle.rv_feed.specs.Hearing.{Hears, Reads, heard};
 
-use crate::feed::{Came, Feed};
+use crate::feed::Came;
+use crate::pair::Feed;
 use rv_input::{Input, InputFault};
 use std::io;
 use std::io::Read;
@@ -25,7 +27,9 @@ pub struct Listening<'a, R> {
 
 impl<R: Wait + Clock> Listening<'_, R> {
     /// Whether it was ended from outside.
-    pub fn is_stopped(&self) -> bool {
+    pub fn is_stopped(&self) -> bool
+        ensures { self.now.stop ≡ None → result ≡ false }
+    {
         match &self.stop {
             Some(stop) => stop.is_over(self.rt),
             None => false,
@@ -37,23 +41,36 @@ impl<R: Wait + Clock> Listening<'_, R> {
     /// # Errors
     /// As the read that failed, or for want of memory.
     pub fn hear(&mut self, input: &mut Input, most: Duration) -> Result<Came, InputFault>
-        ensures { Hears input.old input.new result }
+        ensures hears { Hears (heard self.old.feed) (heard self.new.feed) input.old input.new result }
+        ensures rest { self.new.feed.rest ≡ self.old.feed.rest }
     {
         self.feed.hear(self.rt, input, most)
+    }
+
+    /// Reads the next bytes, for which it waits: 0 at the end, and once it was ended from outside.
+    ///
+    /// # Errors
+    /// As the read that failed, or for want of memory.
+    pub fn read_next(&mut self, buf: &mut [u8]) -> io::Result<usize>
+        ensures bound { IfOk result (λ count. count ≤ length buf.new) }
+        ensures reads { IfOk result (Reads (heard self.old.feed) (heard self.new.feed) self.old.feed.rest.items buf.new self.new.feed.rest.items) }
+    {
+        for _ in self.rt.forever() {
+            if self.is_stopped() {
+                return Ok(0);
+            }
+            match self.feed.read(self.rt, Duration::from_millis(SLICE), buf) {
+                Ok(Some(count)) => return Ok(count),
+                Ok(None) => {}
+                Err(e) => return Err(e),
+            }
+        }
+        unreachable!()
     }
 }
 
 impl<R: Wait + Clock> Read for Listening<'_, R> {
     fn read(&mut self, buf: &mut [u8]) -> io::Result<usize> {
-        for _ in self.rt.forever() {
-            if self.is_stopped() {
-                return Ok(0);
-            }
-            let read = self.feed.read(self.rt, Duration::from_millis(SLICE), buf)?;
-            if let Some(count) = read {
-                return Ok(count);
-            }
-        }
-        unreachable!()
+        self.read_next(buf)
     }
 }

@@ -1,1 +1,2 @@
-pub mod Handing
+mod Handing
+pub mod Written

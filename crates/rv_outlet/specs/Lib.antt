@@ -1,1 +1,2 @@
 pub mod Queueing
+pub mod Writing

@@ -1,0 +1,85 @@
+//! The end that reads an input.
+
+ghost use Rattle.std.specs.Prelude.{◌≤◌, ℕ, List, length};
+ghost use Rattle.std.specs.Io.KnownBytes.{Consumes};
+ghost use Rattle.rv_feed.specs.Hearing.{HandsOn, IsCopy, ReadsPiece, Says, said};
+
+use crate::pair::Speaker;
+use crate::piece::Piece;
+use crate::rule::Goes;
+use rv_input::InputFault;
+use std::io::Read;
+use std::sync::Wait;
+
+// How many bytes a piece has at most.
+const PIECE: usize = 4096;
+
+impl Speaker {
+    // The bytes that were read, or none where memory for them was refused.
+    fn copied(&self, bytes: &[u8]) -> Piece
+        ensures { IsCopy bytes.now result }
+    {
+        let mut copy = Vec::new(self.alloc);
+        match copy.extend_from_slice(bytes) {
+            Ok(()) => Piece::Bytes(copy),
+            Err(_) => Piece::Failed(InputFault::Memory),
+        }
+    }
+
+    // The next piece; none at the end.
+    fn piece<I: Read>(&self, reader: &mut I) -> Option<Piece>
+        ensures { ReadsPiece (I.remaining reader.old) (I.remaining reader.new) result }
+    {
+        let mut chunk = [0; PIECE];
+        match reader.read(&mut chunk) {
+            Ok(0) => None,
+            Ok(count) => Some(self.copied(&chunk[..count])),
+            Err(e) => Some(Piece::Failed(InputFault::Io(e))),
+        }
+    }
+
+    // Hands a piece on, and rings. False where nobody waits for it any more.
+    fn say<R: Wait>(&mut self, rt: &R, piece: Piece) -> bool
+        ensures { Says (said self.old) (said self.new) piece result }
+    {
+        match self.pieces.send_as::<Goes, R>(rt, &mut self.pass, piece) {
+            Ok(()) => {
+                // A bell that rings already needs no other ring.
+                let _ = self.bell.try_send(rt, 1);
+                true
+            }
+            Err(_) => false,
+        }
+    }
+
+    // Reads once, and hands on what comes. False at the end, behind a failure, and where nobody waits any more.
+    #[tactic(auto, using(crate::proofs::Ordered::hands_nothing, crate::proofs::Ordered::hands_piece))]
+    fn read_on<R: Wait, I: Read>(&mut self, rt: &R, reader: &mut I) -> bool
+        ensures { HandsOn (said self.old) (said self.new) (I.remaining reader.old) (I.remaining reader.new) }
+    {
+        let Some(piece) = self.piece(reader) else {
+            return false;
+        };
+        let is_last = matches!(piece, Piece::Failed(_));
+        self.say(rt, piece) && !is_last
+    }
+
+    /// Reads an input to its end, or until nobody waits for it, and hands on what comes.
+    pub fn read_all<R: Wait, I: Read>(mut self, rt: &R, reader: &mut I)
+        ensures { (bytes : List ℕ) × Consumes (I.remaining reader.old) (I.remaining reader.new) bytes }
+    {
+        for _ in rt.forever() {
+            if !self.read_on(rt, reader) {
+                return;
+            }
+        }
+    }
+
+    /// Reads an input once, at most a byte, to whatever comes of it, and is gone then: the other end is over.
+    pub fn read_once<I: Read>(self, reader: &mut I)
+        ensures { (bytes : List ℕ) × (length bytes ≤ 1) × Consumes (I.remaining reader.old) (I.remaining reader.new) bytes }
+    {
+        let mut chunk = [0];
+        let _ = reader.read(&mut chunk);
+    }
+}
