@@ -1,0 +1,4 @@
+pub mod Trees
+pub mod Tables
+pub mod FlatView
+pub mod FlatUnits
