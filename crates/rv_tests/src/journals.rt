@@ -1,4 +1,4 @@
-//! Journals: pages of 300 ticks, which take two segments.
+//! Journals: pages of 16,400 ticks, which take two segments.
 
 use rv_event::entry::{Entry, Recorded, Request};
 use rv_journal::journal::Journal;
@@ -6,7 +6,7 @@ use std::alloc::Global;
 use std::test::Fail;
 
 /// The ticks that are entered, which take two segments.
-const TICKS: usize = 300;
+const TICKS: usize = 16_400;
 
 // Adds an entry, where there is room.
 fn add(journal: &mut Journal, actor: usize, request: &Request, answer: Recorded) {
@@ -26,7 +26,7 @@ fn reserved(alloc: Global, capacity: usize) -> Result<Journal, Fail> {
 // A full journal of ticks, each by the number of its entry.
 fn ticks(alloc: Global) -> Result<Journal, Fail> {
     let mut journal = reserved(alloc, TICKS)?;
-    for number in 1..301i64 {
+    for number in 1..16_401i64 {
         add(
             &mut journal,
             0,
@@ -70,10 +70,10 @@ fn has_page(
 #[test]
 fn pages_have_50_entries(rt: HostRuntime) -> Result<(), Fail> {
     let alloc = rt.alloc();
-    assert!(rt; has_page(alloc, 250, 50, Some(250), Some(299))?);
-    assert!(rt; has_page(alloc, 290, 11, Some(290), Some(300))?);
+    assert!(rt; has_page(alloc, 16_350, 50, Some(16_350), Some(16_399))?);
+    assert!(rt; has_page(alloc, 16_380, 21, Some(16_380), Some(16_400))?);
     assert!(rt; has_page(alloc, 1, 50, Some(1), Some(50))?);
-    assert!(rt; has_page(alloc, 301, 0, None, None)?);
+    assert!(rt; has_page(alloc, 16_401, 0, None, None)?);
     assert!(rt; has_page(alloc, 0, 0, None, None)?);
     Ok(())
 }
