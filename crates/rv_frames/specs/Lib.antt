@@ -1,0 +1,4 @@
+pub mod Questions
+pub mod Frames
+pub mod Pushes
+pub mod Arrivals
