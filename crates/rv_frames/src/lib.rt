@@ -5,6 +5,7 @@
 #![tactic(auto)]
 
 ghost use Rattle.rv_frames.specs.Questions.{PartsAreAssociative, EndsAddNothing};
+ghost use Rattle.rv_frames.specs.Begins.{RunsBeginAsTheyAre};
 ghost use Rattle.rv_frames.specs.Pushes.{PushesKeepTheMeaning};
 ghost use Rattle.rv_frames.specs.Arrivals.{ArrivalsKeepTheMeaning};
 
@@ -13,6 +14,12 @@ ghost use Rattle.rv_frames.specs.Arrivals.{ArrivalsKeepTheMeaning};
 pub fn questions_are_associative<A, B, C>()
     ensures parts { PartsAreAssociative A B C }
     ensures ends { EndsAddNothing A }
+{}
+
+/// On an empty stack a run begins as it is: the body of an operation that has started, a task, and a line that fires ask what they
+/// ask without a stack, and come to the same end.
+pub fn runs_begin_on_an_empty_stack()
+    ensures { RunsBeginAsTheyAre }
 {}
 
 /// Where the run turns to a part of an expression, of a statement or of a body, and what waits for that part is pushed, what the
