@@ -12,7 +12,7 @@ use Rattle.rv_exec.specs.Calls.{internal, reached, asks, is_past}
 use Rattle.rv_exec.specs.Expressions.{value, linked, arguments, called, passing, returned}
 use Rattle.rv_exec.specs.Statements.{step, turns, values_over, meaning, meanings, first_true}
 use Rattle.rv_exec.specs.Blocks.{elaborated, block, body_meaning, inner_at, outer_at, closed, performed, world}
-use Rattle.rv_frames.specs.Frames.{Frame, calls, declares, asks_of, opening, closing, resuming, answering, performing, all, out, begun, inside, started_by, denoted, meant}
+use Rattle.rv_frames.specs.Frames.{Frame, calls, declares, asks_of, opening, closing, resuming, answering, performing, all, out, begun, inner_setting, started_by, denoted, meant}
 use Rattle.rv_frames.specs.Pushes.{ExpressionsPush, StatementsPush, CallsPush, PushesKeepTheMeaning}
 use Rattle.rv_frames.proofs.Asking.{associative}
 
@@ -21,15 +21,15 @@ internal_enters :
     (bodies : UnitBodies) (fs : List Frame) (s : Setting) (operation : ℕ) (values : List ℤ) (a : Activation) (nested : ℕ) (body : Body)
     → s.nested ≡ suc nested → operation_of bodies s.object operation ≡ Some body
     → meant bodies (calls (callee.Internal operation) values a) fs s
-    ≡ meant bodies (declares body.declarations (begun body values a)) (opening body.statements body.handlers ∷ closing body ∷ resuming s a ∷ fs) (inside s nested)
+    ≡ meant bodies (declares body.declarations (begun body values a)) (opening body.statements body.handlers ∷ closing body ∷ resuming s a ∷ fs) (inner_setting s nested)
 unfolding meant denoted called inner_at body_meaning block
 internal_enters bodies fs s operation values a nested body deeper is =
-    let one : inner_at bodies s.object (outer_at bodies s.held) s.nested operation values a.components a.steps ≡ and_then (block (world bodies (inside s nested)) body (begun body values a)) (closed body) =
-    ap (λ k. inner_at bodies s.object (outer_at bodies s.held) k operation values a.components a.steps) deeper ∙ ap (λ o. body_meaning (world bodies (inside s nested)) o values a.components a.steps) is in
+    let one : inner_at bodies s.object (outer_at bodies s.held) s.nested operation values a.components a.steps ≡ and_then (block (world bodies (inner_setting s nested)) body (begun body values a)) (closed body) =
+    ap (λ k. inner_at bodies s.object (outer_at bodies s.held) k operation values a.components a.steps) deeper ∙ ap (λ o. body_meaning (world bodies (inner_setting s nested)) o values a.components a.steps) is in
     associative (inner_at bodies s.object (outer_at bodies s.held) s.nested operation values a.components a.steps) _ _
     ∙ (ap (λ x. and_then x (λ o. and_then (returned a o) (all (denoted bodies fs s)))) one
-    ∙ (associative (block (world bodies (inside s nested)) body (begun body values a)) _ _
-    ∙ associative (elaborated (world bodies (inside s nested)) body.declarations (begun body values a)) _ _))
+    ∙ (associative (block (world bodies (inner_setting s nested)) body (begun body values a)) _ _
+    ∙ associative (elaborated (world bodies (inner_setting s nested)) body.declarations (begun body values a)) _ _))
 
 external_spent :
     (bodies : UnitBodies) (fs : List Frame) (s : Setting) (callee : Callee) (values : List ℤ) (a b : Activation)

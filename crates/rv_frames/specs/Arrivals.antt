@@ -28,7 +28,7 @@ use Rattle.rv_exec.specs.Operators.{is_true, prefix_of, result_of, within}
 use Rattle.rv_exec.specs.Choices.{handler_of}
 use Rattle.rv_exec.specs.Calls.{Outcome, settled, replied, request_of, is_stuck, end_of, completed}
 use Rattle.rv_exec.specs.Blocks.{outcome_of}
-use Rattle.rv_frames.specs.Frames.{Frame, prefixing, linking, operating, bounding, arguing, passing, giving, assigning, branching, selecting, testing, turning, lowering, raising, sequencing, opening, handling, restoring, closing, resuming, answering, performing, completing, valued, listed, done, closes, reaches, outside, evaluates, links, argues, calls, runs_all, tries, selects_of, turns_of, enters, asks_of, waits, ends_of, comes, reach, works_on, denoted, meant}
+use Rattle.rv_frames.specs.Frames.{Frame, prefixing, linking, operating, bounding, arguing, passing, giving, assigning, branching, selecting, testing, turning, lowering, raising, sequencing, opening, handling, restoring, closing, resuming, answering, performing, completing, valued, listed, done, closes, reaches, outside, evaluates, links, argues, calls, runs_all, tries, selects_of, turns_of, enters, asks_of, waits, ends_of, comes, reach, body_setting, denoted, meant}
 
 -- expressions and arguments come to their values, and the frames of expressions take them
 pub record ExpressionsArrive (bodies : UnitBodies) (fs : List Frame) (s : Setting) : Type 0 where
@@ -242,7 +242,8 @@ pub record CallsArrive (bodies : UnitBodies) (fs : List Frame) (s : Setting) : T
   pub ask :
       (callee : Callee) (values : List ℤ)
       → meant bodies (asks_of callee values) fs s
-      ≡ asking (request_of callee values) (λ answer. and_then (settled callee (replied callee answer)) (reach (denoted bodies fs s)))
+      ≡ asking (request_of callee values) (λ answer.
+      and_then (settled callee (replied callee answer)) (reach (denoted bodies fs s)))
   pub ask_settled :
       (callee : Callee) (answer : Answer) (what : Asked)
       → replied callee answer ≡ reply.Settled what
@@ -256,8 +257,9 @@ pub record CallsArrive (bodies : UnitBodies) (fs : List Frame) (s : Setting) : T
   -- the body of another object's operation starts
   pub started :
       (held object operation : ℕ) (is_function : Bool) (values components : List ℤ)
-      → meant bodies (comes (reaches (asked.Started object operation is_function components))) (performing (suc held) values ∷ fs) s
-      ≡ meant bodies (enters operation values components 100000) (completing is_function s ∷ fs) (works_on object held)
+      → meant bodies (comes (reaches (asked.Started object operation is_function components)))
+      (performing (suc held) values ∷ fs) s
+      ≡ meant bodies (enters operation values components 100000) (completing is_function s ∷ fs) (body_setting object held)
   -- that body is over, and its end is asked
   pub ended :
       (is_function : Bool) (t : Setting) (outcome : Outcome) (components : List ℤ) (steps : ℕ)

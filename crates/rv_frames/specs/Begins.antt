@@ -6,14 +6,14 @@ use Rattle.rv_exec.specs.Asking.{ended, and_then}
 use Rattle.rv_exec.specs.Activations.{opened}
 use Rattle.rv_exec.specs.Blocks.{operation_run_at}
 use Rattle.rv_exec.specs.Tasks.{line_run, task_meaning, task_setting}
-use Rattle.rv_frames.specs.Frames.{declares, enters, exit, exiting, fires, meant, opening, out, quit, quits_of, quitting, works_on}
+use Rattle.rv_frames.specs.Frames.{declares, enters, exit, exiting, fires, meant, opening, out, quit, quits_of, quitting, body_setting}
 
 -- what a run still does as it begins is what it does, and how it ends comes to the empty stack
 pub record RunsBegin (bodies : UnitBodies) : Type 0 where
   -- the body of an operation that has started, whose actor holds so many objects, this one with them (9.5.1)
   pub operation :
       (held object operation : ℕ) (values components : List ℤ)
-      → meant bodies (enters operation values components 100000) (exiting ∷ []) (works_on object (16 - held))
+      → meant bodies (enters operation values components 100000) (exiting ∷ []) (body_setting object (16 - held))
       ≡ and_then (operation_run_at bodies held object operation values components) (exit ended)
   -- a task with so many requests (9.2)
   pub task :

@@ -50,12 +50,12 @@ pub data Now : Type 0 where
   quitted : Exit → Now
 
 -- the setting of the body of a call inside the object, where so many more calls may nest (own)
-abbrev pub inside : Setting → ℕ → Setting
-inside s nested = record { object = s.object; held = s.held; nested = nested; is_task = false; handling = None }
+abbrev pub inner_setting : Setting → ℕ → Setting
+inner_setting s nested = record { object = s.object; held = s.held; nested = nested; is_task = false; handling = None }
 
 -- the setting of the body of an operation of an object, by an actor that may hold so many more (own)
-abbrev pub works_on : ℕ → ℕ → Setting
-works_on object held = record { object = object; held = held; nested = 65; is_task = false; handling = None }
+abbrev pub body_setting : ℕ → ℕ → Setting
+body_setting object held = record { object = object; held = held; nested = 65; is_task = false; handling = None }
 
 -- the activation of a body that is called inside the object with these values, as its declarations begin (6.4.1)
 abbrev pub begun : Body → List ℤ → Activation → Activation
@@ -207,7 +207,8 @@ denoted bodies (prefixing op ∷ fs) s now =
 denoted bodies (linking ls ∷ fs) s now =
     by_value (on_value fails (linked (world bodies s) ls)) got (denoted bodies fs s) now
 denoted bodies (operating op v ls ∷ fs) s now =
-    by_value (on_value fails (λ u a. on_value fails (linked (world bodies s) ls) (result_of op v u, a))) got (denoted bodies fs s) now
+    by_value (on_value fails (λ u a. on_value fails (linked (world bodies s) ls) (result_of op v u, a))) got
+    (denoted bodies fs s) now
 denoted bodies (bounding range ∷ fs) s now =
     by_value (on_value fails (λ v a. ended (within range v, a))) got (denoted bodies fs s) now
 denoted bodies (arguing values es ∷ fs) s now =
@@ -239,7 +240,8 @@ denoted bodies (copying targets ∷ fs) s now =
     by_values (on_value abandons (λ values a. ended (copied_back targets 0 values a))) end (denoted bodies fs s) now
 denoted bodies (sequencing ss ∷ fs) s now = by_end (go_on (meanings (world bodies s) ss)) end (denoted bodies fs s) now
 denoted bodies (declaring target more ∷ fs) s now =
-    by_value (on_value abandons (λ v a. go_on (elaborated (world bodies s) more) (assigned target v a))) end (denoted bodies fs s) now
+    by_value (on_value abandons (λ v a. go_on (elaborated (world bodies s) more) (assigned target v a))) end
+    (denoted bodies fs s) now
 denoted bodies (opening ss hs ∷ fs) s now =
     by_end (go_on (λ a. and_then (meanings (world bodies s) ss a) (handled (world bodies s) hs))) end (denoted bodies fs s) now
 denoted bodies (handling hs ∷ fs) s now = by_end (handled (world bodies s) hs) end (denoted bodies fs s) now
@@ -247,7 +249,8 @@ denoted bodies (restoring exception ∷ fs) s now = denoted bodies fs (record s 
 denoted bodies (closing body ∷ fs) s now = by_end (closed body) close (denoted bodies fs s) now
 denoted bodies (resuming t a ∷ fs) s now = by_body (returned a) all (denoted bodies fs t) now
 denoted bodies (answering a ∷ fs) s now = by_call (answered (world bodies s) a) all (denoted bodies fs s) now
-denoted bodies (performing held values ∷ fs) s now = by_request (performed (started_by bodies held values)) out (denoted bodies fs s) now
+denoted bodies (performing held values ∷ fs) s now =
+    by_request (performed (started_by bodies held values)) out (denoted bodies fs s) now
 denoted bodies (completing is_function t ∷ fs) s now = by_body (completes is_function) out (denoted bodies fs t) now
 denoted bodies (exiting ∷ fs) s now = by_body exits exit (denoted bodies fs s) now
 denoted bodies (quitting body ∷ fs) s now = by_end (over body) quit (denoted bodies fs s) now
@@ -297,14 +300,16 @@ meant bodies (runs st a) fs s = and_then (meaning (world bodies s) st a) (end (d
 meant bodies (runs_all ss a) fs s = and_then (meanings (world bodies s) ss a) (end (denoted bodies fs s))
 meant bodies (tries bs otherwise a) fs s =
     and_then (first_true (world bodies s) bs (meanings (world bodies s) otherwise) a) (end (denoted bodies fs s))
-meant bodies (selects_of alternatives v a) fs s = and_then (selected (world bodies s) alternatives v a) (end (denoted bodies fs s))
+meant bodies (selects_of alternatives v a) fs s =
+    and_then (selected (world bodies s) alternatives v a) (end (denoted bodies fs s))
 meant bodies (turns_of n e ss a) fs s =
     and_then (turns n (value (world bodies s) e) (meanings (world bodies s) ss) a) (end (denoted bodies fs s))
 meant bodies (counts n is_reverse low high slot ss a) fs s =
     and_then (values_over n is_reverse low high slot (meanings (world bodies s) ss) a) (end (denoted bodies fs s))
 meant bodies (declares ds a) fs s = and_then (elaborated (world bodies s) ds a) (end (denoted bodies fs s))
 meant bodies (enters operation values components steps) fs s =
-    and_then (inner_at bodies s.object (outer_at bodies s.held) s.nested operation values components steps) (close (denoted bodies fs s))
+    and_then (inner_at bodies s.object (outer_at bodies s.held) s.nested operation values components steps)
+    (close (denoted bodies fs s))
 meant bodies (asks_of callee values) fs s = and_then (asks callee values) (reach (denoted bodies fs s))
 meant bodies (waits callee) fs s = and_then (settled callee reply.Waits) (reach (denoted bodies fs s))
 meant bodies (ends_of request outcome) fs s = and_then (ends_by request outcome) (out (denoted bodies fs s))

@@ -19,7 +19,7 @@ use Rattle.rv_exec.specs.Activations.{stepped, spent, steps_left, put_slot, valu
 use Rattle.rv_exec.specs.Operators.{decides}
 use Rattle.rv_exec.specs.Bodies.{operation_of}
 use Rattle.rv_exec.specs.Calls.{internal, is_past}
-use Rattle.rv_frames.specs.Frames.{Frame, prefixing, linking, operating, bounding, arguing, passing, giving, assigning, branching, selecting, testing, lowering, counting, leaving, returning, copying, sequencing, declaring, opening, closing, resuming, answering, performing, listed, done, evaluates, links, argues, calls, runs, runs_all, tries, turns_of, counts, declares, enters, asks_of, comes, begun, inside, meant}
+use Rattle.rv_frames.specs.Frames.{Frame, prefixing, linking, operating, bounding, arguing, passing, giving, assigning, branching, selecting, testing, lowering, counting, leaving, returning, copying, sequencing, declaring, opening, closing, resuming, answering, performing, listed, done, evaluates, links, argues, calls, runs, runs_all, tries, turns_of, counts, declares, enters, asks_of, comes, begun, inner_setting, meant}
 
 -- the operands of an expression, and the arguments of a call, are evaluated before what waits for them (4.4, 6.4.1)
 pub record ExpressionsPush (bodies : UnitBodies) (fs : List Frame) (s : Setting) : Type 0 where
@@ -100,7 +100,8 @@ pub record StatementsPush (bodies : UnitBodies) (fs : List Frame) (s : Setting) 
       (n : ℕ) (is_reverse : Bool) (low high : ℤ) (slot : ℕ) (ss : Statements) (a b : Activation)
       → stepped a ≡ Some b
       → meant bodies (counts (suc n) is_reverse low high slot ss a) fs s
-      ≡ meant bodies (runs_all ss (put_slot slot (value_before is_reverse low high n) b)) (counting n is_reverse low high slot ss ∷ fs) s
+      ≡ meant bodies (runs_all ss (put_slot slot (value_before is_reverse low high n) b))
+      (counting n is_reverse low high slot ss ∷ fs) s
   -- an exit (5.7)
   pub exit_when :
       (e : Expression) (a : Activation)
@@ -146,7 +147,7 @@ pub record CallsPush (bodies : UnitBodies) (fs : List Frame) (s : Setting) : Typ
       → s.nested ≡ suc nested → operation_of bodies s.object operation ≡ Some body
       → meant bodies (calls (callee.Internal operation) values a) fs s
       ≡ meant bodies (declares body.declarations (begun body values a))
-      (opening body.statements body.handlers ∷ closing body ∷ resuming s a ∷ fs) (inside s nested)
+      (opening body.statements body.handlers ∷ closing body ∷ resuming s a ∷ fs) (inner_setting s nested)
   -- a call of another object, where the actor may make it (9.5)
   pub outer_call :
       (callee : Callee) (values : List ℤ) (a b : Activation)
