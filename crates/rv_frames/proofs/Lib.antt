@@ -1,0 +1,4 @@
+pub mod Asking
+pub mod Begins
+pub mod Pushes
+pub mod Arrivals

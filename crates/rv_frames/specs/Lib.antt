@@ -1,0 +1,5 @@
+pub mod Questions
+pub mod Frames
+pub mod Begins
+pub mod Pushes
+pub mod Arrivals
