@@ -100,13 +100,15 @@ pub fn answer_call(seen: &Seen, asked: Asked) -> Answer {
             let open = is_open(seen.catalogue, asked.object, &scalars);
             let kind = operation.kind();
             let lawful = let_in(seen, asked, kind, open, &scalars);
-            violations(seen, asked, kind, object.ceiling(), granted, open)
-                .refusal_or(line, version, lawful)
+            violations(seen, asked, kind, object.ceiling(), granted, open).refusal_or(
+                line, version, lawful,
+            )
         }
         Callee::Suspension(_, _, operation) => {
             let lawful = perform(operation, state(seen.entries, asked.object));
-            violations_of_suspension(seen, asked, operation, granted)
-                .refusal_or(line, version, lawful)
+            violations_of_suspension(seen, asked, operation, granted).refusal_or(
+                line, version, lawful,
+            )
         }
     }
 }

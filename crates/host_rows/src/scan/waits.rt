@@ -56,9 +56,7 @@ pub fn answer_resume(seen: &Seen, actor: usize) -> Answer {
         Stance::Free | Stance::Gone => Answer::Misuse,
         Stance::InQueue => answer_waiting(seen, false),
         Stance::HandedOver => Answer::Woken(Some(handed(seen, actor))),
-        Stance::DroppedBy(line) => {
-            Answer::Refused(Rule::Grant, line, version_then(seen, actor))
-        }
+        Stance::DroppedBy(line) => { Answer::Refused(Rule::Grant, line, version_then(seen, actor)) }
         Stance::WaitsOn(object) => {
             answer_waiting(seen, is_released(seen.entries, actor, object))
         }
