@@ -31,8 +31,6 @@ use Rattle.thread_rows.specs.contracts.crews.notes.OneTurnProtocolNoteOptionNote
 use Rattle.thread_rows.specs.contracts.crews.notes.Hearer as hearer
 use Rattle.thread_rows.specs.contracts.crews.told_revoke.ToldReader as told
 use Rattle.thread_rows.specs.contracts.hands.Role as role
-use Rattle.thread_rows.proofs.crews.two_readers.FirstReader.TheSendSync as first_crosses
-use Rattle.thread_rows.proofs.crews.two_readers.SecondReader.TheSendSync as second_crosses
 use Rattle.thread_rows.proofs.crews.caller.Caller.TheSendSync as caller_crosses
 
 abbrev known : RattleType
@@ -73,7 +71,7 @@ told_field = struct_send (structs.shape told.the_type) (hearer_field, (caller_cr
 role_field : IsSend (role.the_field).row
 role_field = enum_send (enums.shape role.the_type) (
   (work_crosses.the_field_send, tt),
-  ((first_crosses.the_field_send, tt), ((second_crosses.the_field_send, tt), ((caller_crosses.the_field_send, tt), ((told_field, tt), tt)))),
+  ((caller_crosses.the_field_send, tt), ((told_field, tt), tt)),
 )
 
 pub role_send : IsSend role.the_row

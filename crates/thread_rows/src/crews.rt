@@ -12,14 +12,12 @@ mod plant;
 mod storm;
 mod threads;
 pub mod told_revoke;
-pub mod two_readers;
 mod waiting;
 
 use crate::hands::Hands;
 pub use caller::{Caller, call_valve};
-use games::{CALLS_BACK, DEVICE_CALLS_THREE, NO_CALL, SECOND_START_FAILS, TWO_TASKS};
+use games::{NO_CALL, SECOND_START_FAILS, TWO_TASKS};
 use journal::Journal;
-use judged::explained_ends;
 use rv_crew::crew::Closed;
 use std::alloc::Global;
 use std::io;
@@ -73,28 +71,8 @@ fn tell_explained<R: Print>(rt: &R, name: &str, ends: Option<usize>) -> io::Resu
     }
 }
 
-// Tells of a task whose call calls on.
-fn tell_called_back<R: Threads + Wait + AllocGlobal + Print>(
-    rt: &R,
-    hands: &Hands,
-) -> io::Result<()> {
-    let closed = games::play(rt, hands, &CALLS_BACK);
-    let ends = match &closed {
-        Some(closed) => explained_ends(rt.alloc(), &CALLS_BACK.scene, &closed.host),
-        None => None,
-    };
-    tell(rt, "row_11_on_a_thread", closed)?;
-    tell_explained(rt, "row_11_on_a_thread", ends)
-}
-
 /// Plays all games.
 pub fn play_all<R: Threads + Wait + AllocGlobal + Print>(rt: &R, hands: &Hands) -> io::Result<()> {
-    tell(
-        rt,
-        "device_calls_three",
-        games::play(rt, hands, &DEVICE_CALLS_THREE),
-    )?;
-    tell(rt, "two_readers_at_once", two_readers::play(rt, hands))?;
     tell(rt, "told_revoke_is_seen", told_revoke::play(rt, hands))?;
     tell(
         rt,
@@ -107,7 +85,6 @@ pub fn play_all<R: Threads + Wait + AllocGlobal + Print>(rt: &R, hands: &Hands) 
         "finishes_without_a_call",
         games::play(rt, hands, &NO_CALL),
     )?;
-    tell_called_back(rt, hands)?;
     tell_explained(
         rt,
         "units_on_two_threads",

@@ -7,7 +7,6 @@ ghost use Rattle.rv_crew.specs.Hiring.{hired};
 ghost use Rattle.thread_rows.specs.Fitting.{Fits};
 
 use crate::crews::told_revoke::{ToldReader, read_told};
-use crate::crews::two_readers::{FirstReader, SecondReader, read_first, read_second};
 use crate::crews::{Caller, call_valve};
 use rv_crew::crew::Crew;
 use rv_crew::hiring::HireFault;
@@ -20,10 +19,6 @@ use std::sync::Wait;
 pub enum Role {
     /// What the threads of a run do.
     Work(Work),
-    /// It reads, and its body is held open.
-    FirstReader(FirstReader),
-    /// It reads meanwhile.
-    SecondReader(SecondReader),
     /// It calls, and tells what each call came to.
     Caller(Caller),
     /// It reads, is told of what changed meanwhile, and reads again.
@@ -37,8 +32,6 @@ pub fn act<R: Wait>(rt: &R, port: Port, role: Role) -> Finished
 {
     match role {
         Role::Work(work) => perform(rt, port, work),
-        Role::FirstReader(reader) => read_first(rt, port, reader),
-        Role::SecondReader(reader) => read_second(rt, port, reader),
         Role::Caller(caller) => call_valve(rt, port, caller),
         Role::ToldReader(reader) => read_told(rt, port, reader),
     }

@@ -1,4 +1,4 @@
-//! Games of ports in threads: plays each game of the file `games` of the folder that the program is run in, and then two
+//! Games of ports in threads: plays each game of the file `games` of the folder that the program is run in, and then one
 //! that no steps can tell, and tells of each in a line what was seen. Each wait of the games of the file has a limit of
 //! turns, but for that of a port for the host.
 
@@ -7,7 +7,6 @@ mod flag;
 mod game;
 pub mod journal;
 mod operator;
-mod plain_acts;
 mod plant;
 mod run;
 mod shown;
@@ -58,7 +57,5 @@ where
     let alloc = rt.alloc();
     let games = fs::read_to_string(rt, "games")?;
     play_steps(rt, alloc, games.as_str())?;
-    tell(rt, "example", shown::play(rt, alloc))?;
-    let acts = fs::read_to_string(rt, "acts")?;
-    tell(rt, "plain_acts", plain_acts::play(rt, alloc, acts.as_str()))
+    tell(rt, "example", shown::play(rt, alloc))
 }

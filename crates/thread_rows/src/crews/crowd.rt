@@ -59,7 +59,6 @@ end Sea;
 const CROWD: Scene = Scene {
     units: &[("@unit", PLANT), ("@unit", SEA)],
     list: "allow * * *\n",
-    later: &[],
     queue: 8,
 };
 

@@ -6,7 +6,7 @@ ghost use Rattle.rv_crew.specs.Teams.{IsOfTurn};
 
 use crate::crews::caller::{GET, VALVE};
 use crate::crews::judged::explained_ends;
-use crate::crews::plant::{DEVICE, FIRST, LINE, Scene, TASKS, TASKS_AND_A_LINE, with_scene};
+use crate::crews::plant::{FIRST, LINE, Scene, TASKS, TASKS_AND_A_LINE, with_scene};
 use crate::crews::threads::{begin, close};
 use crate::hands::{Hands, Role};
 use crate::host::port_of;
@@ -43,13 +43,6 @@ pub struct Game {
     pub refused: u64,
 }
 
-/// A device calls three times.
-pub const DEVICE_CALLS_THREE: Game = Game {
-    scene: DEVICE,
-    parts: &[(FIRST, Part::Calls(3))],
-    refused: 0,
-};
-
 /// The second of two starts makes no thread: its actor is lost.
 pub const SECOND_START_FAILS: Game = Game {
     scene: TASKS,
@@ -64,55 +57,11 @@ pub const NO_CALL: Game = Game {
     refused: 0,
 };
 
-// A procedure calls another object, whose body's call back is refused.
-const CALLED_BACK: &str = "package P is
-protected A is
-function Get return Integer;
-procedure Poke;
-private
-X : Integer := 1;
-end;
-protected B is
-procedure Turn;
-private
-Y : Integer := 0;
-end;
-task T;
-end;
-package body P is
-protected body A is
-function Get return Integer is begin return X; end;
-procedure Poke is begin X := 2; B.Turn; X := 3; end;
-end;
-protected body B is
-procedure Turn is begin
-Y := A.Get;
-exception
-when Program_Error => Y := 9;
-end;
-end;
-task body T is begin A.Poke; end;
-end;
-";
-
-/// One task, whose call of a procedure calls on.
-pub const CALLS_BACK: Game = Game {
-    scene: Scene {
-        units: &[("@unit", CALLED_BACK)],
-        list: "allow P * *\n",
-        later: &[],
-        queue: 1,
-    },
-    parts: &[(FIRST, Part::Text)],
-    refused: 0,
-};
-
 /// Two tasks, one of which waits for what the other does.
 pub const TWO_TASKS: Game = Game {
     scene: Scene {
         units: &[("@unit", PLANT), ("@unit", NAV)],
         list: "allow Nav Plant.Valve *\n",
-        later: &[],
         queue: 1,
     },
     parts: &[(FIRST, Part::Text), (FIRST + 1, Part::Text)],

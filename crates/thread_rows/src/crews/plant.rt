@@ -13,12 +13,11 @@ pub const FIRST: u64 = 11;
 /// The number of line 4.
 pub const LINE: u64 = 5;
 
-/// The units of a game, the list over them, the units that are loaded behind it, and how many callers may wait in a queue.
+/// The units of a game, the list over them, and how many callers may wait in a queue.
 #[derive(Clone, Copy, Drop)]
 pub struct Scene {
     pub units: &'static [UnitSection],
     pub list: &'static str,
-    pub later: &'static [UnitSection],
     pub queue: usize,
 }
 
@@ -28,7 +27,6 @@ const ALL: &str = "allow * * *\n";
 pub const TASKS: Scene = Scene {
     units: &[("@unit", PLANT), ("@unit", NAV)],
     list: ALL,
-    later: &[],
     queue: 1,
 };
 
@@ -42,7 +40,6 @@ handler Trip 4
 pub const TASKS_AND_A_LINE: Scene = Scene {
     units: &[("@unit", PLANT), ("@unit", NAV), ("@shape", ALARM)],
     list: ALL,
-    later: &[],
     queue: 1,
 };
 
@@ -62,18 +59,6 @@ task Eight 15
 pub const EIGHT_TASKS: Scene = Scene {
     units: &[("@unit", PLANT), ("@shape", STORM)],
     list: ALL,
-    later: &[],
-    queue: 1,
-};
-
-// Task 11.
-const MAIN: &str = "unit Dev\ntask Main 15\n";
-
-/// The plant, and a device that is loaded behind the list.
-pub const DEVICE: Scene = Scene {
-    units: &[("@unit", PLANT)],
-    list: ALL,
-    later: &[("@shape", MAIN)],
     queue: 1,
 };
 
@@ -95,6 +80,5 @@ pub fn with_scene<R: Wait>(rt: &R, alloc: Global, scene: &Scene) -> Option<Contr
     let mut control = new_control(alloc, scene.queue)?;
     load_all(rt, alloc, &mut control, scene.units)?;
     set_list(rt, alloc, &mut control, scene.list)?;
-    load_all(rt, alloc, &mut control, scene.later)?;
     Some(control)
 }
