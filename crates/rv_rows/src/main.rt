@@ -20,6 +20,8 @@
 //! --write` writes it, by a judge of its own). The words are the lines that are said, joined by `; `, and a fault at the end
 //! of the last section's text is `at end`.
 //!
+//! `NAME.grammar` is a file of unit texts, one a line, and of what the grammar says of each (src/grammars.rt).
+//!
 //! With two numbers on its command line, which of how many shares, it cuts and damages each script instead, at the places of
 //! that share, and says how many runs came to which end (`bench/cut_texts.sh`).
 #![tactic(auto)]
@@ -28,12 +30,14 @@ mod cut;
 mod deeds;
 mod ends;
 mod fronts;
+mod grammars;
 mod grown;
 
 use cut::{Ends, Share};
 use deeds::{Deed, carry_out, given};
 use ends::{all_are_explained, ends_said, has_texts};
 use fronts::fronts_of;
+use grammars::said_of_all;
 use grown::grown;
 use row_files::failing::{FailingReader, FailingWriter};
 use row_files::{bytes_of, names_before};
@@ -319,6 +323,17 @@ fn fronts_told(rt: &HostRuntime, name: &str, due: &[u8]) -> io::Result<String> {
     Ok(format!(in alloc; "{name}: cuts differ at line {line}: {found}")?)
 }
 
+/// Whether what the grammar says of the unit texts of a file is what has to be said, in words.
+fn told_of_grammar(rt: &HostRuntime, name: &str) -> io::Result<String> {
+    let alloc = rt.alloc();
+    let file = bytes_of(rt, name, "grammar")?.unwrap_or(Vec::new(alloc));
+    let text = str::from_utf8(file.as_slice()).unwrap_or("no text");
+    match said_of_all(alloc, text)? {
+        Ok(count) => Ok(format!(in alloc; "{name}: {count} texts ok")?),
+        Err(line) => Ok(format!(in alloc; "{name}: differs at line {line}")?),
+    }
+}
+
 /// Runs each script cut before each of its bytes, and with each of its bytes replaced, at the places of a share.
 fn cut_all(rt: &HostRuntime, share: Share) -> io::Result<()> {
     let alloc = rt.alloc();
@@ -359,6 +374,10 @@ fn tell_all(rt: &HostRuntime) -> io::Result<()> {
     }
     for name in names_before(rt, ".before")? {
         let line = told_of_run(rt, name.as_str())?;
+        println!(rt; "{line}")?;
+    }
+    for name in names_before(rt, ".grammar")? {
+        let line = told_of_grammar(rt, name.as_str())?;
         println!(rt; "{line}")?;
     }
     Ok(())
