@@ -1,9 +1,9 @@
 #!/usr/bin/env bash
-# Tries what a newcomer meets: the launcher in a fresh clone where nothing is proved. It is no test of the gate, since each
-# of its six trials takes two minutes, and while the last of them is built a proof goes on, which is then ended. Parts may be
-# named: `trials` (five of them), `untried`, `proving` (the sixth), `started` (a stand-in for a proved program); `ending` is
-# `proving` without its trial. Where the clone's program is proved already (`bench/first_look.sh --proved`), the words of
-# command lines are compared with those of the program itself. Needs git, python3 and rt. Status 0: all is as due.
+# Tries what a newcomer meets: the launcher in a fresh clone where nothing is proved. It is no test of the gate, since each of
+# the two trials that it builds takes some minutes. Parts may be named: `trials` (by the trial that is kept), `untried`,
+# `proving` (beside a proof, which is then ended), `started` (stand-ins for programs), `unkept` (a trial by a kit that can keep
+# none); `ending` is `proving` without its trial. Where the clone's program is proved already (`bench/first_look.sh --proved`),
+# the words of command lines are compared with those of the program itself. Needs git, python3 and rt. Status 0: all is as due.
 set -u
 
 cd "$(dirname "$(readlink -f "$0")")/.." || exit 2
@@ -55,12 +55,20 @@ first_command() {
     cp examples/first.raven "$folder/in"
 }
 
-# What is answered by trials, each of which is built anew.
+# The milliseconds since the first of the epoch.
+millis() {
+    date +%s%3N
+}
+
+# What is answered by the trial that is kept: the first start builds it, and the next ones take a moment.
 trials() {
     local begun=$SECONDS
     first_command
     run play
     due "play, in $((SECONDS - begun)) s" 0 "$folder/journal" "$told"
+    begun=$(millis)
+    run play
+    due "play again, in $(($(millis) - begun)) ms (200, four idle cores)" 0 "$folder/journal" "$told"
 
     cp examples/checked.raven "$folder/in"
     run check
@@ -78,8 +86,51 @@ trials() {
     python3 -c '
 print("@host.toml\ncapacity = 1048576\n@list\nallow * * *\n@steps")
 print("operator tick 1\n" * 60000, end="")' >"$folder/in"
+    python3 -c '
+print("1 operator list [allow * * *] -> accepted 0")
+for n in range(2, 60002): print(n, "operator tick 1 -> accepted 0")' >"$folder/ticked"
     run play
-    due "output past the limit of a trial" 126 "$folder/nothing" 'ravenhost: the trial gave no answer *'
+    due "output past the limit of a trial that isn't kept" 0 "$folder/ticked" "$told"
+
+    "$launcher" play <"$folder" >"$folder/out" 2>"$folder/err"
+    status=$?
+    due "a folder as standard input" 4 "$folder/nothing" "ravenhost: *"
+
+    printf '@list\nallow * * *\n@run\ntick 1\nquit\n' >"$folder/in"
+    run run
+    due "a run" 0 <(printf 'accepted 0\nentries 2\n') "$told"
+    ended_by_signal
+}
+
+# A run whose input stays open ends by SIGTERM, with its last line.
+ended_by_signal() {
+    local starter
+    mkfifo "$folder/commands"
+    "$launcher" run <"$folder/commands" >"$folder/out" 2>"$folder/err" &
+    starter=$!
+    exec 5>"$folder/commands"
+    printf '@list\nallow * * *\n@run\ntick 1\n' >&5
+    for _ in $(seq 100); do [ -s "$folder/out" ] && break; sleep 0.1; done
+    kill -TERM "$starter"
+    wait "$starter"
+    status=$?
+    exec 5>&-
+    due "a run that SIGTERM ends" 0 <(printf 'accepted 0\nentries 2\n') "$told"
+}
+
+# A kit that can keep no trial: its `rt doc` names no page.
+unkept() {
+    local real
+    real=$(command -v rt)
+    mkdir "$folder/other"
+    printf '#!/bin/sh\n[ "$1" != doc ] || exit 1\nexec "%s" "$@"\n' "$real" >"$folder/other/rt"
+    chmod +x "$folder/other/rt"
+    rm -rf "$folder/clone/crates/ravenhost/out/trial"
+    first_command
+    PATH=$folder/other:$PATH run run
+    due "run, where no trial is kept" 126 "$folder/nothing" 'ravenhost: run asks for the proved program*'
+    PATH=$folder/other:$PATH run play
+    due "play by a trial that isn't kept" 0 "$folder/journal" "$told"
 }
 
 # What is answered with no trial.
@@ -87,16 +138,12 @@ untried() {
     local path
     path=$(dirname "$(command -v bash)"):$(dirname "$(command -v awk)")
     : >"$folder/in"
-    run run
-    due "run, not proved" 126 "$folder/nothing" 'ravenhost: run asks for the proved program*'
     run
     due "no words" 2 "$folder/nothing" "For more information, try '--help'."
     run --version
     due "the version" 0 <(echo "ravenhost 1.0.0 (trial, $(rt version))") ''
-    "$launcher" play <"$folder" >"$folder/out" 2>"$folder/err"
-    status=$?
-    due "a folder as standard input" 4 "$folder/nothing" "ravenhost: standard input can't be read"
     (PATH=$path && command -v rt >/dev/null) || {
+        rm -rf "$folder/clone/crates/ravenhost/out/trial"
         PATH=$path run play
         due "no rt" 127 "$folder/nothing" "ravenhost: nothing is proved, a trial has to be built, and rt*"
     }
@@ -134,7 +181,7 @@ end_proof() {
     fi
 }
 
-# While the program is being proved, another start answers by a trial.
+# While the program is being proved, another start answers by the trial that is kept.
 proving() {
     start_proof
     first_command
@@ -149,10 +196,10 @@ ending() {
     end_proof
 }
 
-# A program that is older than a source isn't run, and one that is younger is.
+# A program that is older than a source isn't run, and one that is younger is: the proved one before the trial.
 started() {
-    local program=$folder/clone/crates/ravenhost/out/ravenhost
-    mkdir -p "${program%/*}"
+    local program=$folder/clone/crates/ravenhost/out/ravenhost trial=$folder/clone/crates/ravenhost/out/trial/ravenhost
+    mkdir -p "${trial%/*}"
     # (`run` is given words of the launcher's own behind its first)
     printf '#!/bin/sh\necho proved "$1"\n' >"$program"
     chmod +x "$program"
@@ -164,9 +211,16 @@ started() {
     due "its version" 0 <(echo "ravenhost 1.0.0 (proved, rattle-kit)") ''
     sleep 1
     touch "$folder/clone/crates/rv_text/src/lib.rt"
+    sleep 1
+    printf '#!/bin/sh\necho trial "$1"\n' >"$trial"
+    chmod +x "$trial"
     run run
-    due "a source newer than it" 126 "$folder/nothing" \
-        'ravenhost: run asks for the proved program, and crates/rv_text/src/lib.rt is newer*'
+    due "a source newer than it" 0 <(echo "trial run") "$told"
+    touch "$program"
+    run run
+    due "a proved program beside a trial" 0 <(echo "proved run") ''
+    run run --trial
+    due "the trial beside it" 0 <(echo "trial run") "$told"
 }
 
 : >"$folder/nothing"
@@ -178,9 +232,9 @@ fi
 git clone -q "$top" "$folder/clone" || exit 2
 launcher=$folder/clone/ravenhost
 told='ravenhost: not proved: a trial*'
-if [ $# -eq 0 ]; then set -- trials untried proving started; fi
+if [ $# -eq 0 ]; then set -- trials proving untried unkept started; fi
 for part in "$@"; do
-    case $part in trials | untried | proving | ending | started) "$part" ;; *) echo "bench/first_look.sh: no part is named $part" && exit 2 ;; esac
+    case $part in trials | untried | proving | ending | started | unkept) "$part" ;; *) echo "bench/first_look.sh: no part is named $part" && exit 2 ;; esac
 done
 echo "faults: $faults"
 exit $((faults > 0))
