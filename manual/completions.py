@@ -86,7 +86,10 @@ def described():
         if name not in ("", "help"):
             command.flags = flags(page(f"help-{name}"))
     for left, about in rows(page("launcher"), "Of the script ./ravenhost:"):
-        row = re.fullmatch(r"(?:(\w+) )?(--[\w-]+)(?: ([A-Z]+))?(?: < FILE)?", left)
+        # (a word of the launcher's own is no flag, and isn't completed)
+        if re.fullmatch(r"[a-z]+ FOLDER", left):
+            continue
+        row = re.fullmatch(r"(?:(\w+) )?(--[\w-]+)(?: ([A-Z]+))?", left)
         if not row or (row[1] or "") not in commands:
             sys.exit(f"manual/completions.py: a flag of the launcher of another form: {left!r}")
         commands[row[1] or ""].launcher.append(Flag([row[2]], row[3], about))
