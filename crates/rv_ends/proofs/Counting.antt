@@ -10,9 +10,9 @@ use Rattle.rv_event.specs.declared.entry.Entry.{Entry}
 use Rattle.rv_event.specs.declared.entry.Entry.TheVariants.{Asked, Load, ListChange}
 use Rattle.rv_event.specs.declared.entry.Recorded.{Recorded}
 use Rattle.rv_event.specs.declared.entry.Request.{Request}
-use Rattle.rv_exec.specs.Bodies.{no_bodies, with_unit}
+use Rattle.rv_exec.specs.Bodies.{with_unit}
 use Rattle.rv_history.specs.History.{History}
-use Rattle.rv_history.specs.Legal.{Legal, after, after_list, after_load, empty, entered, out_load}
+use Rattle.rv_history.specs.Legal.{Legal, after, after_list, after_load, entered, out_load}
 use Rattle.rv_history.specs.Owed.{IsSolvent}
 use Rattle.rv_history.specs.declared.limits.Limits.{Limits}
 use Rattle.rv_ends.specs.Afoot.{Afoot, AreAfoot, is_end}

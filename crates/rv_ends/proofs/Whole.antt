@@ -1,5 +1,5 @@
 -- What is kept of a history's bodies stays what is afoot, entry by entry.
-use Rattle.std.proofs.Common.{◌≡◌, inl, inr, ℕ, List, [], ◌∷◌, ◌++◌, Bool, true, false, Option, Some, None, cond, refl, sym, ap, ◌∙◌, subst, map, append_assoc, append-nil}
+use Rattle.std.proofs.Common.{◌≡◌, ℕ, List, [], ◌∷◌, ◌++◌, Bool, true, false, Some, cond, refl, sym, ap, ◌∙◌, subst, map, append_assoc, append-nil}
 use Rattle.std.specs.Prelude.{◌==◌, not, if◌then◌else◌, is_some}
 use Rattle.rv_access.specs.Words.{Words}
 use Rattle.rv_shape.specs.Shape.{Shape}
@@ -13,7 +13,7 @@ use Rattle.rv_event.specs.declared.entry.Request.{Request}
 use Rattle.rv_history.specs.Due.{out}
 use Rattle.rv_history.specs.Fitting.{is_settling}
 use Rattle.rv_history.specs.History.{History}
-use Rattle.rv_history.specs.Legal.{Legal, after, after_list, after_load, empty, entered, out_load}
+use Rattle.rv_history.specs.Legal.{Legal, after, after_list, empty, entered}
 use Rattle.rv_history.specs.declared.limits.Limits.{Limits}
 use Rattle.rv_ends.specs.Afoot.{Afoot, AreAfoot, answered, nothing_afoot, open_view}
 use Rattle.rv_ends.specs.Ends.{AllStopped, IsWhole, TakesTexts, afoot_of, left_stops, of_others}
