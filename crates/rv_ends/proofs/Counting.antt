@@ -18,7 +18,7 @@ use Rattle.rv_history.specs.declared.limits.Limits.{Limits}
 use Rattle.rv_ends.specs.Afoot.{Afoot, AreAfoot, is_end}
 use Rattle.rv_ends.specs.Counts.{AreCounted, Counts, IsFirstOther, Loaded, texts_by}
 use Rattle.rv_ends.specs.Ends.{IsMeaning, IsWhole, TakesAnswered, TakesTexts, afoot_of, is_settled, texts_of}
-use Rattle.rv_ends.specs.Tally.{Awaits, AwaitsBy, Follows, FollowsBy, GoesOn, GoesOnWith, HasFound, IsNoted, NotesEnd, TakesEntry, TakesList, TakesLoad, asked, loads_behind, noted, one_more}
+use Rattle.rv_ends.specs.Tally.{Awaits, AwaitsBy, Follows, FollowsBy, GoesOn, GoesOnWith, HasFound, IsNoted, NotesEnd, TakesEntry, TakesList, TakesLoad, asked, loads_behind, meant_text, noted, one_more, words_of}
 use Rattle.rv_ends.specs.declared.meaning.Meaning.{Meaning}
 use Rattle.rv_ends.specs.declared.meaning.Meaning.TheVariants as meaning
 use Rattle.rv_ends.specs.declared.tally.Found.{Found}
@@ -103,6 +103,12 @@ settled_none old number meaning.WithoutText is none = none
 settled_none old number (meaning.Gives request) is none = absurd cc
 settled_none old number (meaning.Asks request) is none = absurd cc
 
+settled_unsaid : (shapes : List Shape) (m : Meaning) → is_settled m ≡ true → meant_text shapes m ≡ []
+settled_unsaid shapes meaning.Explained is = refl
+settled_unsaid shapes meaning.WithoutText is = refl
+settled_unsaid shapes (meaning.Gives request) is = absurd cc
+settled_unsaid shapes (meaning.Asks request) is = absurd cc
+
 other_is : (old : Found) (number : ℕ) (m : Meaning) → is_settled m ≡ false → (noted old number m).other ≡ Some (number, m)
 other_is old number meaning.Explained is = absurd cc
 other_is old number meaning.WithoutText is = absurd cc
@@ -130,7 +136,7 @@ awaiting t h loads actor request g = subst (λ (o : Option (ℕ × Meaning)). Aw
 pub notes_other : (t : Tally) (h : History) (number actor : ℕ) (request : Request) → is_none t.found.other ≡ true → is_end request ≡ false → NotesEnd t t h number actor request
 notes_other t h number actor request none is = λ loads follows number_is.
     let g = goes_on t h loads none follows in
-    awaiting t h loads actor request (record { whole = g.whole; none = g.none; texts = g.texts; counts = λ word. inl (is, g.counts) })
+    awaiting t h loads actor request (record { whole = g.whole; none = g.none; unsaid = g.unsaid; texts = g.texts; counts = λ word. inl (is, g.counts) })
 
 -- one behind an end whose text means another
 pub notes_nothing : (t : Tally) (h : History) (number actor : ℕ) (request : Request) → is_none t.found.other ≡ false → NotesEnd t t h number actor request
@@ -153,6 +159,7 @@ noted_settled o n h loads number actor request most solvent end g it is =
     (record {
       whole = it.whole;
       none = ap other_of it.found ∙ settled_none o.found number it.meaning is g.none;
+      unsaid = it.words ∙ settled_unsaid h.shapes it.meaning is;
       texts = it.texts ∙ g.texts;
       counts = λ word.
           same_counts (asked h actor request word) loads (noted o.found number it.meaning) n.found it.found
@@ -211,15 +218,16 @@ goes_on_with t h loads actor request none awaits = by_case t.found.other none aw
 behind_answer : (h k : History) (actor : ℕ) (request : Request) (answer : Answer) (word : Recorded) → recorded answer ≡ Some word → k ≡ after h actor request answer → k ≡ asked h actor request word
 behind_answer h k actor request answer word is k_is = k_is ∙ ap (entered h actor request) is
 
-pub took_entry : (o n : Tally) (k : History) (actor : ℕ) (request : Request) (answer : Answer) → is_none o.found.other ≡ true → TakesAnswered o.ends n.ends k actor request answer → n.found ≡ o.found → texts_of n.ends ≡ texts_of o.ends →
+pub took_entry : (o n : Tally) (k : History) (actor : ℕ) (request : Request) (answer : Answer) → is_none o.found.other ≡ true → TakesAnswered o.ends n.ends k actor request answer → n.found ≡ o.found → words_of n ≡ words_of o → texts_of n.ends ≡ texts_of o.ends →
     TakesEntry o n k actor request answer
-took_entry o n k actor request answer none whole found texts = λ h loads word awaits due is k_is.
+took_entry o n k actor request answer none whole found words texts = λ h loads word awaits due is k_is.
     let g = goes_on_with o h loads actor request none awaits in
     let at = behind_answer h k actor request answer word is k_is in
     going n k loads
     (record {
       whole = whole h word g.whole due is k_is;
       none = ap other_of found ∙ g.none;
+      unsaid = words ∙ g.unsaid;
       texts = texts ∙ g.texts;
       counts = same_counts k loads o.found n.found found (subst (λ (x : History). Counts x loads o.found.explained o.found.without_text) (sym at) (g.counts word));
     })
@@ -238,8 +246,8 @@ took_nothing t k actor request answer some = λ h loads word awaits due is k_is.
 behind_recorded : (h k : History) (shape : Shape) → is_some (recorded (out_load h shape)) ≡ true → k ≡ after_load h shape (out_load h shape) → k ≡ record h { past = Load ∷ h.past; shapes = h.shapes ++ shape ∷ [] }
 behind_recorded h k shape some k_is = k_is ∙ ap (λ (b : Bool). if b then record h { past = Load ∷ h.past; shapes = h.shapes ++ shape ∷ [] } else h) some
 
-pub took_load : (o n : Tally) (unit : UnitBodies) → is_none o.found.other ≡ true → TakesTexts o.ends n.ends → n.found ≡ o.found → texts_of n.ends ≡ with_unit unit (texts_of o.ends) → TakesLoad o n unit
-took_load o n unit none whole found texts = λ h k loads shape follows some k_is.
+pub took_load : (o n : Tally) (unit : UnitBodies) → is_none o.found.other ≡ true → TakesTexts o.ends n.ends → n.found ≡ o.found → words_of n ≡ words_of o → texts_of n.ends ≡ with_unit unit (texts_of o.ends) → TakesLoad o n unit
+took_load o n unit none whole found words texts = λ h k loads shape follows some k_is.
     let g = goes_on o h loads none follows in
     let l : Loaded = record { behind = h.shapes; shape = shape; bodies = unit } in
     let counts : Counts (record h { past = Load ∷ h.past; shapes = h.shapes ++ shape ∷ [] }) (l ∷ loads) n.found.explained n.found.without_text =
@@ -249,6 +257,7 @@ took_load o n unit none whole found texts = λ h k loads shape follows some k_is
     (record {
       whole = whole h k shape g.whole some k_is;
       none = ap other_of found ∙ g.none;
+      unsaid = words ∙ g.unsaid;
       texts = texts ∙ ap (λ (t : UnitBodies). with_unit unit t) g.texts;
       counts = subst (λ (x : History). Counts x (l ∷ loads) n.found.explained n.found.without_text) (sym (behind_recorded h k shape some k_is)) counts;
     }))
@@ -283,6 +292,7 @@ took_list t whole = λ h loads list answer follows. by_case h loads list answer 
     by_case h loads list answer None g = record {
       whole = whole h list answer g.whole;
       none = g.none;
+      unsaid = g.unsaid;
       texts = g.texts;
       counts = counted h loads list (is_some (recorded answer)) g.counts;
     }

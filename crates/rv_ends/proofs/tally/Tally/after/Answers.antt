@@ -11,4 +11,4 @@ pub returns : goal.returns
 returns c =
     on_ok_weaker c.take.result
     (λ whole. took_entry c.args.self.now (record c.args.self.now { ends = c.take.new.self }) c.args.host.now c.args.actor c.args.request.now c.args.answer.now
-    (sym c.goes_on.ensures ∙ c.if-not-goes_on.false) whole refl c.take.ensures.texts) c.take.ensures.whole
+    (sym c.goes_on.ensures ∙ c.if-not-goes_on.false) whole refl refl c.take.ensures.texts) c.take.ensures.whole

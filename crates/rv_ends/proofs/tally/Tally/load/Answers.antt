@@ -9,4 +9,4 @@ returns-then-not-goes_on c = loads_nothing c.args.self.now (unit_view c.args.bod
 pub returns : goal.returns
 returns c =
     took_load c.args.self.now (record c.args.self.now { ends = c.load.new.self }) (unit_view c.args.bodies)
-    (sym c.goes_on.ensures ∙ c.if-not-goes_on.false) c.in_ok-load.ensures.whole refl c.in_ok-load.ensures.texts
+    (sym c.goes_on.ensures ∙ c.if-not-goes_on.false) c.in_ok-load.ensures.whole refl refl c.in_ok-load.ensures.texts
