@@ -6,7 +6,7 @@ ghost use Rattle.rv_script.specs.UnitTexts.{without_returns};
 ghost use Rattle.rv_script.specs.Whole.{most_bytes};
 ghost use Rattle.rv_verdict.specs.Audits.{AuditsScript, AuditsText, SaysOf, SaysOfBytes, SaysOfFile, SaysOfSection};
 ghost use Rattle.rv_verdict.specs.Brought.{AreLimits};
-ghost use Rattle.rv_verdict.specs.Judging.{IsFollowed};
+ghost use Rattle.rv_audit.specs.Lines.{IsFollowed};
 ghost use Rattle.rv_verdict.specs.Texts.{texts_now};
 
 use crate::file::{Nobody, Taker, Watch, judge_lines};

@@ -2,11 +2,11 @@ use Rattle.std.proofs.Common.{List, sym, subst}
 use Rattle.std.proofs.lemmas.Result.{err_from_is_err_and}
 use Rattle.rv_shape.specs.Shape.{Shape}
 use Rattle.rv_fault.specs.Written.{IsNoFault}
-use Rattle.rv_verdict.specs.Judging.{Found}
+use Rattle.rv_audit.specs.Lines.{Found}
 use Rattle.rv_history.specs.History.{History}
 use Rattle.rv_verdict.specs.Texts.{texts_now}
-use Rattle.rv_verdict.proofs.Ending.{followed}
-use Rattle.rv_verdict.proofs.Lines.{at_first}
+use Rattle.rv_audit.proofs.Ending.{followed}
+use Rattle.rv_audit.proofs.Lines.{at_first}
 use Rattle.rv_verdict.proofs.Telling.{file_broken, file_fails, file_said}
 use Rattle.rv_verdict.proofs.judging.audit_lines.Goals as goal
 
