@@ -49,6 +49,7 @@ words_of tally = string_bytes tally.words
 pub record GoesOn (tally : Tally) (h : History) (loads : List Loaded) : Type 0 where
   pub whole : IsWhole tally.ends h
   pub none : tally.found.other ≡ None
+  pub unsaid : words_of tally ≡ []
   pub texts : texts_of tally.ends ≡ texts_by loads
   pub counts : Counts h loads tally.found.explained tally.found.without_text
 
@@ -75,6 +76,7 @@ asked h actor request word = record h { past = Asked actor request word ∷ h.pa
 pub record GoesOnWith (tally : Tally) (h : History) (loads : List Loaded) (actor : ℕ) (request : Request) : Type 0 where
   pub whole : IsWhole tally.ends h
   pub none : tally.found.other ≡ None
+  pub unsaid : words_of tally ≡ []
   pub texts : texts_of tally.ends ≡ texts_by loads
   pub counts : (word : Recorded) → Counts (asked h actor request word) loads tally.found.explained tally.found.without_text
 

@@ -130,7 +130,7 @@ impl Ends {
     // Puts the bodies of a unit that was loaded behind the others.
     fn add_texts(&mut self, bodies: UnitBodies) -> Result<(), AllocError>
         ensures texts { OnOk result (texts_of self.new ≡ with_unit (unit_view bodies) (texts_of self.old)) }
-        ensures same { (afoot_of self.new ≡ afoot_of self.old) × (self.new.stops ≡ self.old.stops) }
+        ensures same { (afoot_of self.new ≡ afoot_of self.old) × (self.new.stops.items ≡ self.old.stops.items) }
     {
         self.bodies.add(bodies)
     }
@@ -144,7 +144,6 @@ impl Ends {
     }
 
     /// Does nothing. Its clause says that a list, however it was answered, changes nothing of what is kept.
-    #[tactic(auto, using(crate::proofs::Whole::whole_by_list))]
     pub fn set_list(&self)
         ensures { (h : History) (list : List Words) (answer : Answer) → IsWhole self.now h →
             IsWhole self.now (after_list h (Some list) answer) }
@@ -161,7 +160,7 @@ impl Ends {
         answer: &Answer,
     ) -> Result<(), AllocError>
         ensures afoot { OnOk result (afoot_of self.new ≡ answered host.now.shapes host.now.past actor request.now answer.now (afoot_of self.old)) }
-        ensures same { (self.new.bodies ≡ self.old.bodies) × (self.new.stops ≡ self.old.stops) }
+        ensures same { (self.new.bodies ≡ self.old.bodies) × (self.new.stops.items ≡ self.old.stops.items) }
     {
         let start = started(
             host,

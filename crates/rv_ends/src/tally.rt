@@ -88,7 +88,6 @@ fn meant_text(alloc: Global, catalogue: &Catalogue, meaning: &Meaning) -> Result
 
 impl Tally {
     /// Before the first entry of a journal.
-    #[tactic(auto, using(crate::proofs::Counting::at_first))]
     pub fn new(alloc: Global) -> Tally
         ensures { (limits : Limits) → Follows result (empty limits) [] }
     {
@@ -134,7 +133,7 @@ impl Tally {
         actor: usize,
         end: &Request,
     ) -> Result<(), AllocError>
-        ensures { IsWhole self.old.ends host.now → OnOk result (IsNoted self.old self.new host.now number actor end.now) }
+        ensures { OnOk result (IsWhole self.old.ends host.now → IsNoted self.old self.new host.now number actor end.now) }
     {
         // The check is told of these types only where they are named.
         let _exit: Option<Exit> = None;
@@ -193,7 +192,8 @@ impl Tally {
         if !self.goes_on() {
             return Ok(());
         }
-        self.ends.load(bodies)
+        self.ends.load(bodies)?;
+        Ok(())
     }
 
     /// Takes a list, however it was answered. It does nothing, since what is kept doesn't depend on lists.
