@@ -4,7 +4,6 @@ use Rattle.std.specs.Fmt.{decimal}
 use Rattle.std.specs.Io.KnownBytes.{Appends}
 use Rattle.rv_shape.specs.Shape.{Shape}
 use Rattle.rv_event.specs.Text.{request_text}
-use Rattle.rv_event.specs.declared.entry.Request.{Request}
 use Rattle.rv_history.specs.declared.limits.Limits.{Limits}
 use Rattle.rv_history.specs.History.{History}
 use Rattle.rv_audit.specs.Torn.{IsJournalBut}

@@ -46,12 +46,7 @@ fn counted_line(alloc: Global, explained: usize, without_text: usize) -> Result<
 }
 
 // The line of an entry whose text means another request, told by these words: that it gives it, or asks it.
-fn words_line(
-    alloc: Global,
-    number: usize,
-    verb: &str,
-    words: &str,
-) -> Result<String, AllocError>
+fn words_line(alloc: Global, number: usize, verb: &str, words: &str) -> Result<String, AllocError>
     ensures { IfOk result (λ line. string_bytes line ≡ words_line number verb.now words.now) }
 {
     format!(in alloc; "entry {number}: its text {verb} {words}\n")
@@ -115,6 +110,7 @@ impl<'t> Explainer<'t> {
 impl<'t> Observer for Explainer<'t> {
     ghost follows = { λ begun explainer units h. (texts_now explainer.texts.now ≡ texts_now begun.texts.now)
         × FollowsBy units (texts_now explainer.texts.now) explainer.tally h };
+
     ghost awaits = { λ begun explainer units h told. (texts_now explainer.texts.now ≡ texts_now begun.texts.now)
         × AwaitsBy units (texts_now explainer.texts.now) explainer.tally h told };
 
@@ -152,7 +148,8 @@ impl<'t> Observer for Explainer<'t> {
     ) -> Result<(), AllocError> {
         match *deed {
             Deed::Asks(actor, request, _) => self.tally.after(host, actor, &request, answer),
-            Deed::Loads(_, _, _) | Deed::Lists(_, _, _) => Ok(()),
+            Deed::Loads(_, _, _) => Ok(()),
+            Deed::Lists(_, _, _) => Ok(()),
         }
     }
 }

@@ -1,4 +1,4 @@
-use Rattle.std.proofs.Common.{◌∙◌, ap, ℕ, List, sym, subst}
+use Rattle.std.proofs.Common.{◌∙◌}
 use Rattle.std.proofs.lemmas.Result.{err_from_is_err_and}
 use Rattle.rv_fault.specs.declared.failure.Failure.TheVariants.{Memory}
 use Rattle.rv_verdict.proofs.EndsSaid.{ends_broken, ends_fail, ends_said, its_line}

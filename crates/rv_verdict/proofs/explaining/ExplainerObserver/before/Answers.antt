@@ -7,8 +7,8 @@ use Rattle.rv_verdict.proofs.explaining.ExplainerObserver.before.Goals as goal
 pub returns-in-Asks : goal.returns-in-Asks
 returns-in-Asks c =
     let texts = texts_now c.args.self.now.texts.now in
-    noted_from (λ (e : Explainer). texts_now e.texts.now) c.args.self.now.tally c.before.new.self c.args.units.now texts c.args.host.now c.args.number (told c.args.deed.now) c.before.result
-    (deed_asks_noted c.args.self.now.tally c.before.new.self c.args.units.now texts c.args.host.now c.args.number c.args.deed.now c.in-Asks.actor c.in-Asks.request c.in-Asks.field-2 c.before.result c.in-Asks.is c.before.ensures)
+    noted_from (λ (e : Explainer). texts_now e.texts.now) c.args.self.now.tally c.before-in-Asks.new.self c.args.units.now texts c.args.host.now c.args.number (told c.args.deed.now) c.before-in-Asks.result
+    (deed_asks_noted c.args.self.now.tally c.before-in-Asks.new.self c.args.units.now texts c.args.host.now c.args.number c.args.deed.now c.in-Asks.actor c.in-Asks.request c.in-Asks.field-2 c.before-in-Asks.result c.in-Asks.is c.before-in-Asks.ensures)
 
 pub returns-in-Loads : goal.returns-in-Loads
 returns-in-Loads c =
