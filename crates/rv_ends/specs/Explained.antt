@@ -24,6 +24,7 @@ use Rattle.rv_history.specs.Due.{out}
 use Rattle.rv_history.specs.Fitting.{is_settling}
 use Rattle.rv_history.specs.History.{History}
 use Rattle.rv_history.specs.Legal.{Legal}
+use Rattle.rv_history.specs.Owed.{actors}
 use Rattle.rv_ends.specs.Afoot.{Afoot, AreAfoot, Open}
 use Rattle.rv_ends.specs.declared.afoot.Start.{Start}
 
@@ -183,6 +184,24 @@ pub record AsksBehind (bodies : UnitBodies) (shapes : List Shape) (body : Open) 
   pub follows : Follows shapes body.start.held front before
   pub asks : Along (operation_run_at bodies body.start.held body.start.object body.start.operation body.start.values body.start.components) (before ++ (request, Full) ∷ behind) end
   pub is_other : (answer : Answer) (rest : Trace) → left ≡ (request, answer) ∷ rest → stands answer ≡ true
+
+-- none of these answers left its request standing, as no recorded one does
+abbrev pub NoneStands : Trace → Type 0
+NoneStands [] = Unit {0}
+NoneStands (pair ∷ more) = (stands pair.1 ≡ false) × NoneStands more
+
+-- behind such an ask the text goes on with all that is left, ends by stopped, and ends by this request: had the ask stopped its
+-- actor, that would explain the end
+abbrev pub FitsStop : (bodies : UnitBodies) (shapes : List Shape) (body : Open) (request : Request) → AsksBehind bodies shapes body request → Request → Type 0
+FitsStop bodies shapes body request asks end =
+    (asks.left ≡ asks.behind) × AreStoppedEnds asks.behind × NoneStands asks.behind
+    × (end ≡ end_of_body (operation_of bodies body.start.object body.start.operation) asks.end)
+
+-- an ask would stop its actor right behind a history: one that there is, and that has nothing to settle
+abbrev pub StopsHere : History → ℕ → Request → Type 0
+StopsHere h actor ask =
+    (nat_lt actor (actors h.shapes) ≡ true) × (is_settling (mode h.shapes actor h.past) ≡ false)
+    × (stops_bodies (out h actor ask) ≡ true)
 
 -- This end of an actor's innermost body, behind this history, is what its text among these bodies means; and it has one, as those
 -- have that it called.
