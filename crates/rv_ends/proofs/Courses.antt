@@ -116,6 +116,7 @@ course_is bodies shapes body end is_function q exit left trace found texts code 
             follows = s.follows;
             asks = subst (λ (t : Trace). Along (operation_run_at bodies body.start.held body.start.object body.start.operation body.start.values body.start.components) t (exit, left)) s.trace_is along;
             is_other = s.is_other;
+            is_asked = s.is_asked;
           },
           λ only fits.
               let there = winds_up s.at q s.behind other s.at_other s.plays (s.at_left ∙ fits.0) fits.1 fits.2 in

@@ -6,7 +6,7 @@ use Rattle.rv_event.specs.declared.entry.Answer.{Answer}
 use Rattle.rv_event.specs.declared.entry.Answer.TheVariants.{Full}
 use Rattle.rv_event.specs.declared.entry.Request.{Request}
 use Rattle.rv_exec.specs.Asking.{Trace, stands}
-use Rattle.rv_ends.specs.Explained.{AreStoppedEnds, Follows, FollowsToStop, NoneStands, is_stopped_end}
+use Rattle.rv_ends.specs.Explained.{AreStoppedEnds, Follows, FollowsToStop, NoneStands, held_behind, is_stopped_end, is_unasked}
 use Rattle.rv_ends.specs.Following.{Goes, Place, Plays, gone_on, may_follow, missed, missed_by}
 
 some_is_none : {A X : Type 0} (a : A) → Some a ≡ None → X
@@ -99,6 +99,7 @@ pub record ComesToOther (p q : Place) (trace : Trace) (other : Request) : Type 0
   pub trace_is : trace ≡ before ++ (other, Full) ∷ behind
   pub follows : Follows p.shapes p.held front before
   pub is_other : (answer : Answer) (rest : Trace) → left ≡ (other, answer) ∷ rest → stands answer ≡ true
+  pub is_asked : is_unasked p.shapes (held_behind p.held front) other ≡ false
   -- the place behind it, and what is played from there
   pub at : Place
   pub at_left : at.asked ≡ left
@@ -122,8 +123,8 @@ not_false None r e f = true_is_false f
 not_false (Some y) r e f = some_is_none y e
 
 -- so it does with one ask more before it
-comes_on : (p m q : Place) (pair : Request × Answer) (trace : Trace) (x : Request) (s : ComesToOther m q trace x) (front : Trace) → m.is_broken ≡ p.is_broken → p.asked ≡ front ++ s.left → Follows p.shapes p.held front (pair ∷ s.before) → ComesToOther p q (pair ∷ trace) x
-comes_on p m q pair trace x s front whole is follows = record {
+comes_on : (p m q : Place) (pair : Request × Answer) (trace : Trace) (x : Request) (s : ComesToOther m q trace x) (front : Trace) → m.is_broken ≡ p.is_broken → p.asked ≡ front ++ s.left → Follows p.shapes p.held front (pair ∷ s.before) → is_unasked p.shapes (held_behind p.held front) x ≡ false → ComesToOther p q (pair ∷ trace) x
+comes_on p m q pair trace x s front whole is follows asked = record {
   front = front;
   left = s.left;
   before = pair ∷ s.before;
@@ -132,6 +133,7 @@ comes_on p m q pair trace x s front whole is follows = record {
   trace_is = ap (λ (l : Trace). pair ∷ l) s.trace_is;
   follows = follows;
   is_other = s.is_other;
+  is_asked = asked;
   at = s.at;
   at_left = s.at_left;
   at_whole = s.at_whole ∙ whole;
@@ -146,10 +148,10 @@ comes_to_other p q (pair ∷ trace) x none h other = by_case (λ m_none. comes_t
     by_case : (h.0.other ≡ None → ComesToOther h.0 q trace x) → Goes p pair h.0 → ComesToOther p q (pair ∷ trace) x
     by_case later (inl g) =
         let s = subst (λ (r : Place). ComesToOther r q trace x) g.3 (later (ap (λ (r : Place). r.other) g.3 ∙ none)) in
-        comes_on p p q pair trace x s s.front refl s.recorded_is (inl (g.1, g.2, s.follows))
+        comes_on p p q pair trace x s s.front refl s.recorded_is (inl (g.1, g.2, s.follows)) s.is_asked
     by_case later (inr (inl g)) =
         let s = subst (λ (r : Place). ComesToOther r q trace x) g.4 (later (ap (λ (r : Place). r.other) g.4 ∙ none)) in
-        comes_on p (gone_on p g.2 pair.1) q pair trace x s (pair ∷ s.front) refl (g.3 ∙ ap (λ (l : Trace). pair ∷ l) s.recorded_is) (inr (g.0 none, s.front, refl, s.follows))
+        comes_on p (gone_on p g.2 pair.1) q pair trace x s (pair ∷ s.front) refl (g.3 ∙ ap (λ (l : Trace). pair ∷ l) s.recorded_is) (inr (g.0 none, s.front, refl, s.follows)) s.is_asked
     by_case later (inr (inr g)) =
         let first = first_missed p.other p pair.0 refl none in
         let m_other : h.0.other ≡ Some pair.0 = ap (λ (r : Place). r.other) g.3 ∙ first.0 in
@@ -163,6 +165,7 @@ comes_to_other p q (pair ∷ trace) x none h other = by_case (λ m_none. comes_t
           trace_is = ap (λ (y : Request × Answer). y ∷ trace) (pair_is pair x same g.0);
           follows = refl;
           is_other = λ answer rest at. stands_only answer (g.2 answer rest (at ∙ ap (λ (r : Request). (r, answer) ∷ rest) (sym same)));
+          is_asked = subst (λ (r : Request). is_unasked p.shapes p.held r ≡ false) same (g.1 none);
           at = h.0;
           at_left = ap (λ (r : Place). r.asked) g.3 ∙ first.1;
           at_whole = ap (λ (r : Place). r.is_broken) g.3 ∙ first.2;

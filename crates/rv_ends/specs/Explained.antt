@@ -49,6 +49,11 @@ held_after held (Started components) = if nat_lt held 16 then suc held else held
 held_after held (Done next) = held - 1
 held_after held answer = held
 
+-- so many are behind all of these
+abbrev pub held_behind : ℕ → Trace → ℕ
+held_behind held [] = held
+held_behind held (pair ∷ more) = held_behind (held_after held pair.1) more
+
 -- Traces
 
 -- A trace is what was recorded, by an actor that holds so many objects at first, with the calls between that aren't asked.
@@ -173,7 +178,8 @@ pub record EndsBy (bodies : UnitBodies) (shapes : List Shape) (body : Open) (req
   pub follows : Follows shapes body.start.held front trace
   pub ends : Ends bodies body.start trace request
 
--- the text of a body asks this request, where it follows a front of what was recorded, and it isn't what was recorded next
+-- the text of a body asks this request, where it follows a front of what was recorded, and it isn't what was recorded next, nor a
+-- call that isn't asked
 pub record AsksBehind (bodies : UnitBodies) (shapes : List Shape) (body : Open) (request : Request) : Type 0 where
   pub front : Trace
   pub left : Trace
@@ -184,6 +190,7 @@ pub record AsksBehind (bodies : UnitBodies) (shapes : List Shape) (body : Open) 
   pub follows : Follows shapes body.start.held front before
   pub asks : Along (operation_run_at bodies body.start.held body.start.object body.start.operation body.start.values body.start.components) (before ++ (request, Full) ∷ behind) end
   pub is_other : (answer : Answer) (rest : Trace) → left ≡ (request, answer) ∷ rest → stands answer ≡ true
+  pub is_asked : is_unasked shapes (held_behind body.start.held front) request ≡ false
 
 -- none of these answers left its request standing, as no recorded one does
 abbrev pub NoneStands : Trace → Type 0
