@@ -50,15 +50,10 @@ fn entries_read(alloc: Global, audit: &Audit, journal: &str) -> usize {
     entries
 }
 
-// The verdict on a journal over the units of a script.
-fn judged(
-    alloc: Global,
-    audit: &mut Audit,
-    script: &Script<'_>,
-    journal: &str,
-) -> io::Result<Verdict> {
+// The verdict on a journal over the units of a script. No read of a text fails.
+fn judged(alloc: Global, audit: &mut Audit, script: &Script<'_>, journal: &str) -> Verdict {
     let mut bytes = journal.as_bytes();
-    let (verdict, _) = judge_lines(
+    let judged = judge_lines(
         alloc,
         audit,
         script.units.as_slice(),
@@ -66,8 +61,11 @@ fn judged(
         false,
         &mut Nobody {},
         &mut Nobody {},
-    )?;
-    Ok(verdict)
+    );
+    match judged {
+        Ok((verdict, _)) => verdict,
+        Err(_) => Verdict::NoMemory,
+    }
 }
 
 // What is found of the journal of a script.
@@ -75,7 +73,7 @@ fn found(alloc: Global, script: &Script<'_>) -> io::Result<String> {
     let Ok(mut audit) = Audit::new(alloc, script.capacity, script.limit) else {
         return String::from_str(alloc, "no audit\n").map_err(|e| io::Error::from(e));
     };
-    let verdict = judged(alloc, &mut audit, script, script.journal)?;
+    let verdict = judged(alloc, &mut audit, script, script.journal);
     if let Verdict::Legal(entries) = verdict {
         let read = entries_read(alloc, &audit, script.journal);
         if read != entries {
@@ -90,7 +88,7 @@ fn verdict_on(alloc: Global, script: &Script<'_>, journal: &str) -> io::Result<S
     let Ok(mut audit) = Audit::new(alloc, script.capacity, script.limit) else {
         return String::from_str(alloc, "no audit\n").map_err(|e| io::Error::from(e));
     };
-    let verdict = judged(alloc, &mut audit, script, journal)?;
+    let verdict = judged(alloc, &mut audit, script, journal);
     said(alloc, &audit, &verdict)
 }
 
