@@ -3,7 +3,7 @@ use Rattle.std.specs.Prelude.{◌≡◌, ◌⊎◌, ℕ, zero, suc, ◌+◌, ◌
 use Rattle.rv_behind.specs.declared.event.Ask.{Ask}
 use Rattle.rv_event.specs.declared.entry.Answer.{Answer}
 use Rattle.rv_event.specs.declared.entry.Request.TheVariants as asks
-use Rattle.rv_pace.specs.Pacing.{Pacing, missed}
+use Rattle.rv_pace.specs.Pacing.{IsPeriod, Pacing, missed}
 use Rattle.rv_port.specs.Controls.{Told}
 use Rattle.rv_port.specs.Traces.{Passing}
 use Rattle.rv_turn.specs.Passes.{IsWorn}
@@ -25,14 +25,14 @@ pub record Ticks (v w : Passing) (old new : Pacing) (now : ℕ) : Type 0 where
   pub asks : AsksInAll count (missed old now) v w
   pub asked : new ≡ record old { asked = old.asked + missed old now }
 
--- a clock is followed from a moment on, with such a period, unless it can't be read
-abbrev pub Begins : Option ℕ → Option Pacing → Type 0
-Begins None new = new ≡ None
-Begins (Some period) new =
-    (new ≡ None) ⊎ ((now : ℕ) × (new ≡ Some (record { start = now; period = period; asked = 0 })))
+-- a clock is followed from a moment on, with such a period, where it is one
+abbrev pub Begins : Option ℕ → ℕ → Option Pacing → Type 0
+Begins None now new = new ≡ None
+Begins (Some period) now new =
+    (IsPeriod period × (new ≡ Some (record { start = now; period = period; asked = 0 }))) ⊎ ((IsPeriod period → ⊥) × (new ≡ None))
 
--- the same at the moment that the clock tells, where it is followed and can be read; else nothing is asked
-abbrev pub KeepsPace : Passing → Passing → Option ℕ → Option Pacing → Option Pacing → Type 0
-KeepsPace v w period None new = (w ≡ v) × Begins period new
-KeepsPace v w period (Some old) new =
-    ((w ≡ v) × (new ≡ Some old)) ⊎ ((now : ℕ) × (after : Pacing) × (new ≡ Some after) × Ticks v w old after now)
+-- At a reading of the clock the ticks are asked that are due then; the first one begins it. Without a reading nothing is asked.
+abbrev pub KeepsPace : Passing → Passing → Option ℕ → Option ℕ → Option Pacing → Option Pacing → Type 0
+KeepsPace v w period None old new = (w ≡ v) × (new ≡ old)
+KeepsPace v w period (Some now) None new = (w ≡ v) × Begins period now new
+KeepsPace v w period (Some now) (Some old) new = (after : Pacing) × (new ≡ Some after) × Ticks v w old after now

@@ -3,7 +3,7 @@
 #![tactic(auto)]
 
 mod attention;
-mod chores;
+mod beside;
 mod closing;
 mod coming;
 mod console;

@@ -1,6 +1,6 @@
 //! The host's clock follows a real one.
 
-ghost use Rattle.std.specs.Prelude.{◌≡◌, ◌≤◌};
+ghost use Rattle.std.specs.Prelude.{◌≡◌, ◌≤◌, None, option_map};
 ghost use Rattle.std.specs.Time.{instant_nanos};
 ghost use Rattle.rv_attend.specs.Chores.{Chores};
 ghost use Rattle.rv_attend.specs.Ticking.{AsksOf, Begins, KeepsPace, Ticks};
@@ -33,36 +33,44 @@ fn tick<T: Wait>(rt: &T, staff: &mut Staff, pace: &mut Pace, now: Instant)
     }
 }
 
-// A clock that is followed from now on, with such a period, where it can be read.
-fn begun<T: Clock>(rt: &T, period: Option<u64>) -> Option<Pace>
-    ensures { Begins period result }
+// A clock that is followed from a moment on, with such a period.
+fn begun(period: Option<u64>, now: Instant) -> Option<Pace>
+    ensures { Begins period (instant_nanos now) result }
 {
-    let Some(period) = period else {
-        return None;
-    };
-    match Instant::now(rt) {
-        Ok(now) => Pace::new(now, period),
-        Err(_) => None,
+    match period {
+        Some(period) => Pace::new(now, period),
+        None => None,
     }
 }
 
-/// Asks the ticks that are due now, where a clock is followed and can be read. At the first look it begins.
-pub(crate) fn keep_pace<T: Wait + Clock>(
+/// What the clock tells, where one is followed and can be read.
+pub(crate) fn reading<T: Clock>(rt: &T, period: Option<u64>) -> Option<Instant>
+    ensures { period ≡ None → result ≡ None }
+{
+    match period {
+        Some(_) => Instant::now(rt).ok(),
+        None => None,
+    }
+}
+
+/// Asks the ticks that are due at a reading of the clock. The first one begins it; without one nothing is asked.
+pub(crate) fn keep_pace<T: Wait>(
     rt: &T,
     staff: &mut Staff,
     period: Option<u64>,
+    reading: Option<Instant>,
     pace: &mut Option<Pace>,
 )
-    ensures ticks { KeepsPace staff.old.control staff.new.control period pace.old pace.new }
+    ensures ticks { KeepsPace staff.old.control staff.new.control period (option_map instant_nanos reading) pace.old pace.new }
     ensures chores { Chores staff.old.control staff.new.control }
     ensures crew { staff.new.crew ≡ staff.old.crew }
 {
+    let Some(now) = reading else {
+        return;
+    };
     match pace {
-        Some(pace) => match Instant::now(rt) {
-            Ok(now) => tick(rt, staff, pace, now),
-            Err(_) => {}
-        },
-        None => *pace = begun(rt, period),
+        Some(pace) => tick(rt, staff, pace, now),
+        None => *pace = begun(period, now),
     }
 }
 
