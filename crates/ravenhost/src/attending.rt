@@ -2,10 +2,12 @@
 
 use crate::errors::StandardError;
 use crate::status::Stop;
-use rv_attend::{Follower, KeptFailure, Outputs, run_kept};
+use rv_attend::{Follower, run_kept};
 use rv_fault::Failure;
+use rv_input::Input;
 use rv_keep::Held;
 use rv_outlet::{Outlet, is_unread};
+use rv_run::outputs::{KeptFailure, Outputs};
 use rv_staff::Hires;
 use std::io;
 use std::io::Write;
@@ -18,6 +20,7 @@ pub fn attend<R: Threads + Wait + Clock + Eprint, H: Hires, W: Write + Drop, F: 
     rt: &R,
     hires: &H,
     is_coloured: bool,
+    input: &mut Input,
     follower: &mut Follower<'_, R, F>,
     writer: W,
 ) -> (Result<(), KeptFailure>, io::Result<()>) {
@@ -25,7 +28,7 @@ pub fn attend<R: Threads + Wait + Clock + Eprint, H: Hires, W: Write + Drop, F: 
         writer: Held::new(follower.alloc, writer),
         errors: StandardError { rt, is_coloured },
     };
-    let done = run_kept(rt, hires, follower, &mut outputs);
+    let done = run_kept(rt, hires, input, follower, &mut outputs);
     let flushed = match &done {
         Err(KeptFailure::File(_)) => Ok(()),
         _ => outputs.writer.flush(),

@@ -16,6 +16,7 @@ use rv_feed::Listening;
 use rv_input::{Before, Input};
 use rv_keep::{Keeper, Syncing};
 use rv_run::command::of_io;
+use rv_run::outputs::Outputs;
 use rv_run::run::run;
 use rv_staff::Hires;
 use std::alloc::Global;
@@ -55,23 +56,26 @@ fn told_before<R: Eprint, I: Read>(
 }
 
 /// Runs the host of a script, after its notes were told.
-pub fn run_script<R: Threads + Wait + Eprint, H: Hires, I: Read, W: Write>(
+pub fn run_script<R: Threads + Wait + Eprint, H: Hires, I: Read, W: Write + Drop>(
     rt: &R,
     hires: &H,
     alloc: Global,
     telling: Telling,
     reader: &mut I,
-    writer: &mut W,
+    writer: W,
 ) -> Result<(), Stop> {
-    let mut errors = StandardError {
-        rt,
-        is_coloured: telling.is_coloured,
+    let mut outputs = Outputs {
+        writer,
+        errors: StandardError {
+            rt,
+            is_coloured: telling.is_coloured,
+        },
     };
     let before = told_before(rt, alloc, telling, reader)?;
     let script = before.sections.as_slice();
     let read = script.chain(before.rest.as_slice());
     let mut whole = read.chain(reader);
-    let done = run(rt, hires, alloc, &mut whole, writer, &mut errors);
+    let done = run(rt, hires, alloc, &mut whole, &mut outputs);
     ended(rt, alloc, telling, script, done)
 }
 
@@ -128,12 +132,14 @@ where
         keeper,
         attention_of(&words, telling, means.terminals),
     );
-    put_back(&mut follower.input, &before)?;
+    let mut input = Input::new(alloc);
+    put_back(&mut input, &before)?;
     let mut outlet = outlet_of(rt, alloc, means.aides)?;
     let (done, flushed) = attend(
         rt,
         means.hires,
         telling.is_coloured,
+        &mut input,
         &mut follower,
         &mut outlet,
     );

@@ -2,29 +2,20 @@
 -- what is due is asked of the host. (own)
 use Rattle.std.specs.Prelude.{◌≡◌, ◌⊎◌, ℕ, ◌≤◌, zero, suc, List, [], ◌++◌, Bool, true, false, Some, Result, Ok, Err}
 use Rattle.std.specs.Io.KnownBytes.{Keeps}
-use Rattle.rv_fault.specs.declared.failure.Failure.{Failure}
 use Rattle.rv_input.specs.Coming.{Reading}
 use Rattle.rv_port.specs.Traces.{Passing}
 use Rattle.rv_staff.specs.Giving.{Starts}
 use Rattle.rv_staff.specs.Saying.{Known}
 use Rattle.rv_staff.specs.Staffs.{Staffed}
 use Rattle.rv_attend.specs.Chores.{Chores}
+use Rattle.rv_run.specs.Beside.{Ended, IsOfRun}
 use Rattle.rv_run.specs.Finishing.{Served}
 use Rattle.rv_run.specs.ServingLines.{ServesNext, most_commands}
 use Rattle.rv_run.specs.Staging.{Outcome, ReadsNothing, Stage, stage}
 use Rattle.rv_run.specs.declared.command.Goes.{Goes}
 use Rattle.rv_run.specs.declared.command.Goes.TheVariants.{On, Out}
-use Rattle.rv_attend.specs.declared.follower.KeptFailure.{KeptFailure}
-use Rattle.rv_attend.specs.declared.follower.KeptFailure.TheVariants.{Run}
-
--- what an attended run comes to
-abbrev pub Ended : Type 0
-Ended = Result (Unit {0}) KeptFailure
-
--- an attended run does what one that isn't attended does
-abbrev pub IsOfRun : {X : Type 0} → Result X Failure → Result X KeptFailure → Type 0
-IsOfRun (Ok x) result = result ≡ Ok x
-IsOfRun (Err failure) result = result ≡ Err (Run failure)
+use Rattle.rv_run.specs.declared.outputs.KeptFailure.{KeptFailure}
+use Rattle.rv_run.specs.declared.outputs.KeptFailure.TheVariants.{Run}
 
 -- nothing but what came of the input can be read
 abbrev pub come : Staffed → Known → Reading → Stage

@@ -6,7 +6,7 @@ use Rattle.rv_staff.specs.Staffs.{Staffed}
 use Rattle.rv_attend.specs.Chores.{Chores}
 use Rattle.rv_attend.specs.KeepingRuns.{KeepsOn}
 use Rattle.rv_attend.specs.declared.attention.Attention.{Attention}
-use Rattle.rv_attend.specs.declared.follower.KeptFailure.{KeptFailure}
+use Rattle.rv_run.specs.declared.outputs.KeptFailure.{KeptFailure}
 
 -- what an attended run is at: its operator and threads, what its file has, the entry that is written there next, and what is asked of it
 pub record State : Type 0 where

@@ -4,3 +4,4 @@ pub mod Chores
 pub mod Attending
 pub mod KeepingRuns
 pub mod Lasting
+pub mod Holding

@@ -9,7 +9,7 @@ use crate::follower::Follower;
 use rv_console::{Word, word_of};
 use rv_fault::Failure;
 use rv_run::command::{Goes, after};
-use rv_run::run::wrote;
+use rv_run::leaving::wrote;
 use rv_staff::{Session, say};
 use std::io;
 use std::io::Write;
@@ -63,7 +63,6 @@ fn show<T: Wait, W: Write, F>(
     writer: &mut W,
 ) -> Result<Goes, Failure>
     ensures later { Later session.old.staff.control session.new.staff.control }
-    ensures input { follower.new.input ≡ follower.old.input }
     ensures keeper { follower.new.keeper ≡ follower.old.keeper }
     ensures asked { follower.new.asked ≡ follower.old.asked }
 {
@@ -86,7 +85,6 @@ pub(crate) fn answer_word<T: Wait, W: Write, F>(
     ensures plain { follower.old.asked.console ≡ None → (result ≡ None) × (W.contents writer.new ≡ W.contents writer.old) }
     ensures none { IfNone result (session.new.staff ≡ session.old.staff) }
     ensures later { Later session.old.staff.control session.new.staff.control }
-    ensures input { follower.new.input ≡ follower.old.input }
     ensures keeper { follower.new.keeper ≡ follower.old.keeper }
     ensures asked { follower.new.asked ≡ follower.old.asked }
 {

@@ -1,6 +1,6 @@
 //! What an attended run has beside its host.
 
-ghost use Rattle.std.specs.Prelude.{◌≡◌, []};
+ghost use Rattle.std.specs.Prelude.{◌≡◌};
 
 use crate::attention::Attention;
 use crate::explaining::Given;
@@ -8,22 +8,17 @@ use crate::room::Room;
 use crossbeam_channel::Receiver;
 use rv_console::Console;
 use rv_crew::notice::Notice;
-use rv_fault::Failure;
 use rv_feed::Listening;
-use rv_input::Input;
 use rv_keep::Keeper;
 use rv_pace::Pace;
 use std::alloc::Global;
-use std::io;
 
-/// What an attended run has beside its host: the input that a thread reads, the file, and the clock that is followed.
+/// What an attended run has beside its host: whence its input comes, the file, and the clock that is followed.
 #[derive(Drop)]
 pub struct Follower<'a, T, F> {
     /// Where memory is taken from.
     pub alloc: Global,
-    /// The input, of which some may have been read.
-    pub input: Input,
-    /// Whence more of it comes.
+    /// Whence its input comes, which a thread reads.
     pub source: Listening<'a, T>,
     /// The file.
     pub keeper: Keeper<F>,
@@ -41,7 +36,7 @@ pub struct Follower<'a, T, F> {
 }
 
 impl<'a, T, F> Follower<'a, T, F> {
-    /// Before the run, of whose input nothing was read.
+    /// Before the run.
     pub fn new(
         alloc: Global,
         source: Listening<'a, T>,
@@ -50,11 +45,9 @@ impl<'a, T, F> Follower<'a, T, F> {
     ) -> Follower<'a, T, F>
         ensures keeper { result.keeper ≡ keeper }
         ensures asked { result.asked ≡ asked }
-        ensures input { result.input ≡ record { ahead = []; given = 0 } }
     {
         Follower {
             alloc,
-            input: Input::new(alloc),
             source,
             keeper,
             asked,
@@ -65,20 +58,4 @@ impl<'a, T, F> Follower<'a, T, F> {
             given: Given::new(alloc),
         }
     }
-}
-
-/// Why a run that keeps its journal ends before its work is done.
-#[derive(Drop)]
-pub enum KeptFailure {
-    /// As a run without a file.
-    Run(Failure),
-    /// A write to the file, or its sync, failed.
-    File(io::Error),
-}
-
-/// What is written to the operator, and what is told beside that.
-#[derive(Drop)]
-pub struct Outputs<W, E> {
-    pub writer: W,
-    pub errors: E,
 }

@@ -3,6 +3,8 @@
 #![tactic(auto)]
 
 mod attention;
+mod chores;
+mod closing;
 mod coming;
 mod console;
 mod due;
@@ -11,11 +13,11 @@ mod follower;
 mod kept;
 mod notes;
 mod room;
-mod serving;
 mod telling;
+mod tending;
 mod ticking;
 mod waiting;
 
 pub use attention::{Attention, Typing};
-pub use follower::{Follower, KeptFailure, Outputs};
+pub use follower::Follower;
 pub use kept::run_kept;

@@ -4,6 +4,7 @@ ghost use Rattle.std.specs.Prelude.{◌≡◌};
 ghost use Rattle.rv_attend.specs.Chores.{Chores};
 
 use crate::follower::Follower;
+use rv_input::Input;
 use rv_notes::change_text;
 use rv_shell::{Order, order_of};
 use rv_staff::{Session, Staff, say};
@@ -69,15 +70,15 @@ fn tell_if<T: Wait, E: Write>(
 fn explain_if<E: Write, T, F>(
     session: &Session,
     follower: &mut Follower<'_, T, F>,
+    input: &Input,
     line: &str,
     errors: &mut E,
 )
-    ensures input { follower.new.input ≡ follower.old.input }
     ensures keeper { follower.new.keeper ≡ follower.old.keeper }
     ensures asked { follower.new.asked ≡ follower.old.asked }
 {
     if follower.asked.explains {
-        let behind = follower.input.ahead();
+        let behind = input.ahead();
         let catalogue = session.staff.catalogue();
         follower.given.explain(catalogue, line, behind, errors);
     }
@@ -85,7 +86,6 @@ fn explain_if<E: Write, T, F>(
 
 /// Keeps a word of the console, which is no command: it counts among the lines where commands are explained.
 pub(crate) fn keep_word<T, F>(follower: &mut Follower<'_, T, F>, line: &str)
-    ensures input { follower.new.input ≡ follower.old.input }
     ensures keeper { follower.new.keeper ≡ follower.old.keeper }
     ensures asked { follower.new.asked ≡ follower.old.asked }
 {
@@ -99,15 +99,15 @@ pub(crate) fn tell_before<T: Wait, E: Write, F>(
     rt: &T,
     session: &mut Session,
     follower: &mut Follower<'_, T, F>,
+    input: &Input,
     line: &str,
     errors: &mut E,
 )
     ensures chores { Chores session.old.staff.control session.new.staff.control }
     ensures crew { session.new.staff.crew ≡ session.old.staff.crew }
-    ensures input { follower.new.input ≡ follower.old.input }
     ensures keeper { follower.new.keeper ≡ follower.old.keeper }
     ensures asked { follower.new.asked ≡ follower.old.asked }
 {
     tell_if(rt, follower.asked.tells, session, line, errors);
-    explain_if(session, follower, line, errors);
+    explain_if(session, follower, input, line, errors);
 }

@@ -18,7 +18,6 @@ const MOST_NOTICES: usize = 1024;
 pub(crate) fn open_notices<T, F>(session: &mut Session, follower: &mut Follower<'_, T, F>)
     ensures staff { session.new.staff ≡ session.old.staff }
     ensures keeper { follower.new.keeper ≡ follower.old.keeper }
-    ensures input { follower.new.input ≡ follower.old.input }
     ensures asked { follower.new.asked ≡ follower.old.asked }
 {
     if !follower.asked.tells {

@@ -6,7 +6,7 @@ ghost use Rattle.rv_attend.specs.Lasting.{Tends, at};
 
 use crate::coming::{has_command, has_command_now};
 use crate::due::do_chores;
-use crate::follower::{Follower, KeptFailure};
+use crate::follower::Follower;
 use crate::ticking::until_tick;
 use rv_fault::Failure;
 use rv_feed::{Came, Listening};
@@ -14,6 +14,7 @@ use rv_follow::Found;
 use rv_input::Input;
 use rv_pace::Pace;
 use rv_run::command::{Goes, of_input};
+use rv_run::outputs::KeptFailure;
 use rv_staff::Session;
 use std::io::Write;
 use std::sync::Wait;
@@ -80,15 +81,16 @@ fn wait_once<T: Wait + Clock, E: Write, F: Write>(
     rt: &T,
     session: &mut Session,
     follower: &mut Follower<'_, T, F>,
+    input: &mut Input,
     errors: &mut E,
     millis: &mut u64,
 ) -> Result<Option<Goes>, KeptFailure>
     ensures tends { Tends (at session.old.staff (F.contents follower.old.keeper.file) follower.old.keeper.next follower.old.asked)
         (at session.new.staff (F.contents follower.new.keeper.file) follower.new.keeper.next follower.new.asked) result }
-    ensures heard { Grows follower.old.input follower.new.input }
+    ensures heard { Grows input.old input.new }
 {
     let most = next_wait(rt, &follower.pace, *millis);
-    match hear(&mut follower.source, &mut follower.input, most) {
+    match hear(&mut follower.source, input, most) {
         Ok(Heard::Command) => Ok(Some(Goes::On)),
         Ok(heard) => match do_chores(rt, session, follower, errors) {
             Ok(round) => {
@@ -115,18 +117,19 @@ pub(crate) fn wait_command<T: Wait + Clock, E: Write, F: Write>(
     rt: &T,
     session: &mut Session,
     follower: &mut Follower<'_, T, F>,
+    input: &mut Input,
     errors: &mut E,
 ) -> Result<Goes, KeptFailure>
     ensures tends { Tends (at session.old.staff (F.contents follower.old.keeper.file) follower.old.keeper.next follower.old.asked)
         (at session.new.staff (F.contents follower.new.keeper.file) follower.new.keeper.next follower.new.asked) result }
-    ensures heard { Grows follower.old.input follower.new.input }
+    ensures heard { Grows input.old input.new }
 {
-    if has_command(&follower.input) {
+    if has_command(input) {
         return Ok(unless_stopped(&follower.source, Goes::On));
     }
     let mut millis = SHORTEST;
     for _ in rt.forever() {
-        match wait_once(rt, session, follower, errors, &mut millis) {
+        match wait_once(rt, session, follower, input, errors, &mut millis) {
             Ok(None) => {}
             Ok(Some(goes)) => return Ok(unless_stopped(&follower.source, goes)),
             Err(failure) => return Err(failure),
@@ -141,13 +144,14 @@ pub(crate) fn wait_caught_up<T: Wait + Clock, E: Write, F: Write>(
     rt: &T,
     session: &mut Session,
     follower: &mut Follower<'_, T, F>,
+    input: &mut Input,
     errors: &mut E,
 ) -> Result<Goes, KeptFailure>
     ensures tends { Tends (at session.old.staff (F.contents follower.old.keeper.file) follower.old.keeper.next follower.old.asked)
         (at session.new.staff (F.contents follower.new.keeper.file) follower.new.keeper.next follower.new.asked) result }
-    ensures heard { Grows follower.old.input follower.new.input }
+    ensures heard { Grows input.old input.new }
 {
-    match wait_command(rt, session, follower, errors) {
+    match wait_command(rt, session, follower, input, errors) {
         Ok(Goes::On) if follower.asked.console.is_some() => {
             match do_chores(rt, session, follower, errors) {
                 Ok(round) => Ok(round.goes),

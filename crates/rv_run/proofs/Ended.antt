@@ -5,7 +5,9 @@ use Rattle.rv_staff.specs.Giving.{Starts}
 use Rattle.rv_shape.specs.Shape.{Shape}
 use Rattle.rv_staff.specs.Saying.{Known, Says, SaysLost}
 use Rattle.rv_staff.specs.Staffs.{Staffed}
-use Rattle.rv_run.specs.Finishing.{FailsByMeans, Goes, GoesOnBy, Served, TellsLost}
+use Rattle.rv_run.specs.Beside.{Beside, Ended, Moment}
+use Rattle.rv_run.specs.Finishing.{FailsByMeans, Served, TellsLost}
+use Rattle.rv_run.specs.FinishingBeside.{GoesOnByWith, GoesWith}
 use Rattle.rv_run.specs.Staging.{Fails, ReadsNothing, Stage}
 
 -- what a write came to
@@ -24,13 +26,13 @@ says_so old new text (Ok x) result says is = subst (λ (r : Served). Says old ne
 says_so old new text (Err e) (Ok y) says is = absurd is
 says_so old new text (Err e) (Err failure) says is = says
 
-pub goes_through : {X E : Type 0} (runs : Bool) (s between t : Stage) (written : Result X E) (started result : Served)
-    → Starts s.staff between.staff s.written between.written written → Wrote written started → ReadsNothing s between → FailsByMeans started
-    → GoesOnBy runs between t started result → Goes runs s t result
-goes_through runs s between t written started result starts is unread means serves = record {
+pub goes_through : {C X E : Type 0} (does : Beside C) (runs : Bool) (m : Moment C) (between : Stage) (n : Moment C) (written : Result X E) (started : Served) (result : Ended)
+    → Starts m.stage.staff between.staff m.stage.written between.written written → Wrote written started → ReadsNothing m.stage between → FailsByMeans started
+    → GoesOnByWith does runs (record m { stage = between }) n started result → GoesWith does runs m n result
+goes_through does runs m between n written started result starts is unread means serves = record {
   between = between;
   started = started;
-  starts = starts_so s.staff between.staff s.written between.written written started starts is;
+  starts = starts_so m.stage.staff between.staff m.stage.written between.written written started starts is;
   unread = unread;
   means = means;
   serves = serves;

@@ -3,3 +3,4 @@ pub mod Ended
 pub mod Served
 pub mod Opened
 pub mod Prepared
+pub mod Alone

@@ -1,29 +1,31 @@
 -- One command after another.
-use Rattle.std.proofs.Common.{◌≡◌, ◌<◌, ◌+◌, ℕ, Ok, Err, inl, inr, refl, sym, subst, add-one}
-use Rattle.rv_fault.specs.declared.failure.Failure.{Failure}
+use Rattle.std.proofs.Common.{◌≡◌, ◌<◌, ◌+◌, ℕ, Ok, Err, inl, inr, sym, subst, add-one}
+use Rattle.std.specs.Prelude.{Result}
+use Rattle.rv_run.specs.declared.command.Goes.{Goes}
 use Rattle.rv_run.specs.declared.command.Goes.TheVariants.{On, Out}
-use Rattle.rv_run.specs.ServingLines.{ServesAll, ServesOne, ServesUpTo, StopsBehind, most_commands}
-use Rattle.rv_run.specs.Staging.{Outcome, Stage}
+use Rattle.rv_run.specs.declared.outputs.KeptFailure.{KeptFailure}
+use Rattle.rv_run.specs.Beside.{Beside, Moment}
+use Rattle.rv_run.specs.ServingBeside.{ServesAllWith, ServesOneWith, ServesUpToWith, StopsBehindWith}
+use Rattle.rv_run.specs.ServingLines.{most_commands}
 
-pub none_served : (s : Stage) → ServesUpTo 0 s s
-none_served s = refl
+pub one_served : {C : Type 0} (does : Beside C) (count : ℕ) (m u n : Moment C) (result : Result Goes KeptFailure) → result ≡ Ok On
+    → ServesUpToWith does count m u → ServesOneWith does u n result → ServesUpToWith does (count + 1) m n
+one_served does count m u n result on before one =
+    subst (λ (k : ℕ). ServesUpToWith does k m n) (sym (add-one count)) (u, before, subst (λ (r : Result Goes KeptFailure). ServesOneWith does u n r) on one)
 
-pub one_served : (count : ℕ) (s u t : Stage) (result : Outcome) → result ≡ Ok On → ServesUpTo count s u → ServesOne u t result → ServesUpTo (count + 1) s t
-one_served count s u t result on before one =
-    subst (λ (n : ℕ). ServesUpTo n s t) (sym (add-one count)) (u, before, subst (λ (r : Outcome). ServesOne u t r) on one)
+pub most_served : {C : Type 0} (does : Beside C) (count : ℕ) (m n : Moment C) → count ≡ most_commands → ServesUpToWith does count m n → ServesAllWith does m n (Ok tt)
+most_served does count m n all served = inl record { count = count; all = all; served = served }
 
-pub most_served : (count : ℕ) (s t : Stage) → count ≡ most_commands → ServesUpTo count s t → ServesAll s t (Ok tt)
-most_served count s t all served = inl record { count = count; all = all; served = served }
+stops : {C : Type 0} (does : Beside C) (count : ℕ) (m u n : Moment C) (result : Result Goes KeptFailure) → count < most_commands
+    → ServesUpToWith does count m u → ServesOneWith does u n result → StopsBehindWith does m n result
+stops does count m u n result within served last = record { count = count; within = within; before = u; served = served; last = last }
 
-stops : (count : ℕ) (s u t : Stage) (result : Outcome) → count < most_commands → ServesUpTo count s u → ServesOne u t result → StopsBehind s t result
-stops count s u t result within served last = record { count = count; within = within; before = u; served = served; last = last }
+pub stops_out : {C : Type 0} (does : Beside C) (count : ℕ) (m u n : Moment C) (result : Result Goes KeptFailure) → result ≡ Ok Out → count < most_commands
+    → ServesUpToWith does count m u → ServesOneWith does u n result → ServesAllWith does m n (Ok tt)
+stops_out does count m u n result out within served last =
+    inr (stops does count m u n (Ok Out) within served (subst (λ (r : Result Goes KeptFailure). ServesOneWith does u n r) out last))
 
-pub stops_out : (count : ℕ) (s u t : Stage) (result : Outcome) → result ≡ Ok Out → count < most_commands → ServesUpTo count s u → ServesOne u t result
-    → ServesAll s t (Ok tt)
-stops_out count s u t result out within served last =
-    inr (stops count s u t (Ok Out) within served (subst (λ (r : Outcome). ServesOne u t r) out last))
-
-pub stops_failed : (count : ℕ) (s u t : Stage) (result : Outcome) (failure : Failure) → result ≡ Err failure → count < most_commands → ServesUpTo count s u
-    → ServesOne u t result → ServesAll s t (Err failure)
-stops_failed count s u t result failure failed within served last =
-    stops count s u t (Err failure) within served (subst (λ (r : Outcome). ServesOne u t r) failed last)
+pub stops_failed : {C : Type 0} (does : Beside C) (count : ℕ) (m u n : Moment C) (result : Result Goes KeptFailure) (failure : KeptFailure) → result ≡ Err failure
+    → count < most_commands → ServesUpToWith does count m u → ServesOneWith does u n result → ServesAllWith does m n (Err failure)
+stops_failed does count m u n result failure failed within served last =
+    stops does count m u n (Err failure) within served (subst (λ (r : Result Goes KeptFailure). ServesOneWith does u n r) failed last)

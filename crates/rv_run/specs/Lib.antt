@@ -4,3 +4,6 @@ pub mod ServingLines
 pub mod Finishing
 pub mod Preparing
 pub mod Running
+pub mod Beside
+pub mod ServingBeside
+pub mod FinishingBeside

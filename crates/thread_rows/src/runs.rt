@@ -11,6 +11,7 @@ use given_up::named;
 use row::{Row, row_of};
 use row_files::names_before;
 use rv_fault::Failure;
+use rv_run::outputs::Outputs;
 use rv_run::run::run;
 use rv_staff::Hires;
 use std::alloc::Global;
@@ -45,12 +46,14 @@ where
         clock: rt,
         terminal: &terminal,
     };
-    let mut screen = Screen {
-        terminal: &terminal,
+    let mut outputs = Outputs {
+        writer: Screen {
+            terminal: &terminal,
+        },
+        errors: Vec::new(alloc),
     };
-    let mut errors = Vec::new(alloc);
-    let outcome = run(rt, hires, alloc, &mut keyboard, &mut screen, &mut errors);
-    if errors.len() > 0 {
+    let outcome = run(rt, hires, alloc, &mut keyboard, &mut outputs);
+    if outputs.errors.len() > 0 {
         return Ok(format!(in alloc; "{name}: ports were lost")?);
     }
     let told = told(alloc, outcome)?;

@@ -2,6 +2,7 @@
 
 use row_files::failing::{FailingReader, FailingWriter};
 use rv_fault::Failure;
+use rv_run::outputs::Outputs;
 use rv_run::run::run;
 use rv_staff::Hires;
 use std::alloc::Global;
@@ -30,15 +31,18 @@ fn fails<T: Threads + Wait, H: Hires>(
     writes: usize,
 ) -> Option<bool> {
     let mut reader = FailingReader::new(SCRIPT, reads);
-    let mut writer = FailingWriter::new(alloc, writes);
-    let mut errors: Vec<u8> = Vec::new(alloc);
-    let outcome = run(rt, hires, alloc, &mut reader, &mut writer, &mut errors);
-    if !DUE.starts_with(writer.taken.as_slice()) {
+    let mut outputs = Outputs {
+        writer: FailingWriter::new(alloc, writes),
+        errors: Vec::<u8>::new(alloc),
+    };
+    let outcome = run(rt, hires, alloc, &mut reader, &mut outputs);
+    let taken = outputs.writer.taken.as_slice();
+    if !DUE.starts_with(taken) {
         return None;
     }
     match outcome {
         Err(Failure::Io(_)) => Some(true),
-        Ok(()) if writer.taken.len() == DUE.len() => Some(false),
+        Ok(()) if taken.len() == DUE.len() => Some(false),
         _ => None,
     }
 }

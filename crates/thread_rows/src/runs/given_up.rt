@@ -6,6 +6,7 @@ ghost use Rattle.rv_crew.specs.Hiring.{hired};
 use rv_crew::crew::Crew;
 use rv_crew::hiring::{HireFault, give_up};
 use rv_port::port::Port;
+use rv_run::outputs::Outputs;
 use rv_run::run::run;
 use rv_staff::{Hires, Work};
 use std::alloc::Global;
@@ -42,17 +43,13 @@ impl Hires for NoThreads {
 /// Whether a run names the actors whose ports are given up, in words.
 pub fn named<T: Threads + Wait>(rt: &T, alloc: Global) -> &'static str {
     let mut reader = SCRIPT;
-    let mut writer: Vec<u8> = Vec::new(alloc);
-    let mut errors: Vec<u8> = Vec::new(alloc);
-    let outcome = run(
-        rt,
-        &NoThreads {},
-        alloc,
-        &mut reader,
-        &mut writer,
-        &mut errors,
-    );
-    if outcome.is_ok() && writer.as_slice() == DUE && errors.as_slice() == LOST {
+    let mut outputs = Outputs {
+        writer: Vec::<u8>::new(alloc),
+        errors: Vec::<u8>::new(alloc),
+    };
+    let outcome = run(rt, &NoThreads {}, alloc, &mut reader, &mut outputs);
+    let written = outputs.writer.as_slice();
+    if outcome.is_ok() && written == DUE && outputs.errors.as_slice() == LOST {
         "actors of ports that are given up: named"
     } else {
         "actors of ports that are given up: not named"

@@ -1,4 +1,4 @@
-use Rattle.std.specs.Prelude.{◌≡◌, Ok}
+use Rattle.std.specs.Prelude.{Ok}
 use Rattle.rv_attend.specs.Lasting.{Tends, at}
 use Rattle.rv_attend.proofs.due.do_chores.Given as goal
 
@@ -6,4 +6,3 @@ abbrev pub invariant-loop : goal.invariant-loop
 invariant-loop g l =
     Tends {X = Unit {0}} (at l.fn.session.staff (g.F.Write.contents l.fn.follower.keeper.file) l.fn.follower.keeper.next l.fn.follower.asked)
     (at l.session.staff (g.F.Write.contents l.follower.keeper.file) l.follower.keeper.next l.follower.asked) (Ok tt)
-    × (l.follower.input ≡ l.fn.follower.input)

@@ -11,7 +11,7 @@ returns-in-Ok-session_on g c = λ first.
       first = c.in-Ok-session_on.session.staff;
       opens = c.in-Ok-session_on.ensures.opened;
       keeps = rw (← c.in-Ok-session_on.ensures.silent)
-          (c.run_session.ensures (g.F.Write.contents c.args.follower.now.keeper.file) (nothing_kept _ _ c.in-Ok-session_on.session.staff.control _ refl first));
+          (c.attend_session.ensures (g.F.Write.contents c.args.follower.now.keeper.file) (nothing_kept _ _ c.in-Ok-session_on.session.staff.control _ refl first));
     }
 
 pub returns-in-Err : goal.returns-in-Err

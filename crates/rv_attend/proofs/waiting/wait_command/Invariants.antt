@@ -1,4 +1,4 @@
-use Rattle.std.specs.Prelude.{◌≡◌, Ok}
+use Rattle.std.specs.Prelude.{Ok}
 use Rattle.rv_attend.specs.Attending.{Grows}
 use Rattle.rv_attend.specs.Lasting.{Tends, at}
 use Rattle.rv_attend.proofs.waiting.wait_command.Given as goal
@@ -7,4 +7,4 @@ abbrev pub invariant-loop : goal.invariant-loop
 invariant-loop g l =
     Tends {X = Unit {0}} (at l.fn.session.staff (g.F.Write.contents l.fn.follower.keeper.file) l.fn.follower.keeper.next l.fn.follower.asked)
     (at l.session.staff (g.F.Write.contents l.follower.keeper.file) l.follower.keeper.next l.follower.asked) (Ok tt)
-    × Grows l.fn.follower.input l.follower.input
+    × Grows l.fn.input l.input

@@ -1,0 +1,57 @@
+//! What an attended run does beside its commands.
+
+ghost use Rattle.rv_attend.specs.Holding.{attended, holding};
+
+use crate::closing::close;
+use crate::console::leave;
+use crate::follower::Follower;
+use crate::tending::{attend, heed};
+use rv_crew::crew::Closed;
+use rv_fault::Failure;
+use rv_input::Input;
+use rv_run::chores::Chores;
+use rv_run::command::Goes;
+use rv_run::outputs::{KeptFailure, Outputs};
+use rv_staff::Session;
+use std::io::Write;
+use std::sync::Wait;
+use std::time::Clock;
+
+impl<'a, T: Wait + Clock, W: Write, E: Write, F: Write> Chores<T, W, E> for Follower<'a, T, F> {
+    ghost does = { attended (λ f. holding (F.contents f.keeper.file) f.keeper.next f.asked) };
+
+    fn tend(
+        &mut self,
+        rt: &T,
+        session: &mut Session,
+        input: &mut Input,
+        outputs: &mut Outputs<W, E>,
+    ) -> Result<Goes, KeptFailure> {
+        attend(rt, session, self, input, outputs)
+    }
+
+    fn heed(
+        &mut self,
+        rt: &T,
+        session: &mut Session,
+        input: &Input,
+        line: &str,
+        outputs: &mut Outputs<W, E>,
+    ) -> Option<Result<Goes, Failure>> {
+        heed(rt, session, self, input, line, outputs)
+    }
+
+    fn leave(&self, writer: &mut W) -> Result<Goes, Failure> {
+        leave(&self.asked, writer)
+    }
+
+    fn close(
+        &mut self,
+        rt: &T,
+        closed: &Closed,
+        served: Result<(), KeptFailure>,
+        errors: &mut E,
+    ) -> Result<(), KeptFailure> {
+        close(rt, closed, served, self, errors)
+    }
+}

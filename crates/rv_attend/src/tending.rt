@@ -1,0 +1,112 @@
+//! What is done until the next command comes, and of a line that came.
+
+ghost use Rattle.std.specs.Prelude.{◌≡◌, IfNone, None};
+ghost use Rattle.std.specs.Io.KnownBytes.{Keeps};
+ghost use Rattle.rv_follow.specs.Following.{Later};
+ghost use Rattle.rv_attend.specs.Attending.{Attends, Grows};
+ghost use Rattle.rv_attend.specs.Chores.{Chores};
+ghost use Rattle.rv_attend.specs.Lasting.{Tends, at};
+ghost use Rattle.rv_run.specs.Staging.{stage};
+ghost use Rattle.rv_staff.specs.Saying.{Known};
+
+use crate::attention::Attention;
+use crate::console::{answer_word, leave, prompt};
+use crate::due::do_chores;
+use crate::follower::Follower;
+use crate::notes::{keep_word, tell_before};
+use crate::waiting::wait_caught_up;
+use rv_fault::Failure;
+use rv_input::Input;
+use rv_run::command::{Goes, of_io};
+use rv_run::leaving::wrote;
+use rv_run::outputs::{KeptFailure, Outputs};
+use rv_run::serving::of_run;
+use rv_staff::Session;
+use std::io::Write;
+use std::sync::Wait;
+use std::time::Clock;
+
+// Hands on what was written, and behind it a prompt where there is a console and the run goes on.
+fn hand_on<W: Write>(asked: &Attention, goes: Goes, writer: &mut W) -> Result<(), Failure>
+    ensures { asked.now.console ≡ None → Keeps (W.contents writer.old) (W.contents writer.new) }
+{
+    let prompted = prompt(asked, goes, writer);
+    match writer.flush() {
+        Ok(()) => wrote(prompted),
+        Err(e) => Err(of_io(e)),
+    }
+}
+
+// Waits for a command; where none comes the run is left.
+fn wait_prompted<T: Wait + Clock, W: Write, E: Write, F: Write>(
+    rt: &T,
+    session: &mut Session,
+    follower: &mut Follower<'_, T, F>,
+    input: &mut Input,
+    outputs: &mut Outputs<W, E>,
+) -> Result<Goes, KeptFailure>
+    ensures tends { Tends (at session.old.staff (F.contents follower.old.keeper.file) follower.old.keeper.next follower.old.asked)
+        (at session.new.staff (F.contents follower.new.keeper.file) follower.new.keeper.next follower.new.asked) result }
+    ensures heard { Grows input.old input.new }
+    ensures silent { follower.old.asked.console ≡ None → W.contents outputs.new.writer ≡ W.contents outputs.old.writer }
+{
+    match wait_caught_up(rt, session, follower, input, &mut outputs.errors) {
+        Ok(Goes::Out) => of_run(leave(&follower.asked, &mut outputs.writer)),
+        Ok(Goes::On) => Ok(Goes::On),
+        Err(failure) => Err(failure),
+    }
+}
+
+/// Does what is due, hands on what was written behind it, and waits for the next command. Gives whether the run goes on.
+pub(crate) fn attend<T: Wait + Clock, W: Write, E: Write, F: Write>(
+    rt: &T,
+    session: &mut Session,
+    follower: &mut Follower<'_, T, F>,
+    input: &mut Input,
+    outputs: &mut Outputs<W, E>,
+) -> Result<Goes, KeptFailure>
+    ensures tends { Tends (at session.old.staff (F.contents follower.old.keeper.file) follower.old.keeper.next follower.old.asked)
+        (at session.new.staff (F.contents follower.new.keeper.file) follower.new.keeper.next follower.new.asked) result }
+    ensures attends { (left : Known) → follower.old.asked.console ≡ None
+        → Attends (stage session.old.staff (W.contents outputs.old.writer) input.old left) (stage session.new.staff (W.contents outputs.new.writer) input.new left) }
+{
+    match do_chores(rt, session, follower, &mut outputs.errors) {
+        Ok(round) => match hand_on(&follower.asked, round.goes, &mut outputs.writer) {
+            Ok(()) => match round.goes {
+                Goes::On => wait_prompted(rt, session, follower, input, outputs),
+                Goes::Out => Ok(Goes::Out),
+            },
+            Err(failure) => Err(KeptFailure::Run(failure)),
+        },
+        Err(failure) => Err(failure),
+    }
+}
+
+/// Looks at a line before it is carried out: a word of a console is answered, and of a command is told what there is to tell.
+/// None where it is to be carried out.
+pub(crate) fn heed<T: Wait, W: Write, E: Write, F>(
+    rt: &T,
+    session: &mut Session,
+    follower: &mut Follower<'_, T, F>,
+    input: &Input,
+    line: &str,
+    outputs: &mut Outputs<W, E>,
+) -> Option<Result<Goes, Failure>>
+    ensures plain { follower.old.asked.console ≡ None → (result ≡ None) × (W.contents outputs.new.writer ≡ W.contents outputs.old.writer) }
+    ensures chores { IfNone result (Chores session.old.staff.control session.new.staff.control) }
+    ensures crew { IfNone result (session.new.staff.crew ≡ session.old.staff.crew) }
+    ensures later { Later session.old.staff.control session.new.staff.control }
+    ensures keeper { follower.new.keeper ≡ follower.old.keeper }
+    ensures asked { follower.new.asked ≡ follower.old.asked }
+{
+    match answer_word(rt, session, follower, line, &mut outputs.writer) {
+        Some(answered) => {
+            keep_word(follower, line);
+            Some(answered)
+        }
+        None => {
+            tell_before(rt, session, follower, input, line, &mut outputs.errors);
+            None
+        }
+    }
+}

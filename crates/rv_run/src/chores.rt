@@ -1,0 +1,106 @@
+//! What is done beside the commands of a run.
+
+ghost use Rattle.rv_input.specs.Coming.{Reading};
+ghost use Rattle.rv_run.specs.Beside.{Beside, moment, no_chores};
+ghost use Rattle.rv_staff.specs.Saying.{Known};
+
+use crate::command::{Goes, of_io};
+use crate::outputs::{KeptFailure, Outputs};
+use rv_crew::crew::Closed;
+use rv_fault::Failure;
+use rv_input::Input;
+use rv_staff::Session;
+use std::io::Write;
+
+/// What is done beside the commands of a run.
+pub trait Chores<T, W: Write, E: Write> {
+    ghost does: { Beside Self };
+
+    /// Hands on what was written and waits for the next command; meanwhile does what is due. Gives whether the run goes on.
+    fn tend(
+        &mut self,
+        rt: &T,
+        session: &mut Session,
+        input: &mut Input,
+        outputs: &mut Outputs<W, E>,
+    ) -> Result<Goes, KeptFailure>
+        ensures { (left : Known) → does.tends
+            (moment self.old session.old.staff (W.contents outputs.old.writer) input.old left (E.contents outputs.old.errors))
+            (moment self.new session.new.staff (W.contents outputs.new.writer) input.new left (E.contents outputs.new.errors))
+            result };
+
+    /// Looks at a line before it is carried out. None where it is to be carried out as a command.
+    fn heed(
+        &mut self,
+        rt: &T,
+        session: &mut Session,
+        input: &Input,
+        line: &str,
+        outputs: &mut Outputs<W, E>,
+    ) -> Option<Result<Goes, Failure>>
+        ensures { (left : Known) → does.heeds
+            (moment self.old session.old.staff (W.contents outputs.old.writer) input.now left (E.contents outputs.old.errors))
+            line.now
+            (moment self.new session.new.staff (W.contents outputs.new.writer) input.now left (E.contents outputs.new.errors))
+            result };
+
+    /// Ends the run where no command comes any more.
+    fn leave(&self, writer: &mut W) -> Result<Goes, Failure>
+        ensures { does.leaves self.now (W.contents writer.old) (W.contents writer.new) result };
+
+    /// Does what is left to do of a host that was closed, behind commands that were served so far.
+    fn close(
+        &mut self,
+        rt: &T,
+        closed: &Closed,
+        served: Result<(), KeptFailure>,
+        errors: &mut E,
+    ) -> Result<(), KeptFailure>
+        ensures { does.closes self.old (E.contents errors.old) closed.now served self.new (E.contents errors.new) result };
+}
+
+/// Nothing: what was written is handed on before each command is read.
+#[derive(Drop)]
+pub struct NoChores {}
+
+impl<T, W: Write, E: Write> Chores<T, W, E> for NoChores {
+    ghost does = { no_chores };
+
+    fn tend(
+        &mut self,
+        _rt: &T,
+        _session: &mut Session,
+        _input: &mut Input,
+        outputs: &mut Outputs<W, E>,
+    ) -> Result<Goes, KeptFailure> {
+        match outputs.writer.flush() {
+            Ok(()) => Ok(Goes::On),
+            Err(e) => Err(KeptFailure::Run(of_io(e))),
+        }
+    }
+
+    fn heed(
+        &mut self,
+        _rt: &T,
+        _session: &mut Session,
+        _input: &Input,
+        _line: &str,
+        _outputs: &mut Outputs<W, E>,
+    ) -> Option<Result<Goes, Failure>> {
+        None
+    }
+
+    fn leave(&self, _writer: &mut W) -> Result<Goes, Failure> {
+        Ok(Goes::Out)
+    }
+
+    fn close(
+        &mut self,
+        _rt: &T,
+        _closed: &Closed,
+        served: Result<(), KeptFailure>,
+        _errors: &mut E,
+    ) -> Result<(), KeptFailure> {
+        served
+    }
+}
