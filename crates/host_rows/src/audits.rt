@@ -17,6 +17,8 @@ use crate::audits::script::{Script, script_of};
 use row_files::neighbours::Neighbours;
 use row_files::{bytes_of, names_before};
 use rv_audit::audit::Audit;
+use rv_audit::lines::judge_lines;
+use rv_audit::observer::Nobody;
 use rv_audit::verdict::Verdict;
 use rv_event::text::text_of_answer;
 use rv_reading::entry::read_entry;
@@ -48,12 +50,32 @@ fn entries_read(alloc: Global, audit: &Audit, journal: &str) -> usize {
     entries
 }
 
+// The verdict on a journal over the units of a script.
+fn judged(
+    alloc: Global,
+    audit: &mut Audit,
+    script: &Script<'_>,
+    journal: &str,
+) -> io::Result<Verdict> {
+    let mut bytes = journal.as_bytes();
+    let (verdict, _) = judge_lines(
+        alloc,
+        audit,
+        script.units.as_slice(),
+        &mut bytes,
+        false,
+        &mut Nobody {},
+        &mut Nobody {},
+    )?;
+    Ok(verdict)
+}
+
 // What is found of the journal of a script.
 fn found(alloc: Global, script: &Script<'_>) -> io::Result<String> {
     let Ok(mut audit) = Audit::new(alloc, script.capacity, script.limit) else {
         return String::from_str(alloc, "no audit\n").map_err(|e| io::Error::from(e));
     };
-    let verdict = audit.judge_all(script.units.as_slice(), script.journal);
+    let verdict = judged(alloc, &mut audit, script, script.journal)?;
     if let Verdict::Legal(entries) = verdict {
         let read = entries_read(alloc, &audit, script.journal);
         if read != entries {
@@ -68,7 +90,7 @@ fn verdict_on(alloc: Global, script: &Script<'_>, journal: &str) -> io::Result<S
     let Ok(mut audit) = Audit::new(alloc, script.capacity, script.limit) else {
         return String::from_str(alloc, "no audit\n").map_err(|e| io::Error::from(e));
     };
-    let verdict = audit.judge_all(script.units.as_slice(), journal);
+    let verdict = judged(alloc, &mut audit, script, journal)?;
     said(alloc, &audit, &verdict)
 }
 

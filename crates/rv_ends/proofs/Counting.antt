@@ -1,6 +1,6 @@
 -- The ends of a history are counted, entry by entry.
 use Rattle.std.proofs.Common.{◌≡◌, inl, inr, ℕ, suc, ◌+◌, ◌<◌, ◌≤◌, ◌^◌, List, [], ◌∷◌, ◌++◌, Bool, true, false, Option, Some, None, length, refl, sym, ap, ◌∙◌, subst, arith}
-use Rattle.std.specs.Prelude.{is_none, is_some, if◌then◌else◌, OnOk, Result, Ok, Err}
+use Rattle.std.specs.Prelude.{is_none, is_some, if◌then◌else◌}
 use Rattle.rv_access.specs.Words.{Words}
 use Rattle.rv_shape.specs.Shape.{Shape}
 use Rattle.rv_code.specs.Bodies.{UnitBodies}
@@ -10,16 +10,15 @@ use Rattle.rv_event.specs.declared.entry.Entry.{Entry}
 use Rattle.rv_event.specs.declared.entry.Entry.TheVariants.{Asked, Load, ListChange}
 use Rattle.rv_event.specs.declared.entry.Recorded.{Recorded}
 use Rattle.rv_event.specs.declared.entry.Request.{Request}
-use Rattle.rv_exec.specs.Bodies.{no_bodies, with_unit}
-use Rattle.rv_history.specs.Due.{out}
+use Rattle.rv_exec.specs.Bodies.{with_unit}
 use Rattle.rv_history.specs.History.{History}
-use Rattle.rv_history.specs.Legal.{Legal, after, after_list, after_load, empty, entered, out_list, out_load}
+use Rattle.rv_history.specs.Legal.{Legal, after, after_list, after_load, entered, out_load}
 use Rattle.rv_history.specs.Owed.{IsSolvent}
 use Rattle.rv_history.specs.declared.limits.Limits.{Limits}
 use Rattle.rv_ends.specs.Afoot.{Afoot, AreAfoot, is_end}
 use Rattle.rv_ends.specs.Counts.{AreCounted, Counts, IsFirstOther, Loaded, texts_by}
-use Rattle.rv_ends.specs.Ends.{IsMeaning, IsWhole, afoot_of, is_settled, texts_after, texts_of}
-use Rattle.rv_ends.specs.Tally.{Follows, FollowsBy, GoesOn, IsCarriedOut, IsNoted, TakesList, TakesLoad, TakesRequest, loads_behind, noted, one_more, taken_of}
+use Rattle.rv_ends.specs.Ends.{IsMeaning, IsWhole, TakesAnswered, TakesTexts, afoot_of, is_settled, texts_of}
+use Rattle.rv_ends.specs.Tally.{Awaits, AwaitsBy, Follows, FollowsBy, GoesOn, GoesOnWith, HasFound, IsNoted, NotesEnd, TakesEntry, TakesList, TakesLoad, asked, loads_behind, meant_text, noted, one_more, words_of}
 use Rattle.rv_ends.specs.declared.meaning.Meaning.{Meaning}
 use Rattle.rv_ends.specs.declared.meaning.Meaning.TheVariants as meaning
 use Rattle.rv_ends.specs.declared.tally.Found.{Found}
@@ -53,167 +52,16 @@ same_counts h loads f g found c = subst (λ (x : Found). Counts h loads x.explai
 going : (t : Tally) (h : History) (loads : List Loaded) → GoesOn t h loads → Follows t h loads
 going t h loads g = subst (λ (o : Option (ℕ × Meaning)). FollowsBy t h loads o) (sym g.none) g
 
-pub at_first : (t : Tally) (limits : Limits) → IsWhole t.ends → taken_of t ≡ empty limits → texts_of t.ends ≡ no_bodies → t.found.other ≡ None → t.found.explained ≡ 0 → t.found.without_text ≡ 0 → Follows t (empty limits) []
-at_first t limits whole at texts none e w = going t (empty limits) [] (record { whole = whole; at = at; none = none; texts = texts; counts = (refl, e, w) })
-
-host_asked : (x h : History) (actor : ℕ) (request : Request) (word : Recorded) → x ≡ h → recorded (out h actor request) ≡ Some word →
-    after x actor request (out x actor request) ≡ record h { past = Asked actor request word ∷ h.past }
-host_asked x h actor request word at is = ap (λ (y : History). after y actor request (out y actor request)) at ∙ ap (entered h actor request) is
+-- what is followed where nothing is found, and where something is
+goes_on : (t : Tally) (h : History) (loads : List Loaded) → is_none t.found.other ≡ true → Follows t h loads → GoesOn t h loads
+goes_on t h loads none follows = by_case t.found.other refl none follows
+  where
+    by_case : (o : Option (ℕ × Meaning)) → t.found.other ≡ o → is_none o ≡ true → FollowsBy t h loads o → GoesOn t h loads
+    by_case None is none follows = follows
+    by_case (Some other) is none follows = absurd cc
 
 abbrev other_of : Found → Option (ℕ × Meaning)
 other_of found = found.other
-
--- a request that ends no body
-pub took_other : (o n : Tally) (number actor : ℕ) (request : Request) → is_end request ≡ false → IsCarriedOut o n actor request → TakesRequest o n number actor request
-took_other o n number actor request is c = λ h loads word g number_is due.
-    going n (record h { past = Asked actor request word ∷ h.past }) loads
-    (record {
-      whole = c.whole g.whole;
-      at = c.history ∙ host_asked (taken_of o) h actor request word g.at due;
-      none = ap other_of c.found ∙ g.none;
-      texts = c.texts ∙ g.texts;
-      counts = inl (is, same_counts h loads o.found n.found c.found g.counts);
-    })
-
--- Ends
-
--- what is noted of one that is settled, and of another
-settled_if : (old : Found) (number : ℕ) (m : Meaning) → is_none (noted old number m).other ≡ true → is_settled m ≡ true
-settled_if old number meaning.Explained e = refl
-settled_if old number meaning.WithoutText e = refl
-settled_if old number (meaning.Gives request) e = absurd cc
-settled_if old number (meaning.Asks request) e = absurd cc
-
-settled_none : (old : Found) (number : ℕ) (m : Meaning) → is_settled m ≡ true → old.other ≡ None → (noted old number m).other ≡ None
-settled_none old number meaning.Explained is none = none
-settled_none old number meaning.WithoutText is none = none
-settled_none old number (meaning.Gives request) is none = absurd cc
-settled_none old number (meaning.Asks request) is none = absurd cc
-
-some_is : {X : Type 0} (o : Option (ℕ × Meaning)) → o ≡ None → is_none o ≡ false → X
-some_is None e is = absurd cc
-some_is (Some p) e is = absurd cc
-
-other_if : (old : Found) (number : ℕ) (m : Meaning) → old.other ≡ None → is_none (noted old number m).other ≡ false → is_settled m ≡ false
-other_if old number meaning.Explained none e = some_is old.other none e
-other_if old number meaning.WithoutText none e = some_is old.other none e
-other_if old number (meaning.Gives request) none e = refl
-other_if old number (meaning.Asks request) none e = refl
-
-other_is : (old : Found) (number : ℕ) (m : Meaning) → is_settled m ≡ false → (noted old number m).other ≡ Some (number, m)
-other_is old number meaning.Explained is = absurd cc
-other_is old number meaning.WithoutText is = absurd cc
-other_is old number (meaning.Gives request) is = refl
-other_is old number (meaning.Asks request) is = refl
-
-settled_counts : (h : History) (number actor : ℕ) (request : Request) (word : Recorded) (loads : List Loaded) (old : Found) (afoot : Afoot) (m : Meaning) → AreAfoot h afoot → is_end request ≡ true → IsMeaning (texts_by loads) h afoot actor request m → is_settled m ≡ true →
-    Counts h loads old.explained old.without_text → suc (length h.past) < 2 ^ 64 →
-    Counts (record h { past = Asked actor request word ∷ h.past }) loads (noted old number m).explained (noted old number m).without_text
-settled_counts h number actor request word loads old afoot meaning.Explained are end means is c small =
-    let few = counted_few h.limits h.past h.shapes h.lists loads old.explained old.without_text c in
-    inr (inl (end, means, old.explained, one_more_is old.explained (omega (arith, few, small)), c))
-settled_counts h number actor request word loads old afoot meaning.WithoutText are end means is c small =
-    let few = counted_few h.limits h.past h.shapes h.lists loads old.explained old.without_text c in
-    inr (inr (end, (afoot, are, means), old.without_text, one_more_is old.without_text (omega (arith, few, small)), c))
-settled_counts h number actor request word loads old afoot (meaning.Gives x) are end means is c small = absurd cc
-settled_counts h number actor request word loads old afoot (meaning.Asks x) are end means is c small = absurd cc
-
-kept_small : (x h : History) → x ≡ h → x.limits.capacity ≤ 2 ^ 20 → IsSolvent x → suc (length h.past) < 2 ^ 64
-kept_small x h at most s = subst (λ (y : History). suc (length y.past) < 2 ^ 64) at (omega (arith, most, s))
-
--- what an end means by the texts that a tally keeps, it means by those of the loads
-by_loads : (h k : History) (texts : UnitBodies) (loads : List Loaded) (afoot : Afoot) (actor : ℕ) (request : Request) (m : Meaning) → k ≡ h → texts ≡ texts_by loads → IsMeaning texts k afoot actor request m → IsMeaning (texts_by loads) h afoot actor request m
-by_loads h k texts loads afoot actor request m at is means =
-    subst (λ (t : UnitBodies). IsMeaning t h afoot actor request m) is (subst (λ (x : History). IsMeaning texts x afoot actor request m) at means)
-
--- an end that is explained, or has no text
-pub took_end : (o m n : Tally) (number actor : ℕ) (request : Request) → (taken_of o).limits.capacity ≤ 2 ^ 20 → IsSolvent (taken_of o) → is_end request ≡ true → (IsWhole o.ends → IsNoted o m number actor request) → is_none m.found.other ≡ true →
-    IsCarriedOut m n actor request → TakesRequest o n number actor request
-took_end o m n number actor request most solvent end found none c = λ h loads word g number_is due.
-    let it = found g.whole in
-    let is : is_settled it.meaning ≡ true = settled_if o.found number it.meaning (ap (λ (f : Found). is_none f.other) (sym it.found) ∙ none) in
-    let are : AreAfoot h (afoot_of o.ends) = subst (λ (x : History). AreAfoot x (afoot_of o.ends)) g.at g.whole.afoot in
-    let means = by_loads h (taken_of o) (texts_of o.ends) loads (afoot_of o.ends) actor request it.meaning g.at g.texts it.means in
-    let k : History = record h { past = Asked actor request word ∷ h.past } in
-    let counts = settled_counts h number actor request word loads o.found (afoot_of o.ends) it.meaning are end means is g.counts (kept_small (taken_of o) h g.at most solvent) in
-    going n k loads
-    (record {
-      whole = c.whole it.whole;
-      at = c.history ∙ host_asked (taken_of m) h actor request word (it.history is ∙ g.at) due;
-      none = ap other_of (c.found ∙ it.found) ∙ settled_none o.found number it.meaning is g.none;
-      texts = c.texts ∙ it.texts ∙ g.texts;
-      counts = same_counts k loads (noted o.found number it.meaning) n.found (c.found ∙ it.found) counts;
-    })
-
--- an end whose text means another
-pub took_found : (o m : Tally) (number actor : ℕ) (request : Request) → Legal (taken_of o) → is_end request ≡ true → (IsWhole o.ends → IsNoted o m number actor request) → is_none m.found.other ≡ false → TakesRequest o m number actor request
-took_found o m number actor request legal end found none = λ h loads word g number_is due.
-    let it = found g.whole in
-    let is : is_settled it.meaning ≡ false = other_if o.found number it.meaning g.none (ap (λ (f : Found). is_none f.other) (sym it.found) ∙ none) in
-    let k : History = record h { past = Asked actor request word ∷ h.past } in
-    subst (λ (x : Option (ℕ × Meaning)). FollowsBy m k loads x) (sym (ap other_of it.found ∙ other_is o.found number it.meaning is))
-    (record {
-      front = h;
-      actor = actor;
-      request = request;
-      word = word;
-      later = [];
-      is_front = front_on h h k [] (Asked actor request word) (one_asked h actor request word) (front_itself h (subst Legal g.at legal));
-      names = it.shapes ∙ ap (λ (x : History). x.shapes) g.at;
-      number_is = number_is;
-      ends = end;
-      explained = o.found.explained;
-      without = o.found.without_text;
-      before = g.counts;
-      afoot = afoot_of o.ends;
-      are = subst (λ (x : History). AreAfoot x (afoot_of o.ends)) g.at g.whole.afoot;
-      means = by_loads h (taken_of o) (texts_of o.ends) loads (afoot_of o.ends) actor request it.meaning g.at g.texts it.means;
-      other = is;
-    })
-
--- Loads and lists
-
-pub took_load : (o n : Tally) (shape : Shape) (unit : UnitBodies) → (IsWhole o.ends → IsWhole n.ends) → n.found ≡ o.found → taken_of n ≡ after_load (taken_of o) shape (out_load (taken_of o) shape) →
-    texts_of n.ends ≡ texts_after (out_load (taken_of o) shape) unit (texts_of o.ends) → TakesLoad o n shape unit
-took_load o n shape unit whole found history texts = λ h loads g.
-    let l : Loaded = record { behind = h.shapes; shape = shape; bodies = unit } in
-    let answer : Answer = out_load h shape in
-    going n (after_load h shape answer) (loads_behind answer l loads)
-    (record {
-      whole = whole g.whole;
-      at = history ∙ ap (λ (x : History). after_load x shape (out_load x shape)) g.at;
-      none = ap other_of found ∙ g.none;
-      texts = texts ∙ ap (λ (x : History). texts_after (out_load x shape) unit (texts_of o.ends)) g.at ∙ ap (λ (t : UnitBodies). texts_after answer unit t) g.texts ∙ loaded_texts l loads (is_some (recorded answer));
-      counts = same_counts (after_load h shape answer) (loads_behind answer l loads) o.found n.found found (loaded_counts h l loads o.found (is_some (recorded answer)) refl g.counts);
-    })
-  where
-    loaded_texts : (l : Loaded) (loads : List Loaded) (b : Bool) → (if b then with_unit l.bodies (texts_by loads) else texts_by loads) ≡ texts_by (if b then l ∷ loads else loads)
-    loaded_texts l loads true = refl
-    loaded_texts l loads false = refl
-
-    loaded_counts : (h : History) (l : Loaded) (loads : List Loaded) (f : Found) (b : Bool) → l.behind ≡ h.shapes → Counts h loads f.explained f.without_text →
-        Counts (if b then record h { past = Load ∷ h.past; shapes = h.shapes ++ l.shape ∷ [] } else h) (if b then l ∷ loads else loads) f.explained f.without_text
-    loaded_counts h l loads f true same c =
-        (l, ap (λ (x : List Shape). x ++ l.shape ∷ []) (sym same), loads, refl, subst (λ (x : List Shape). AreCounted h.limits h.past x h.lists loads f.explained f.without_text) (sym same) c)
-    loaded_counts h l loads f false same c = c
-
-pub took_list : (o n : Tally) (list : List Words) → (IsWhole o.ends → IsWhole n.ends) → n.found ≡ o.found → taken_of n ≡ after_list (taken_of o) (Some list) (out_list (taken_of o) (Some list)) →
-    texts_of n.ends ≡ texts_of o.ends → TakesList o n list
-took_list o n list whole found history texts = λ h loads g.
-    going n (after_list h (Some list) (out_list h (Some list))) loads
-    (record {
-      whole = whole g.whole;
-      at = history ∙ ap (λ (x : History). after_list x (Some list) (out_list x (Some list))) g.at;
-      none = ap other_of found ∙ g.none;
-      texts = texts ∙ g.texts;
-      counts = same_counts (after_list h (Some list) (out_list h (Some list))) loads o.found n.found
-          found (listed_counts h loads o.found (is_some (recorded (out_list h (Some list)))) g.counts);
-    })
-  where
-    listed_counts : (h : History) (loads : List Loaded) (f : Found) (b : Bool) → Counts h loads f.explained f.without_text →
-        Counts (if b then record h { past = ListChange ∷ h.past; lists = h.lists ++ list ∷ [] } else h) loads f.explained f.without_text
-    listed_counts h loads f true c = (h.lists, list, refl, c)
-    listed_counts h loads f false c = c
 
 -- Behind the first end whose text means another
 
@@ -246,8 +94,206 @@ behind_load h loads shapes number m shape is = still_first h (record h { past = 
 pub behind_list : (h : History) (loads : List Loaded) (shapes : List Shape) (number : ℕ) (m : Meaning) (list : List Words) → IsFirstOther h loads shapes number m → IsFirstOther (record h { past = ListChange ∷ h.past; lists = h.lists ++ list ∷ [] }) loads shapes number m
 behind_list h loads shapes number m list is = still_first h (record h { past = ListChange ∷ h.past; lists = h.lists ++ list ∷ [] }) ListChange (one_list h list) loads shapes number m is
 
--- Where a call went well
+-- What is noted of an end
 
-pub on_ok : {A E : Type 0} (r : Result A E) (X Y : Type 0) → (X → Y) → OnOk r X → OnOk r Y
-on_ok (Ok a) X Y then_so so = then_so so
-on_ok (Err e) X Y then_so so = tt
+-- where it is settled, and where it isn't
+settled_none : (old : Found) (number : ℕ) (m : Meaning) → is_settled m ≡ true → old.other ≡ None → (noted old number m).other ≡ None
+settled_none old number meaning.Explained is none = none
+settled_none old number meaning.WithoutText is none = none
+settled_none old number (meaning.Gives request) is none = absurd cc
+settled_none old number (meaning.Asks request) is none = absurd cc
+
+settled_unsaid : (shapes : List Shape) (m : Meaning) → is_settled m ≡ true → meant_text shapes m ≡ []
+settled_unsaid shapes meaning.Explained is = refl
+settled_unsaid shapes meaning.WithoutText is = refl
+settled_unsaid shapes (meaning.Gives request) is = absurd cc
+settled_unsaid shapes (meaning.Asks request) is = absurd cc
+
+other_is : (old : Found) (number : ℕ) (m : Meaning) → is_settled m ≡ false → (noted old number m).other ≡ Some (number, m)
+other_is old number meaning.Explained is = absurd cc
+other_is old number meaning.WithoutText is = absurd cc
+other_is old number (meaning.Gives request) is = refl
+other_is old number (meaning.Asks request) is = refl
+
+settled_counts : (h : History) (number actor : ℕ) (request : Request) (word : Recorded) (loads : List Loaded) (old : Found) (afoot : Afoot) (m : Meaning) → AreAfoot h afoot → is_end request ≡ true → IsMeaning (texts_by loads) h afoot actor request m → is_settled m ≡ true →
+    Counts h loads old.explained old.without_text → suc (length h.past) < 2 ^ 64 →
+    Counts (record h { past = Asked actor request word ∷ h.past }) loads (noted old number m).explained (noted old number m).without_text
+settled_counts h number actor request word loads old afoot meaning.Explained are end means is c small =
+    let few = counted_few h.limits h.past h.shapes h.lists loads old.explained old.without_text c in
+    inr (inl (end, means, old.explained, one_more_is old.explained (omega (arith, few, small)), c))
+settled_counts h number actor request word loads old afoot meaning.WithoutText are end means is c small =
+    let few = counted_few h.limits h.past h.shapes h.lists loads old.explained old.without_text c in
+    inr (inr (end, (afoot, are, means), old.without_text, one_more_is old.without_text (omega (arith, few, small)), c))
+settled_counts h number actor request word loads old afoot (meaning.Gives x) are end means is c small = absurd cc
+settled_counts h number actor request word loads old afoot (meaning.Asks x) are end means is c small = absurd cc
+
+-- Requests to come
+
+awaiting : (t : Tally) (h : History) (loads : List Loaded) (actor : ℕ) (request : Request) → GoesOnWith t h loads actor request → Awaits t h loads actor request
+awaiting t h loads actor request g = subst (λ (o : Option (ℕ × Meaning)). AwaitsBy t h loads actor request o) (sym g.none) g
+
+-- one that ends no body
+pub notes_other : (t : Tally) (h : History) (number actor : ℕ) (request : Request) → is_none t.found.other ≡ true → is_end request ≡ false → NotesEnd t t h number actor request
+notes_other t h number actor request none is = λ loads follows number_is.
+    let g = goes_on t h loads none follows in
+    awaiting t h loads actor request (record { whole = g.whole; none = g.none; unsaid = g.unsaid; texts = g.texts; counts = λ word. inl (is, g.counts) })
+
+-- one behind an end whose text means another
+pub notes_nothing : (t : Tally) (h : History) (number actor : ℕ) (request : Request) → is_none t.found.other ≡ false → NotesEnd t t h number actor request
+notes_nothing t h number actor request some = λ loads follows number_is. by_case loads t.found.other some follows
+  where
+    by_case : (loads : List Loaded) (o : Option (ℕ × Meaning)) → is_none o ≡ false → FollowsBy t h loads o → AwaitsBy t h loads actor request o
+    by_case loads None some follows = absurd cc
+    by_case loads (Some other) some follows =
+        λ word. record { shapes = follows.shapes; first = behind_request h loads follows.shapes other.0 other.1 actor request word follows.first; words = follows.words }
+
+kept_small : (h : History) → h.limits.capacity ≤ 2 ^ 20 → IsSolvent h → suc (length h.past) < 2 ^ 64
+kept_small h most s = omega (arith, most, s)
+
+-- one that ends a body, where it is explained or has no text
+noted_settled : (o n : Tally) (h : History) (loads : List Loaded) (number actor : ℕ) (request : Request) → h.limits.capacity ≤ 2 ^ 20 → IsSolvent h → is_end request ≡ true → GoesOn o h loads → (it : IsNoted o n h number actor request) → is_settled it.meaning ≡ true →
+    Awaits n h loads actor request
+noted_settled o n h loads number actor request most solvent end g it is =
+    let means : IsMeaning (texts_by loads) h (afoot_of o.ends) actor request it.meaning = subst (λ (t : UnitBodies). IsMeaning t h (afoot_of o.ends) actor request it.meaning) g.texts it.means in
+    awaiting n h loads actor request
+    (record {
+      whole = it.whole;
+      none = ap other_of it.found ∙ settled_none o.found number it.meaning is g.none;
+      unsaid = it.words ∙ settled_unsaid h.shapes it.meaning is;
+      texts = it.texts ∙ g.texts;
+      counts = λ word.
+          same_counts (asked h actor request word) loads (noted o.found number it.meaning) n.found it.found
+          (settled_counts h number actor request word loads o.found (afoot_of o.ends) it.meaning g.whole.afoot end means is g.counts (kept_small h most solvent));
+    })
+
+-- one whose text means another
+noted_other : (o n : Tally) (h : History) (loads : List Loaded) (number actor : ℕ) (request : Request) → Legal h → number ≡ suc (length h.past) → is_end request ≡ true → GoesOn o h loads → (it : IsNoted o n h number actor request) → is_settled it.meaning ≡ false →
+    Awaits n h loads actor request
+noted_other o n h loads number actor request legal number_is end g it is =
+    subst (λ (x : Option (ℕ × Meaning)). AwaitsBy n h loads actor request x) (sym (ap other_of it.found ∙ other_is o.found number it.meaning is))
+    (λ word. record { shapes = h.shapes; first = first word; words = it.words })
+  where
+    first : (word : Recorded) → IsFirstOther (asked h actor request word) loads h.shapes number it.meaning
+    first word = record {
+      front = h;
+      actor = actor;
+      request = request;
+      word = word;
+      later = [];
+      is_front = front_on h h (asked h actor request word) [] (Asked actor request word) (one_asked h actor request word) (front_itself h legal);
+      names = refl;
+      number_is = number_is;
+      ends = end;
+      explained = o.found.explained;
+      without = o.found.without_text;
+      before = g.counts;
+      afoot = afoot_of o.ends;
+      are = g.whole.afoot;
+      means = subst (λ (t : UnitBodies). IsMeaning t h (afoot_of o.ends) actor request it.meaning) g.texts it.means;
+      other = is;
+    }
+
+pub notes_end : (o n : Tally) (h : History) (number actor : ℕ) (request : Request) → is_none o.found.other ≡ true → Legal h → h.limits.capacity ≤ 2 ^ 20 → IsSolvent h → is_end request ≡ true → (IsWhole o.ends h → IsNoted o n h number actor request) →
+    NotesEnd o n h number actor request
+notes_end o n h number actor request none legal most solvent end noted_so = λ loads follows number_is.
+    let g = goes_on o h loads none follows in
+    by_test loads number_is g (noted_so g.whole)
+  where
+    by_test : (loads : List Loaded) → number ≡ suc (length h.past) → GoesOn o h loads → (it : IsNoted o n h number actor request) → Awaits n h loads actor request
+    by_test loads number_is g it = split (is_settled it.meaning) refl
+      where
+        split : (b : Bool) → is_settled it.meaning ≡ b → Awaits n h loads actor request
+        split true is = noted_settled o n h loads number actor request most solvent end g it is
+        split false is = noted_other o n h loads number actor request legal number_is end g it is
+
+-- Requests that were answered
+
+goes_on_with : (t : Tally) (h : History) (loads : List Loaded) (actor : ℕ) (request : Request) → is_none t.found.other ≡ true → Awaits t h loads actor request → GoesOnWith t h loads actor request
+goes_on_with t h loads actor request none awaits = by_case t.found.other none awaits
+  where
+    by_case : (o : Option (ℕ × Meaning)) → is_none o ≡ true → AwaitsBy t h loads actor request o → GoesOnWith t h loads actor request
+    by_case None none awaits = awaits
+    by_case (Some other) none awaits = absurd cc
+
+behind_answer : (h k : History) (actor : ℕ) (request : Request) (answer : Answer) (word : Recorded) → recorded answer ≡ Some word → k ≡ after h actor request answer → k ≡ asked h actor request word
+behind_answer h k actor request answer word is k_is = k_is ∙ ap (entered h actor request) is
+
+pub took_entry : (o n : Tally) (k : History) (actor : ℕ) (request : Request) (answer : Answer) → is_none o.found.other ≡ true → TakesAnswered o.ends n.ends k actor request answer → n.found ≡ o.found → words_of n ≡ words_of o → texts_of n.ends ≡ texts_of o.ends →
+    TakesEntry o n k actor request answer
+took_entry o n k actor request answer none whole found words texts = λ h loads word awaits due is k_is.
+    let g = goes_on_with o h loads actor request none awaits in
+    let at = behind_answer h k actor request answer word is k_is in
+    going n k loads
+    (record {
+      whole = whole h word g.whole due is k_is;
+      none = ap other_of found ∙ g.none;
+      unsaid = words ∙ g.unsaid;
+      texts = texts ∙ g.texts;
+      counts = same_counts k loads o.found n.found found (subst (λ (x : History). Counts x loads o.found.explained o.found.without_text) (sym at) (g.counts word));
+    })
+
+-- behind an end whose text means another
+pub took_nothing : (t : Tally) (k : History) (actor : ℕ) (request : Request) (answer : Answer) → is_none t.found.other ≡ false → TakesEntry t t k actor request answer
+took_nothing t k actor request answer some = λ h loads word awaits due is k_is.
+    subst (λ (x : History). Follows t x loads) (sym (behind_answer h k actor request answer word is k_is)) (by_case h loads word t.found.other some awaits)
+  where
+    by_case : (h : History) (loads : List Loaded) (word : Recorded) (o : Option (ℕ × Meaning)) → is_none o ≡ false → AwaitsBy t h loads actor request o → FollowsBy t (asked h actor request word) loads o
+    by_case h loads word None some awaits = absurd cc
+    by_case h loads word (Some other) some awaits = awaits word
+
+-- Loads
+
+behind_recorded : (h k : History) (shape : Shape) → is_some (recorded (out_load h shape)) ≡ true → k ≡ after_load h shape (out_load h shape) → k ≡ record h { past = Load ∷ h.past; shapes = h.shapes ++ shape ∷ [] }
+behind_recorded h k shape some k_is = k_is ∙ ap (λ (b : Bool). if b then record h { past = Load ∷ h.past; shapes = h.shapes ++ shape ∷ [] } else h) some
+
+pub took_load : (o n : Tally) (unit : UnitBodies) → is_none o.found.other ≡ true → TakesTexts o.ends n.ends → n.found ≡ o.found → words_of n ≡ words_of o → texts_of n.ends ≡ with_unit unit (texts_of o.ends) → TakesLoad o n unit
+took_load o n unit none whole found words texts = λ h k loads shape follows some k_is.
+    let g = goes_on o h loads none follows in
+    let l : Loaded = record { behind = h.shapes; shape = shape; bodies = unit } in
+    let counts : Counts (record h { past = Load ∷ h.past; shapes = h.shapes ++ shape ∷ [] }) (l ∷ loads) n.found.explained n.found.without_text =
+    (l, refl, loads, refl, same_counts h loads o.found n.found found g.counts) in
+    subst (λ (x : Option (ℕ × Meaning)). Follows n k (loads_behind x l loads)) (sym g.none)
+    (going n k (l ∷ loads)
+    (record {
+      whole = whole h k shape g.whole some k_is;
+      none = ap other_of found ∙ g.none;
+      unsaid = words ∙ g.unsaid;
+      texts = texts ∙ ap (λ (t : UnitBodies). with_unit unit t) g.texts;
+      counts = subst (λ (x : History). Counts x (l ∷ loads) n.found.explained n.found.without_text) (sym (behind_recorded h k shape some k_is)) counts;
+    }))
+
+-- behind an end whose text means another
+pub loads_nothing : (t : Tally) (unit : UnitBodies) → is_none t.found.other ≡ false → TakesLoad t t unit
+loads_nothing t unit some_other = λ h k loads shape follows some k_is.
+    subst (λ (x : History). Follows t x (loads_behind t.found.other (record { behind = h.shapes; shape = shape; bodies = unit }) loads)) (sym (behind_recorded h k shape some k_is)) (by_case h loads shape t.found.other some_other follows)
+  where
+    by_case : (h : History) (loads : List Loaded) (shape : Shape) (o : Option (ℕ × Meaning)) → is_none o ≡ false → FollowsBy t h loads o →
+        FollowsBy t (record h { past = Load ∷ h.past; shapes = h.shapes ++ shape ∷ [] }) (loads_behind o (record { behind = h.shapes; shape = shape; bodies = unit }) loads) o
+    by_case h loads shape None some_other follows = absurd cc
+    by_case h loads shape (Some other) some_other follows =
+        record { shapes = follows.shapes; first = behind_load h loads follows.shapes other.0 other.1 shape follows.first; words = follows.words }
+
+-- Lists
+
+pub took_list : (t : Tally) → ((h : History) (list : List Words) (answer : Answer) → IsWhole t.ends h → IsWhole t.ends (after_list h (Some list) answer)) → TakesList t
+took_list t whole = λ h loads list answer follows. by_case h loads list answer t.found.other follows
+  where
+    counted : (h : History) (loads : List Loaded) (list : List Words) (b : Bool) → Counts h loads t.found.explained t.found.without_text →
+        Counts (if b then record h { past = ListChange ∷ h.past; lists = h.lists ++ list ∷ [] } else h) loads t.found.explained t.found.without_text
+    counted h loads list true c = (h.lists, list, refl, c)
+    counted h loads list false c = c
+
+    still : (h : History) (loads : List Loaded) (list : List Words) (other : ℕ × Meaning) (b : Bool) → HasFound t h loads other →
+        HasFound t (if b then record h { past = ListChange ∷ h.past; lists = h.lists ++ list ∷ [] } else h) loads other
+    still h loads list other true f = record { shapes = f.shapes; first = behind_list h loads f.shapes other.0 other.1 list f.first; words = f.words }
+    still h loads list other false f = f
+
+    by_case : (h : History) (loads : List Loaded) (list : List Words) (answer : Answer) (o : Option (ℕ × Meaning)) → FollowsBy t h loads o → FollowsBy t (after_list h (Some list) answer) loads o
+    by_case h loads list answer None g = record {
+      whole = whole h list answer g.whole;
+      none = g.none;
+      unsaid = g.unsaid;
+      texts = g.texts;
+      counts = counted h loads list (is_some (recorded answer)) g.counts;
+    }
+    by_case h loads list answer (Some other) f = still h loads list other (is_some (recorded answer)) f

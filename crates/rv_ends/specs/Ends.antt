@@ -1,12 +1,16 @@
 -- The ends of bodies, entry by entry of a journal (own).
 use Rattle.std.specs.Prelude.{◌≡◌, ℕ, Bool, true, false, ◌==◌, not, if◌then◌else◌, List, [], ◌∷◌, map, Option, Some, None, is_some}
 use Rattle.std.specs.List.{filter}
+use Rattle.rv_shape.specs.Shape.{Shape}
 use Rattle.rv_code.specs.Bodies.{UnitBodies}
 use Rattle.rv_event.specs.Recorded.{recorded}
 use Rattle.rv_event.specs.declared.entry.Answer.{Answer}
+use Rattle.rv_event.specs.declared.entry.Recorded.{Recorded}
 use Rattle.rv_event.specs.declared.entry.Request.{Request}
-use Rattle.rv_exec.specs.Bodies.{bodies_view, with_unit}
+use Rattle.rv_exec.specs.Bodies.{bodies_view}
+use Rattle.rv_history.specs.Due.{out}
 use Rattle.rv_history.specs.History.{History}
+use Rattle.rv_history.specs.Legal.{after, after_load, out_load}
 use Rattle.rv_ends.specs.Afoot.{Afoot, AreAfoot, Open, open_view}
 use Rattle.rv_ends.specs.Explained.{AsksBehind, ByRecorded, EndsBy, HasNoText, IsExplained, IsStopped, innermost, unwinds}
 use Rattle.rv_ends.specs.declared.ends.Ends.{Ends}
@@ -14,17 +18,9 @@ use Rattle.rv_ends.specs.declared.ends.Stop.{Stop}
 use Rattle.rv_ends.specs.declared.meaning.Meaning.{Meaning}
 use Rattle.rv_ends.specs.declared.meaning.Meaning.TheVariants as meaning
 
--- the history of the entries so far
-abbrev pub history_of : Ends → History
-history_of ends = ends.host
-
--- the texts of what they loaded
+-- the texts of what was loaded
 abbrev pub texts_of : Ends → UnitBodies
 texts_of ends = bodies_view ends.bodies
-
--- the texts behind the answer to a load: one that is recorded brings those of its unit
-abbrev pub texts_after : Answer → UnitBodies → UnitBodies → UnitBodies
-texts_after answer unit bodies = if is_some (recorded answer) then with_unit unit bodies else bodies
 
 -- what is kept of calls and bodies
 abbrev pub afoot_of : Ends → Afoot
@@ -43,10 +39,22 @@ of_others actor stops = filter (λ stop. not (stop.actor == actor)) stops
 abbrev pub left_stops : Request → ℕ → List Stop → List Stop
 left_stops request actor stops = if unwinds request then stops else of_others actor stops
 
--- What is kept is what is afoot, and what stopped its actors.
-pub record IsWhole (ends : Ends) : Type 0 where
-  pub afoot : AreAfoot (history_of ends) (afoot_of ends)
-  pub stopped : AllStopped (history_of ends) ends.stops.items
+-- What is kept is what is afoot behind a history, and what stopped its actors.
+pub record IsWhole (ends : Ends) (h : History) : Type 0 where
+  pub afoot : AreAfoot h (afoot_of ends)
+  pub stopped : AllStopped h ends.stops.items
+
+-- so it stays behind one more entry, a request whose answer was due and is recorded
+abbrev pub TakesAnswered : Ends → Ends → History → ℕ → Request → Answer → Type 0
+TakesAnswered old new k actor request answer =
+    (h : History) (word : Recorded) → IsWhole old h → answer ≡ out h actor request → recorded answer ≡ Some word
+    → k ≡ after h actor request answer → IsWhole new k
+
+-- and behind a load that is recorded
+abbrev pub TakesTexts : Ends → Ends → Type 0
+TakesTexts old new =
+    (h k : History) (shape : Shape) → IsWhole old h → is_some (recorded (out_load h shape)) ≡ true
+    → k ≡ after_load h shape (out_load h shape) → IsWhole new k
 
 -- an actor is in no body that has a text, or in one that called one without
 abbrev pub IsTextless : UnitBodies → Option Open → Type 0

@@ -1,22 +1,25 @@
 -- How a tally follows a history, entry by entry (own).
-use Rattle.std.specs.Prelude.{◌≡◌, ◌+◌, ◌-◌, ◌^◌, min, ℕ, suc, true, List, ◌∷◌, length, if◌then◌else◌, Option, None, Some, is_some}
+use Rattle.std.specs.Prelude.{◌≡◌, ◌+◌, ◌-◌, ◌^◌, min, ℕ, suc, true, List, [], ◌∷◌, length, string_bytes, Option, None, Some, is_some}
 use Rattle.rv_access.specs.Words.{Words}
 use Rattle.rv_code.specs.Bodies.{UnitBodies}
 use Rattle.rv_event.specs.declared.entry.Answer.{Answer}
 use Rattle.rv_shape.specs.Shape.{Shape}
 use Rattle.rv_event.specs.Recorded.{recorded}
+use Rattle.rv_event.specs.Text.{request_text}
 use Rattle.rv_event.specs.declared.entry.Entry.TheVariants.{Asked}
 use Rattle.rv_event.specs.declared.entry.Recorded.{Recorded}
 use Rattle.rv_event.specs.declared.entry.Request.{Request}
 use Rattle.rv_history.specs.Due.{out}
 use Rattle.rv_history.specs.History.{History}
-use Rattle.rv_history.specs.Legal.{after, after_list, after_load, out_list, out_load}
+use Rattle.rv_history.specs.Legal.{after, after_list, after_load, out_load}
 use Rattle.rv_ends.specs.Counts.{Counts, IsFirstOther, Loaded, texts_by}
-use Rattle.rv_ends.specs.Ends.{IsMeaning, IsWhole, afoot_of, history_of, is_settled, texts_of}
+use Rattle.rv_ends.specs.Ends.{IsMeaning, IsWhole, afoot_of, texts_of}
 use Rattle.rv_ends.specs.declared.meaning.Meaning.{Meaning}
 use Rattle.rv_ends.specs.declared.meaning.Meaning.TheVariants as meaning
 use Rattle.rv_ends.specs.declared.tally.Found.{Found}
 use Rattle.rv_ends.specs.declared.tally.Tally.{Tally}
+
+-- What is noted of an end
 
 -- one more, where a number can count it; no journal has as many entries
 abbrev pub one_more : ℕ → ℕ
@@ -29,58 +32,98 @@ noted found number meaning.WithoutText = record found { without_text = one_more 
 noted found number (meaning.Gives request) = record found { other = Some (number, meaning.Gives request) }
 noted found number (meaning.Asks request) = record found { other = Some (number, meaning.Asks request) }
 
--- the history of the entries that were taken
-abbrev pub taken_of : Tally → History
-taken_of tally = history_of tally.ends
+-- the text of the request that a body's text means instead of an end, by the names of these shapes
+abbrev pub meant_text : List Shape → Meaning → List ℕ
+meant_text shapes meaning.Explained = []
+meant_text shapes meaning.WithoutText = []
+meant_text shapes (meaning.Gives request) = request_text shapes request
+meant_text shapes (meaning.Asks request) = request_text shapes request
 
--- each end of the history, whose loads were these, was explained, or has no text, and they are counted
+-- the words that are kept of it
+abbrev pub words_of : Tally → List ℕ
+words_of tally = string_bytes tally.words
+
+-- Behind an entry
+
+-- each end of a history, whose loads were these, was explained, or has no text, and they are counted
 pub record GoesOn (tally : Tally) (h : History) (loads : List Loaded) : Type 0 where
-  pub whole : IsWhole tally.ends
-  pub at : taken_of tally ≡ h
+  pub whole : IsWhole tally.ends h
   pub none : tally.found.other ≡ None
+  pub unsaid : words_of tally ≡ []
   pub texts : texts_of tally.ends ≡ texts_by loads
   pub counts : Counts h loads tally.found.explained tally.found.without_text
 
--- so it is, or the first end whose text means another is found, behind these loads
+-- the first end whose text means another is found, behind these loads, and the words tell what its text means
+pub record HasFound (tally : Tally) (h : History) (loads : List Loaded) (other : ℕ × Meaning) : Type 0 where
+  pub shapes : List Shape
+  pub first : IsFirstOther h loads shapes other.0 other.1
+  pub words : words_of tally ≡ meant_text shapes other.1
+
 abbrev pub FollowsBy : Tally → History → List Loaded → Option (ℕ × Meaning) → Type 0
 FollowsBy tally h loads None = GoesOn tally h loads
-FollowsBy tally h loads (Some other) = IsFirstOther h loads (taken_of tally).shapes other.0 other.1
+FollowsBy tally h loads (Some other) = HasFound tally h loads other
 
 abbrev pub Follows : Tally → History → List Loaded → Type 0
 Follows tally h loads = FollowsBy tally h loads tally.found.other
 
--- a request is carried out, and nothing is found
-pub record IsCarriedOut (old new : Tally) (actor : ℕ) (request : Request) : Type 0 where
-  pub whole : IsWhole old.ends → IsWhole new.ends
-  pub found : new.found ≡ old.found
-  pub history : taken_of new ≡ after (taken_of old) actor request (out (taken_of old) actor request)
-  pub texts : texts_of new.ends ≡ texts_of old.ends
+-- Before an entry and behind it
 
--- an end to come is noted by what its text means
-pub record IsNoted (old new : Tally) (number actor : ℕ) (end : Request) : Type 0 where
+-- the history with a request of an actor, recorded so
+abbrev pub asked : History → ℕ → Request → Recorded → History
+asked h actor request word = record h { past = Asked actor request word ∷ h.past }
+
+-- a history goes on with this request, which is counted already where it ends a body
+pub record GoesOnWith (tally : Tally) (h : History) (loads : List Loaded) (actor : ℕ) (request : Request) : Type 0 where
+  pub whole : IsWhole tally.ends h
+  pub none : tally.found.other ≡ None
+  pub unsaid : words_of tally ≡ []
+  pub texts : texts_of tally.ends ≡ texts_by loads
+  pub counts : (word : Recorded) → Counts (asked h actor request word) loads tally.found.explained tally.found.without_text
+
+abbrev pub AwaitsBy : Tally → History → List Loaded → ℕ → Request → Option (ℕ × Meaning) → Type 0
+AwaitsBy tally h loads actor request None = GoesOnWith tally h loads actor request
+AwaitsBy tally h loads actor request (Some other) = (word : Recorded) → HasFound tally (asked h actor request word) loads other
+
+-- what holds of a history where this request is its next entry, and was noted before it is carried out
+abbrev pub Awaits : Tally → History → List Loaded → ℕ → Request → Type 0
+Awaits tally h loads actor request = AwaitsBy tally h loads actor request tally.found.other
+
+-- the end of a body is noted by what its text means, before it is carried out
+pub record IsNoted (old new : Tally) (h : History) (number actor : ℕ) (end : Request) : Type 0 where
   pub meaning : Meaning
-  pub means : IsMeaning (texts_of old.ends) (taken_of old) (afoot_of old.ends) actor end meaning
+  pub means : IsMeaning (texts_of old.ends) h (afoot_of old.ends) actor end meaning
   pub found : new.found ≡ noted old.found number meaning
-  pub whole : IsWhole new.ends
-  pub history : is_settled meaning ≡ true → taken_of new ≡ taken_of old
+  pub words : words_of new ≡ meant_text h.shapes meaning
+  pub whole : IsWhole new.ends h
   pub texts : texts_of new.ends ≡ texts_of old.ends
-  pub shapes : (taken_of new).shapes ≡ (taken_of old).shapes
 
--- a request is taken, as the entry of this number, where its recorded answer was due
-abbrev pub TakesRequest : Tally → Tally → ℕ → ℕ → Request → Type 0
-TakesRequest old new number actor request =
-    (h : History) (loads : List Loaded) (word : Recorded) → GoesOn old h loads → number ≡ suc (length h.past) → recorded (out h actor request) ≡ Some word
-    → Follows new (record h { past = Asked actor request word ∷ h.past }) loads
+-- a request is noted behind a history, as the entry of this number
+abbrev pub NotesEnd : Tally → Tally → History → ℕ → ℕ → Request → Type 0
+NotesEnd old new h number actor request =
+    (loads : List Loaded) → Follows old h loads → number ≡ suc (length h.past) → Awaits new h loads actor request
 
--- so is a load of a unit with its bodies, where it is recorded, and a list
-abbrev pub loads_behind : Answer → Loaded → List Loaded → List Loaded
-loads_behind answer unit loads = if is_some (recorded answer) then unit ∷ loads else loads
+-- it is taken, where its answer was due and is recorded
+abbrev pub TakesEntry : Tally → Tally → History → ℕ → Request → Answer → Type 0
+TakesEntry old new k actor request answer =
+    (h : History) (loads : List Loaded) (word : Recorded) → Awaits old h loads actor request → answer ≡ out h actor request
+    → recorded answer ≡ Some word → k ≡ after h actor request answer → Follows new k loads
 
-abbrev pub TakesLoad : Tally → Tally → Shape → UnitBodies → Type 0
-TakesLoad old new shape bodies =
-    (h : History) (loads : List Loaded) → GoesOn old h loads
-    → Follows new (after_load h shape (out_load h shape)) (loads_behind (out_load h shape) (record { behind = h.shapes; shape = shape; bodies = bodies }) loads)
+-- Loads and lists
 
-abbrev pub TakesList : Tally → Tally → List Words → Type 0
-TakesList old new list =
-    (h : History) (loads : List Loaded) → GoesOn old h loads → Follows new (after_list h (Some list) (out_list h (Some list))) loads
+-- the loads behind one more; behind an end whose text means another they are no longer counted with
+abbrev pub loads_behind : Option (ℕ × Meaning) → Loaded → List Loaded → List Loaded
+loads_behind None unit loads = unit ∷ loads
+loads_behind (Some other) unit loads = loads
+
+-- a load of a unit is taken with the unit's bodies, where it is recorded
+abbrev pub TakesLoad : Tally → Tally → UnitBodies → Type 0
+TakesLoad old new bodies =
+    (h k : History) (loads : List Loaded) (shape : Shape) → Follows old h loads → is_some (recorded (out_load h shape)) ≡ true
+    → k ≡ after_load h shape (out_load h shape)
+    → Follows new k (loads_behind old.found.other (record { behind = h.shapes; shape = shape; bodies = bodies }) loads)
+
+-- a list changes nothing of what is found, however it was answered
+abbrev pub TakesList : Tally → Type 0
+TakesList tally =
+    (h : History) (loads : List Loaded) (list : List Words) (answer : Answer) → Follows tally h loads
+    → Follows tally (after_list h (Some list) answer) loads

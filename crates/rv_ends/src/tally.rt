@@ -1,23 +1,21 @@
-//! The ends of bodies in a journal, counted by what their texts mean.
+//! The ends of bodies in a journal, counted by what their texts mean. Whoever carries the journal out on a host lends it before
+//! each entry and behind it; a tally keeps no host of its own.
 
-ghost use Rattle.std.specs.Prelude.{◌≡◌, ◌≤◌, ◌^◌, ℕ, [], IfOk, OnOk, is_none};
+ghost use Rattle.std.specs.Prelude.{◌≡◌, [], IfOk, OnOk, is_none, string_bytes};
 ghost use Rattle.rv_code.specs.BodyView.{unit_view};
-ghost use Rattle.rv_history.specs.History.{History};
-ghost use Rattle.rv_history.specs.Legal.{Legal, empty};
-ghost use Rattle.rv_history.specs.Limits.{limits_with};
-ghost use Rattle.rv_history.specs.Owed.{IsSolvent};
+ghost use Rattle.rv_history.specs.Legal.{empty};
+ghost use Rattle.rv_history.specs.declared.limits.Limits.{Limits};
 ghost use Rattle.rv_ends.specs.Ends.{IsWhole};
-ghost use Rattle.rv_ends.specs.Tally.{Follows, IsCarriedOut, IsNoted, TakesList, TakesLoad, TakesRequest, noted, one_more, taken_of};
+ghost use Rattle.rv_ends.specs.Tally.{Follows, IsNoted, NotesEnd, TakesEntry, TakesList, TakesLoad, meant_text, noted, one_more, words_of};
 
 use crate::answered::is_end;
 use crate::ends::Ends;
 use crate::meaning::Meaning;
-use rv_access::AccessList;
 use rv_code::UnitBodies;
-use rv_event::entry::{Exception, Exit, Next, Request, Rule};
-use rv_host::host::NewFault;
+use rv_event::entry::{Answer, Exception, Exit, Next, Request, Rule};
+use rv_event::text::text_of_request;
+use rv_host::host::Host;
 use rv_shape::catalogue::Catalogue;
-use rv_shape::shape::UnitShape;
 use rv_value::{Args, Scalars};
 use std::alloc::{AllocError, Global};
 
@@ -35,8 +33,11 @@ pub struct Found {
 /// Counts the ends of bodies in a journal, entry by entry, up to the first whose text means another.
 #[derive(Drop)]
 pub struct Tally {
+    alloc: Global,
     ends: Ends,
     found: Found,
+    // What the text of that first one means, told by the names that were loaded then.
+    words: String,
 }
 
 // One more.
@@ -74,28 +75,32 @@ fn noted(found: Found, number: usize, meaning: Meaning) -> Found
     }
 }
 
+// The text of the request that another end means.
+fn meant_text(alloc: Global, catalogue: &Catalogue, meaning: &Meaning) -> Result<String, AllocError>
+    ensures { IfOk result (λ text. string_bytes text ≡ meant_text catalogue.now meaning.now) }
+{
+    match meaning {
+        Meaning::Explained | Meaning::WithoutText => Ok(String::new(alloc)),
+        Meaning::Gives(request) => text_of_request(alloc, catalogue, request),
+        Meaning::Asks(request) => text_of_request(alloc, catalogue, request),
+    }
+}
+
 impl Tally {
-    /// Before the first entry of a journal over a capacity, 16 .. 1,048,576, and queues of so many callers, 1 .. 8.
-    #[tactic(auto, using(crate::proofs::Counting::at_first))]
-    pub fn new(alloc: Global, capacity: usize, limit: usize) -> Result<Tally, NewFault>
-        ensures { IfOk result (λ tally. Follows tally (empty (limits_with capacity limit)) []) }
+    /// Before the first entry of a journal.
+    pub fn new(alloc: Global) -> Tally
+        ensures { (limits : Limits) → Follows result (empty limits) [] }
     {
-        let ends = Ends::new(alloc, capacity, limit)?;
-        Ok(Tally {
-            ends,
+        Tally {
+            alloc,
+            ends: Ends::new(alloc),
             found: Found {
                 explained: 0,
                 without_text: 0,
                 other: None,
             },
-        })
-    }
-
-    /// The catalogue of what was loaded.
-    pub fn catalogue(&self) -> &Catalogue
-        ensures { result.now ≡ (taken_of self.now).shapes }
-    {
-        self.ends.catalogue()
+            words: String::new(alloc),
+        }
     }
 
     /// What is found so far.
@@ -112,19 +117,23 @@ impl Tally {
         self.found.other.is_none()
     }
 
-    /// Does nothing. Its clauses say what is kept of the entries that were taken: they are those of a legal history, within its
-    /// capacity.
-    pub fn replays(&self)
-        ensures legal { Legal (taken_of self.now) }
-        ensures most { (taken_of self.now).limits.capacity ≤ 2 ^ 20 }
-        ensures solvent { IsSolvent (taken_of self.now) }
+    /// The text of the request that is meant by the text of the first end that means another, by the names that were loaded
+    /// then; empty where there is no such end.
+    pub fn words(&self) -> &str
+        ensures { result.now ≡ words_of self.now }
     {
-        self.ends.replays();
+        self.words.as_str()
     }
 
-    // Carries out a request that ends no body, or whose end is noted.
-    fn carry_out(&mut self, actor: usize, request: &Request) -> Result<(), AllocError>
-        ensures { OnOk result (IsCarriedOut self.old self.new actor request.now) }
+    // Notes what the text of an end means that is to come.
+    fn note(
+        &mut self,
+        host: &Host,
+        number: usize,
+        actor: usize,
+        end: &Request,
+    ) -> Result<(), AllocError>
+        ensures { OnOk result (IsWhole self.old.ends host.now → IsNoted self.old self.new host.now number actor end.now) }
     {
         // The check is told of these types only where they are named.
         let _exit: Option<Exit> = None;
@@ -133,54 +142,64 @@ impl Tally {
         let _rule: Option<Rule> = None;
         let _next: Option<Next> = None;
         let _exception: Option<Exception> = None;
-        let _answer = self.ends.ask(actor, request)?;
-        Ok(())
-    }
-
-    // Notes what the text of an end means.
-    fn note(&mut self, number: usize, actor: usize, end: &Request) -> Result<(), AllocError>
-        ensures { IsWhole self.old.ends → OnOk result (IsNoted self.old self.new number actor end.now) }
-    {
-        // The check is told of these types only where they are named.
-        let _exit: Option<Exit> = None;
-        let _scalars: Option<Scalars> = None;
-        let _args: Option<Args> = None;
-        let _rule: Option<Rule> = None;
-        let _next: Option<Next> = None;
-        let _exception: Option<Exception> = None;
-        let meaning = self.ends.meaning(actor, end)?;
+        let meaning = self.ends.meaning(host, actor, end)?;
+        self.words = meant_text(self.alloc, host.catalogue(), &meaning)?;
         self.found = noted(self.found, number, meaning);
         Ok(())
     }
 
-    /// Takes a request whose answer is recorded, as the entry of this number; it may end a body.
-    pub fn ask(&mut self, number: usize, actor: usize, request: &Request) -> Result<(), AllocError>
-        ensures { OnOk result (TakesRequest self.old self.new number actor request.now) }
+    /// Notes a request, which may end a body, before the host carries it out as the entry of this number. Err where memory was
+    /// refused.
+    pub fn before(
+        &mut self,
+        host: &Host,
+        number: usize,
+        actor: usize,
+        request: &Request,
+    ) -> Result<(), AllocError>
+        ensures { OnOk result (NotesEnd self.old self.new host.now number actor request.now) }
     {
-        self.ends.replays();
-        if !is_end(request) {
-            return self.carry_out(actor, request);
-        }
-        self.note(number, actor, request)?;
+        host.replays();
         if !self.goes_on() {
             return Ok(());
         }
-        self.carry_out(actor, request)
+        if !is_end(request) {
+            return Ok(());
+        }
+        self.note(host, number, actor, request)
     }
 
-    /// Takes the load of a unit, with its bodies.
-    pub fn load(&mut self, shape: &UnitShape, bodies: UnitBodies) -> Result<(), AllocError>
-        ensures { OnOk result (TakesLoad self.old self.new shape.now (unit_view bodies)) }
+    /// Takes a request that was noted and its answer, where the host recorded it as its last entry. Err where memory was refused.
+    pub fn after(
+        &mut self,
+        host: &Host,
+        actor: usize,
+        request: &Request,
+        answer: &Answer,
+    ) -> Result<(), AllocError>
+        ensures { OnOk result (TakesEntry self.old self.new host.now actor request.now answer.now) }
     {
-        self.ends.load(shape, bodies)?;
+        if !self.goes_on() {
+            return Ok(());
+        }
+        self.ends.take(host, actor, request, answer)
+    }
+
+    /// Takes a load that the host recorded, with the bodies of its unit. Err where memory was refused.
+    pub fn load(&mut self, bodies: UnitBodies) -> Result<(), AllocError>
+        ensures { OnOk result (TakesLoad self.old self.new (unit_view bodies)) }
+    {
+        if !self.goes_on() {
+            return Ok(());
+        }
+        self.ends.load(bodies)?;
         Ok(())
     }
 
-    /// Takes a list.
-    pub fn set_list(&mut self, list: &AccessList) -> Result<(), AllocError>
-        ensures { OnOk result (TakesList self.old self.new list.now) }
+    /// Takes a list, however it was answered. It does nothing, since what is kept doesn't depend on lists.
+    pub fn set_list(&self)
+        ensures { TakesList self.now }
     {
-        self.ends.set_list(list)?;
-        Ok(())
+        self.ends.set_list();
     }
 }

@@ -1,11 +1,12 @@
 -- What is said of the ends of bodies in a journal (own).
-use Rattle.std.specs.Prelude.{◌≡◌, ◌⊎◌, ℕ, Bool, true, false, List, [], ◌∷◌, ◌++◌, codes, nat_lt, if◌then◌else◌, is_none, Option, Some, None, Result, Ok, Err}
+use Rattle.std.specs.Prelude.{◌≡◌, ◌⊎◌, ℕ, Bool, true, false, List, [], ◌∷◌, ◌++◌, codes, nat_lt, if◌then◌else◌, is_none, IfSome, Option, Some, None, Result, Ok, Err}
 use Rattle.std.specs.Fmt.{decimal}
 use Rattle.std.specs.Io.KnownBytes.{Appends}
 use Rattle.rv_shape.specs.Shape.{Shape}
 use Rattle.rv_event.specs.Text.{request_text}
-use Rattle.rv_event.specs.declared.entry.Request.{Request}
+use Rattle.rv_history.specs.declared.limits.Limits.{Limits}
 use Rattle.rv_history.specs.History.{History}
+use Rattle.rv_audit.specs.Torn.{IsJournalBut}
 use Rattle.rv_ends.specs.declared.meaning.Meaning.{Meaning}
 use Rattle.rv_ends.specs.declared.meaning.Meaning.TheVariants as meaning
 use Rattle.rv_script.specs.Prefixes.{WritesPrefix}
@@ -13,6 +14,7 @@ use Rattle.rv_fault.specs.Written.{Known}
 use Rattle.rv_fault.specs.declared.failure.Failure.{Failure}
 use Rattle.rv_fault.specs.declared.failure.Failure.TheVariants.{Refused, Memory, Io}
 use Rattle.rv_ends.specs.Counts.{IsFoundOf, Loaded}
+use Rattle.rv_ends.specs.Tally.{meant_text}
 use Rattle.rv_ends.specs.declared.tally.Found.{Found}
 use Rattle.rv_verdict.specs.Texts.{HaveBodies}
 
@@ -25,21 +27,26 @@ counted_line explained without_text =
     then codes "ends " ++ (decimal explained ++ (codes " explained, " ++ (decimal without_text ++ (codes " without a text" ++ 10 ∷ []))))
     else codes "ends " ++ (decimal explained ++ (codes " explained" ++ 10 ∷ []))
 
--- the text of an entry's end means another request: it gives another end, or asks something
-abbrev pub meant_line : List Shape → ℕ → List ℕ → Request → List ℕ
-meant_line shapes number verb request =
-    codes "entry " ++ (decimal number ++ (codes ": its text " ++ (verb ++ (codes " " ++ (request_text shapes request ++ 10 ∷ [])))))
+-- the text of an entry's end means another request, told by these words: it gives another end, or asks something
+abbrev pub words_line : ℕ → List ℕ → List ℕ → List ℕ
+words_line number verb words =
+    codes "entry " ++ (decimal number ++ (codes ": its text " ++ (verb ++ (codes " " ++ (words ++ 10 ∷ [])))))
 
 abbrev pub line_by : List Shape → Found → Option (ℕ × Meaning) → List ℕ
 line_by shapes found None = counted_line found.explained found.without_text
 line_by shapes found (Some (number, meaning.Explained)) = counted_line found.explained found.without_text
 line_by shapes found (Some (number, meaning.WithoutText)) = counted_line found.explained found.without_text
-line_by shapes found (Some (number, meaning.Gives request)) = meant_line shapes number (codes "gives") request
-line_by shapes found (Some (number, meaning.Asks request)) = meant_line shapes number (codes "asks") request
+line_by shapes found (Some (number, meaning.Gives request)) = words_line number (codes "gives") (request_text shapes request)
+line_by shapes found (Some (number, meaning.Asks request)) = words_line number (codes "asks") (request_text shapes request)
 
 -- the line of what is found, by the names of what was loaded
 abbrev pub ends_line : List Shape → Found → List ℕ
 ends_line shapes found = line_by shapes found found.other
+
+-- by the names of what was loaded these words tell what the text of the first other end means
+abbrev pub AreWords : List Shape → List ℕ → Option (ℕ × Meaning) → Type 0
+AreWords shapes words None = Unit {0}
+AreWords shapes words (Some other) = words ≡ meant_text shapes other.1
 
 -- what is found of the ends of a history, whose loads brought these texts of these units
 pub record IsFound (units : List Shape) (texts : List (Option (List ℕ))) (h : History) (shapes : List Shape) (found : Found) : Type 0 where
@@ -69,3 +76,8 @@ abbrev pub SaysBehind : List Shape → List (Option (List ℕ)) → (History →
 SaysBehind units texts Of old new true result = (h : History) × Of h × SaysEnds units texts h old new result
 SaysBehind units texts Of old new false (Ok is_explained) = Appends old new [] × (is_explained ≡ false)
 SaysBehind units texts Of old new false (Err failure) = ⊥
+
+-- this holds of the history whose journal a file holds but for a torn end
+abbrev pub IsFollowed : Known → Bool → Limits → List Shape → ℕ → (History → Type 0) → Type 0
+IsFollowed journal takes_torn limits units torn Follows =
+    (h : History) × IfSome journal (λ bytes. IsJournalBut limits units takes_torn bytes h torn) × Follows h

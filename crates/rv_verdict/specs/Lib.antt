@@ -1,10 +1,8 @@
 pub mod Audits
 pub mod Brought
-pub mod Cutting
 pub mod Ends
 pub mod Explained
 pub mod Explaining
 pub mod Given
-pub mod Judging
 pub mod Said
 pub mod Texts

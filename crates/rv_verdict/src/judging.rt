@@ -6,12 +6,12 @@ ghost use Rattle.rv_script.specs.UnitTexts.{without_returns};
 ghost use Rattle.rv_script.specs.Whole.{most_bytes};
 ghost use Rattle.rv_verdict.specs.Audits.{AuditsScript, AuditsText, SaysOf, SaysOfBytes, SaysOfFile, SaysOfSection};
 ghost use Rattle.rv_verdict.specs.Brought.{AreLimits};
-ghost use Rattle.rv_verdict.specs.Judging.{IsFollowed};
-ghost use Rattle.rv_verdict.specs.Texts.{texts_now};
+ghost use Rattle.rv_verdict.specs.Ends.{IsFollowed};
 
-use crate::file::{Nobody, Taker, Watch, judge_lines};
 use crate::said::say;
 use crate::script::{audit_over, script_of};
+use rv_audit::lines::judge_lines;
+use rv_audit::observer::{Nobody, Observer, Watch};
 use rv_fault::Failure;
 use rv_history::limits::Limits;
 use rv_script::unit_text::unit_text;
@@ -29,8 +29,32 @@ pub struct Audited {
     pub torn: usize,
 }
 
-// Judges a journal, and says what was found.
-fn audit_journal<W: Write>(
+/// Judges what a reader gives, of which an observer is told, and says what was found. Every audit comes this way.
+pub fn audit_lines<J: Read, W: Write, H: Watch, O: Observer>(
+    alloc: Global,
+    journal: &mut J,
+    takes_torn: bool,
+    watch: &mut H,
+    writer: &mut W,
+    limits: Limits,
+    units: &[UnitShape],
+    observer: &mut O,
+) -> Result<Audited, Failure>
+    requires { AreLimits limits }
+    ensures says { SaysOfBytes (J.remaining journal.old) takes_torn (W.contents writer.old) (W.contents writer.new) limits units.now result }
+    ensures follows { IfOk result (λ told. (begun : O) → O.follows begun observer.old units.now (empty limits) → told.is_legal ≡ true →
+        IsFollowed (J.remaining journal.old) takes_torn limits units.now told.torn (O.follows begun observer.new units.now)) }
+{
+    let mut audit = audit_over(alloc, limits)?;
+    let (verdict, torn) = judge_lines(
+        alloc, &mut audit, units, journal, takes_torn, watch, observer,
+    )?;
+    let is_legal = say(alloc, writer, audit.catalogue(), &verdict)?;
+    Ok(Audited { is_legal, torn })
+}
+
+// Judges the journal of a section, and says what was found.
+fn audit_section<W: Write>(
     alloc: Global,
     writer: &mut W,
     limits: Limits,
@@ -41,9 +65,18 @@ fn audit_journal<W: Write>(
     ensures { SaysOf (W.contents writer.old) (W.contents writer.new) limits units.now (without_returns journal.now) result }
 {
     let journal = unit_text(alloc, journal)?;
-    let mut audit = audit_over(alloc, limits)?;
-    let verdict = audit.judge_all(units, journal.as_str());
-    say(alloc, writer, audit.catalogue(), &verdict)
+    let mut bytes = journal.as_bytes();
+    let audited = audit_lines(
+        alloc,
+        &mut bytes,
+        false,
+        &mut Nobody {},
+        writer,
+        limits,
+        units,
+        &mut Nobody {},
+    )?;
+    Ok(audited.is_legal)
 }
 
 // Judges the journal that the text of a script brings.
@@ -52,7 +85,7 @@ fn audit_text<W: Write>(alloc: Global, writer: &mut W, text: &str) -> Result<boo
     ensures { AuditsText true SaysOfSection (W.contents writer.old) (W.contents writer.new) text.now result }
 {
     let (limits, given) = script_of(alloc, text, true)?;
-    audit_journal(alloc, writer, limits, given.units(), given.journal())
+    audit_section(alloc, writer, limits, given.units(), given.journal())
 }
 
 /// Judges the journal that a script brings in a section, without each carriage return that stands before a line feed, and
@@ -71,31 +104,6 @@ pub fn audit<R: Read, W: Write>(
     let bytes = read_script(alloc, reader)?;
     let text = text_of(bytes.as_slice())?;
     audit_text(alloc, writer, text)
-}
-
-/// Judges what a reader gives, and says what was found; the lines that are right are taken.
-pub fn audit_lines<J: Read, W: Write, H: Watch, T: Taker>(
-    alloc: Global,
-    journal: &mut J,
-    takes_torn: bool,
-    watch: &mut H,
-    writer: &mut W,
-    limits: Limits,
-    units: &[UnitShape],
-    texts: &[Option<&str>],
-    taker: &mut T,
-) -> Result<Audited, Failure>
-    requires { AreLimits limits }
-    ensures says { SaysOfBytes (J.remaining journal.old) takes_torn (W.contents writer.old) (W.contents writer.new) limits units.now result }
-    ensures follows { IfOk result (λ told. T.follows taker.old units.now (texts_now texts.now) (empty limits) → told.is_legal ≡ true →
-        IsFollowed (J.remaining journal.old) takes_torn limits units.now told.torn (T.follows taker.new units.now (texts_now texts.now))) }
-{
-    let mut audit = audit_over(alloc, limits)?;
-    let (verdict, torn) = judge_lines(
-        alloc, &mut audit, units, texts, journal, takes_torn, watch, taker,
-    )?;
-    let is_legal = say(alloc, writer, audit.catalogue(), &verdict)?;
-    Ok(Audited { is_legal, torn })
 }
 
 // Judges what a reader gives over what the text of a script brings.
@@ -119,7 +127,6 @@ fn audit_file_text<J: Read, W: Write, H: Watch>(
         writer,
         limits,
         given.units(),
-        &[],
         &mut Nobody {},
     )
 }

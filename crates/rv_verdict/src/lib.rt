@@ -2,9 +2,7 @@
 //! is judged, and one line says what was found.
 #![tactic(auto)]
 
-mod cutter;
 mod explaining;
-mod file;
 mod given;
 mod judging;
 mod said;
@@ -12,6 +10,6 @@ mod script;
 mod texts;
 mod with_ends;
 
-pub use file::{Nobody, Watch};
 pub use judging::{Audited, audit, audit_file};
+pub use rv_audit::observer::{Nobody, Watch};
 pub use with_ends::{Explained, audit_explained, audit_file_explained};

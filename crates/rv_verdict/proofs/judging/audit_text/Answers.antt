@@ -16,8 +16,8 @@ returns-in_err-limits g c =
 pub returns : goal.returns
 returns g c =
     let old = g.W.Write.contents c.args.writer.now in
-    let new = g.W.Write.contents c.audit_journal.new.writer in
+    let new = g.W.Write.contents c.audit_section.new.writer in
     let it : Brought = record { limits = c.in_ok-limits.limits; units = c.in_ok-limits.given.units; journal = c.in_ok-limits.given.journal } in
-    said_of true SaysOfSection old new c.args.text.now it c.audit_journal.result section_never c.in_ok-limits.ensures.1
-    (subst (λ (units : List Shape). SaysOf old new c.in_ok-limits.limits units (without_returns c.in_ok-limits.given.journal) c.audit_journal.result) c.units.ensures
-    (subst (λ (journal : List ℕ). SaysOf old new c.in_ok-limits.limits c.units.result.now (without_returns journal) c.audit_journal.result) c.journal.ensures c.audit_journal.ensures))
+    said_of true SaysOfSection old new c.args.text.now it c.audit_section.result section_never c.in_ok-limits.ensures.1
+    (subst (λ (units : List Shape). SaysOf old new c.in_ok-limits.limits units (without_returns c.in_ok-limits.given.journal) c.audit_section.result) c.units.ensures
+    (subst (λ (journal : List ℕ). SaysOf old new c.in_ok-limits.limits c.units.result.now (without_returns journal) c.audit_section.result) c.journal.ensures c.audit_section.ensures))

@@ -4,6 +4,6 @@ use Rattle.rv_ends.proofs.Whole.{whole_stopped}
 use Rattle.rv_ends.proofs.ends.Ends.keep_stop.Goals as goal
 
 pub returns-clause-whole : goal.returns-clause-whole
-returns-clause-whole c = λ w is.
+returns-clause-whole c = λ h w is.
     let stop : Stop = record { actor = c.args.actor; ask = c.args.ask.now } in
-    whole_stopped c.args.self.now (record c.args.self.now { stops = c.push.new.self }) stop w is refl refl c.in_ok-push.ensures.items
+    whole_stopped c.args.self.now (record c.args.self.now { stops = c.push.new.self }) h stop w is refl c.in_ok-push.ensures.items

@@ -14,4 +14,4 @@ returns-in-Explained-clause-meaning c = λ whole.
     let body = open_view c.in-Some.body.now in
     let is = subst (λ (bodies : List OpenBody). innermost c.args.actor (map open_view bodies) ≡ Some body) c.as_slice.ensures.value c.in-Some.ensures.some in
     let so = subst (λ (shapes : List Shape). IsCourse (texts_of c.args.self.now) shapes body c.args.end.now course.Explained) c.catalogue.ensures c.in-Explained.ensures in
-    explained_is c.args.self.now c.args.actor c.args.end.now body whole is so
+    explained_is c.args.self.now c.args.host.now c.args.actor c.args.end.now body whole is so

@@ -1,0 +1,5 @@
+use Rattle.rv_ends.proofs.Whole.{whole_by_list}
+use Rattle.rv_ends.proofs.ends.Ends.set_list.Goals as goal
+
+pub returns : goal.returns
+returns c = whole_by_list c.args.self.now
