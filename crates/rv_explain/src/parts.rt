@@ -1,45 +1,46 @@
-//! The sections of a script, and what those before a line declare.
-
-ghost use Rattle.std.specs.Prelude.{◌≡◌, ◌+◌, ◌≤◌, ◌^◌, length, IfSome};
+//! The parts of a script, and what those before a line declare.
 
 use rv_cause::known::Known;
 use rv_cause::loaded::add_shape;
+use rv_fault::{Part, Parts};
 use rv_lex::lexer::tokens;
 use rv_lex::token::Tokens;
-use rv_script::{Opening, opening_of};
-use rv_text::{Section, next_word, open_script, without_return};
+use rv_script::Opening;
+use rv_text::{next_word, open_script, without_return};
 use std::alloc::{AllocError, Global};
 
-/// The section of a script that this line opens.
+// The parts of a script, its settings among them; of one that is too long none.
 #[tactic(auto, using(rv_script::proofs::Numbered::are_numbered))]
-pub(crate) fn section_at(script: &str, line: usize) -> Option<Section<'_>>
-    ensures { IfSome result (λ section. section.line + length section.text.now ≤ 2 ^ 63) }
-{
+fn parts_of(script: &str) -> Parts<'_> {
     if script.len() > 16_777_216 {
-        return None;
+        let (_, none) = open_script("");
+        return Parts::of(none);
     }
-    let (_, mut sections) = open_script(script);
-    'each: while let Some(section) = sections.next_section() {
-        if section.line == line {
-            return Some(section);
+    let (_, sections) = open_script(script);
+    Parts::of(sections)
+}
+
+/// The part of a script that this line opens.
+pub(crate) fn part_at(script: &str, line: usize) -> Option<Part<'_>> {
+    let mut parts = parts_of(script);
+    'each: while let Some(part) = parts.next_part() {
+        if part.line == line {
+            return Some(part);
         }
     }
     None
 }
 
-/// The section of a script that a line stands in, behind its opening. Behind `@run` commands follow, also what looks like an
+/// What the part of a script opens that a line stands in, behind its opening. Behind `@run` commands follow, also what looks like an
 /// opening.
 pub(crate) fn opening_before(script: &str, line: usize) -> Option<Opening> {
-    if script.len() > 16_777_216 {
-        return None;
-    }
-    let (_, mut sections) = open_script(script);
+    let mut parts = parts_of(script);
     let mut last = None;
-    'each: while let Some(section) = sections.next_section() {
-        if section.line >= line || last == Some(Opening::Run) {
+    'each: while let Some(part) = parts.next_part() {
+        if part.line >= line || last == Some(Opening::Run) {
             return last;
         }
-        last = opening_of(section.opening).or(last);
+        last = part.opening.or(last);
     }
     last
 }
@@ -68,10 +69,8 @@ fn end_of_load(text: &str) -> usize {
     text.len()
 }
 
-/// The unit text behind a command `load` of a script at this line, as a section that the line opens.
-pub(crate) fn load_at(script: &str, line: usize) -> Option<Section<'_>>
-    ensures { IfSome result (λ section. section.line + length section.text.now ≤ 2 ^ 63) }
-{
+/// The unit text behind a command `load` of a script at this line, as a part that the line opens.
+pub(crate) fn load_at(script: &str, line: usize) -> Option<Part<'_>> {
     if line > 16_777_216 || opening_before(script, line) != Some(Opening::Run) {
         return None;
     }
@@ -80,16 +79,12 @@ pub(crate) fn load_at(script: &str, line: usize) -> Option<Section<'_>>
     if text.len() > 16_777_216 {
         return None;
     }
-    Some(Section {
+    Some(Part {
         line,
-        opening: "load",
+        opening: None,
+        heading: "load",
         text,
     })
-}
-
-// Whether a section before a line has this opening.
-fn is_before(section: &Section<'_>, line: usize, opening: Opening) -> bool {
-    section.line < line && opening_of(section.opening) == Some(opening)
 }
 
 // Whether a line is the command `load`.
@@ -100,27 +95,27 @@ fn is_load(line: &str) -> bool {
     }
 }
 
-// The unit text behind the first command `load` of a section that stands before a line.
-fn loaded_before<'a>(section: &Section<'a>, line: usize) -> Option<&'a str> {
-    let count = line.saturating_sub(section.line).saturating_sub(1);
+// The unit text behind the first command `load` of a part that stands before a line.
+fn loaded_before<'a>(part: &Part<'a>, line: usize) -> Option<&'a str> {
+    let count = line.saturating_sub(part.line).saturating_sub(1);
     let mut at = 0usize;
-    for command in section.text.split('\n').take(count) {
+    for command in part.text.split('\n').take(count) {
         at = at.saturating_add(command.len()).saturating_add(1);
         if is_load(command) {
-            return section.text.get(at..);
+            return part.text.get(at..);
         }
     }
     None
 }
 
-// The unit text that a section has before a line: its own, or that of a `load`, whose end opens no section.
-fn unit_text_before<'a>(section: &Section<'a>, line: usize) -> Option<&'a str> {
-    if section.line >= line {
+// The unit text that a part has before a line: its own, or that of a `load`, whose end opens nothing.
+fn unit_text_before<'a>(part: &Part<'a>, line: usize) -> Option<&'a str> {
+    if part.line >= line {
         return None;
     }
-    match opening_of(section.opening) {
-        Some(Opening::UnitText) => Some(section.text),
-        Some(Opening::Run) | None => loaded_before(section, line),
+    match part.opening {
+        Some(Opening::UnitText) => Some(part.text),
+        Some(Opening::Run) | None => loaded_before(part, line),
         _ => None,
     }
 }
@@ -132,12 +127,9 @@ pub(crate) fn texts_before<'a>(
     line: usize,
 ) -> Result<Vec<Tokens<'a>>, AllocError> {
     let mut texts = Vec::new(alloc);
-    if script.len() > 16_777_216 {
-        return Ok(texts);
-    }
-    let (_, mut sections) = open_script(script);
-    'each: while let Some(section) = sections.next_section() {
-        if let Some(text) = unit_text_before(&section, line) {
+    let mut parts = parts_of(script);
+    'each: while let Some(part) = parts.next_part() {
+        if let Some(text) = unit_text_before(&part, line) {
             if let Ok(words) = tokens(alloc, text) {
                 texts.push(words)?;
             }
@@ -153,19 +145,16 @@ fn add_shapes<'a>(
     line: usize,
     known: &mut Known<'a>,
 ) -> Result<(), AllocError> {
-    if script.len() > 16_777_216 {
-        return Ok(());
-    }
-    let (_, mut sections) = open_script(script);
-    'each: while let Some(section) = sections.next_section() {
-        if is_before(&section, line, Opening::Shape) {
-            add_shape(alloc, known, section.text)?;
+    let mut parts = parts_of(script);
+    'each: while let Some(part) = parts.next_part() {
+        if part.line < line && part.opening == Some(Opening::Shape) {
+            add_shape(alloc, known, part.text)?;
         }
     }
     Ok(())
 }
 
-/// What the sections before a line declare, whose unit texts have these words.
+/// What the parts before a line declare, whose unit texts have these words.
 pub(crate) fn known_before<'a>(
     alloc: Global,
     script: &'a str,
