@@ -8,7 +8,7 @@ use Rattle.rv_shape.specs.Fits.{fault}
 use Rattle.rv_shape.specs.declared.fault.ShapeFault.{ShapeFault}
 use Rattle.rv_shape.specs.declared.fault.ShapeFault.TheVariants as Shapes
 use Rattle.rv_settings.specs.Settings.{DeviceText, SettingsText}
-use Rattle.rv_script.specs.Openings.{AreNumbered, OpenedText, opened}
+use Rattle.rv_script.specs.Openings.{OpenedText, opened}
 use Rattle.rv_fault.specs.declared.failure.Failure.{Failure}
 use Rattle.rv_fault.specs.declared.failure.Failure.TheVariants.{Refused, Memory, Io}
 use Rattle.rv_fault.specs.declared.fault.What.{What}
@@ -21,21 +21,18 @@ use Rattle.rv_check.specs.declared.purpose.Purpose.{Purpose}
 use Rattle.rv_check.specs.Checks.{TellsAll, WritesOne, shape_line}
 use Rattle.rv_check.specs.CommandLines.{CountsCommands, TakesAll, before_commands}
 use Rattle.rv_check.specs.DeviceFaults.{LoadsAll, devices_fault, with_devices}
-use Rattle.rv_check.specs.declared.purpose.Part.{Part}
-use Rattle.rv_check.specs.Purposes.{part_in, purpose_of}
+use Rattle.rv_check.specs.declared.purpose.Role.{Role}
+use Rattle.rv_check.specs.Purposes.{role_in, purpose_of}
 use Rattle.rv_check.specs.ScriptLines.{lines_behind}
-use Rattle.rv_check.specs.Scripts.{OfPart, OfRun, OfSteps, as_given, commands_line, fitted, judged, judging, outcome_of_whole, outcome_when}
+use Rattle.rv_check.specs.Scripts.{OfRole, OfRun, OfSteps, as_given, commands_line, fitted, judged, judging, outcome_of_whole, outcome_when}
 use Rattle.rv_check.specs.StepFaults.{CountsSteps}
 use Rattle.rv_check.proofs.Checked.{sections_told}
 use Rattle.rv_check.proofs.Checking.{unread_told}
 
--- what is told of a section as this part, as that which its opening makes it
-pub as_part : (old new : Option (List ℕ)) (part : Part) (purpose : Purpose) (shapes after : List Shape) (section : SectionText) (r : Result (Unit {0}) Failure) → part ≡ part_in purpose section → WritesOne old new (OfPart part shapes after section) r
-    → WritesOne old new (OfPart (part_in purpose section) shapes after section) r
-as_part old new part purpose shapes after section r e h = subst (λ (p : Part). WritesOne old new (OfPart p shapes after section) r) e h
-
-pub numbered_others : (section : SectionText) (left others : List SectionText) → left ≡ section ∷ others → AreNumbered left → AreNumbered others
-numbered_others section left others e h = (subst AreNumbered e h).1
+-- what is told of a section in this role, as in that which its opening has
+pub as_role : (old new : Option (List ℕ)) (role : Role) (purpose : Purpose) (shapes after : List Shape) (section : SectionText) (r : Result (Unit {0}) Failure) → role ≡ role_in purpose section → WritesOne old new (OfRole role shapes after section) r
+    → WritesOne old new (OfRole (role_in purpose section) shapes after section) r
+as_role old new role purpose shapes after section r e h = subst (λ (x : Role). WritesOne old new (OfRole x shapes after section) r) e h
 
 -- what stands against steps is told
 pub steps_told : (shapes : List Shape) (section : SectionText) (old : Option (List ℕ)) (e : Failure) → (let r : Result ℕ Failure = Err e in CountsSteps shapes (section.line + 1) (lines section.text) r)

@@ -6,8 +6,8 @@ use Rattle.rv_script.specs.declared.opening.Opening.{Opening}
 use Rattle.rv_script.specs.declared.opening.Opening.TheVariants as Openings
 use Rattle.rv_check.specs.declared.purpose.Purpose.{Purpose}
 use Rattle.rv_check.specs.declared.purpose.Purpose.TheVariants.{Play, Run, Audit}
-use Rattle.rv_check.specs.declared.purpose.Part.{Part}
-use Rattle.rv_check.specs.declared.purpose.Part.TheVariants.{AsChecked, Steps, Journal, Given, NotTaken, Commands}
+use Rattle.rv_check.specs.declared.purpose.Role.{Role}
+use Rattle.rv_check.specs.declared.purpose.Role.TheVariants.{AsChecked, Steps, Journal, Given, NotTaken, Commands}
 
 -- the command that alone takes a section of an opening
 abbrev pub taken_by : Option Opening → Option Purpose
@@ -26,19 +26,19 @@ purpose_of [] = Play
 purpose_of (section ∷ others) = or_later (taken_by (opening_of section.opening)) (purpose_of others)
 
 -- what each command makes of an opening; what isn't named is as `check` has it
-abbrev pub part_of : Purpose → Option Opening → Part
-part_of Play (Some Openings.Steps) = Steps
-part_of Run (Some Openings.Shape) = NotTaken
-part_of Run (Some Openings.Run) = Commands
-part_of Audit (Some Openings.Shape) = Given
-part_of Audit (Some Openings.AccessList) = NotTaken
-part_of Audit (Some Openings.Journal) = Journal
-part_of purpose opening = AsChecked
+abbrev pub role_of : Purpose → Option Opening → Role
+role_of Play (Some Openings.Steps) = Steps
+role_of Run (Some Openings.Shape) = NotTaken
+role_of Run (Some Openings.Run) = Commands
+role_of Audit (Some Openings.Shape) = Given
+role_of Audit (Some Openings.AccessList) = NotTaken
+role_of Audit (Some Openings.Journal) = Journal
+role_of purpose opening = AsChecked
 
-abbrev pub part_in : Purpose → SectionText → Part
-part_in purpose section = part_of purpose (opening_of section.opening)
+abbrev pub role_in : Purpose → SectionText → Role
+role_in purpose section = role_of purpose (opening_of section.opening)
 
 -- commands come to the end of the script
-abbrev pub is_last : Part → Bool
+abbrev pub is_last : Role → Bool
 is_last Commands = true
-is_last part = false
+is_last role = false

@@ -19,10 +19,10 @@ use Rattle.rv_check.specs.CommandLines.{TakesAll, before_commands}
 use Rattle.rv_check.specs.ScriptLines.{lines_behind}
 use Rattle.rv_check.specs.DeviceFaults.{devices_fault, with_devices}
 use Rattle.rv_check.specs.StepFaults.{steps_count, steps_fault}
-use Rattle.rv_check.specs.Purposes.{is_last, part_in, purpose_of}
+use Rattle.rv_check.specs.Purposes.{is_last, role_in, purpose_of}
 use Rattle.rv_check.specs.declared.purpose.Purpose.{Purpose}
-use Rattle.rv_check.specs.declared.purpose.Part.{Part}
-use Rattle.rv_check.specs.declared.purpose.Part.TheVariants.{AsChecked, Steps, Journal, Given, NotTaken, Commands}
+use Rattle.rv_check.specs.declared.purpose.Role.{Role}
+use Rattle.rv_check.specs.declared.purpose.Role.TheVariants.{AsChecked, Steps, Journal, Given, NotTaken, Commands}
 
 -- the lines that are said
 abbrev pub steps_line : ℕ → List ℕ
@@ -58,14 +58,14 @@ as_given shapes after line None said told = (said ≡ []) × (told ≡ Some (rec
 as_given shapes after line (Some shape) said told =
     (said ≡ shape_line shape.name) × (told ≡ None) × (after ≡ fitted (fault shapes shape) shapes shape)
 
--- a section as a part
-abbrev pub OfPart : Part → List Shape → List Shape → SectionText → Telling
-OfPart AsChecked shapes after section = at_line section.line (OfSection shapes after section)
-OfPart Steps shapes after section = λ said told. OfSteps shapes section said told × (after ≡ shapes)
-OfPart Journal shapes after section = λ said told. OfJournal section said told × (after ≡ shapes)
-OfPart Given shapes after section = as_given shapes after section.line (shape_of section.text)
-OfPart NotTaken shapes after section = IsNotTaken section
-OfPart Commands shapes after section = λ said told. ⊥
+-- a section in a role
+abbrev pub OfRole : Role → List Shape → List Shape → SectionText → Telling
+OfRole AsChecked shapes after section = at_line section.line (OfSection shapes after section)
+OfRole Steps shapes after section = λ said told. OfSteps shapes section said told × (after ≡ shapes)
+OfRole Journal shapes after section = λ said told. OfJournal section said told × (after ≡ shapes)
+OfRole Given shapes after section = as_given shapes after section.line (shape_of section.text)
+OfRole NotTaken shapes after section = IsNotTaken section
+OfRole Commands shapes after section = λ said told. ⊥
 
 -- from there on the devices are loaded, whose settings open at a line, and then commands are read
 abbrev pub OfRun : ℕ → List DeviceText → List Shape → SectionText → List SectionText → Telling
@@ -82,8 +82,8 @@ OfRun line devices shapes section others said (Some told) =
 -- how the sections of a script are judged that is for a command
 abbrev pub judging : Purpose → ℕ → List DeviceText → Judging
 judging purpose line devices = record {
-  Section = λ shapes after section. OfPart (part_in purpose section) shapes after section;
-  is_last = λ section. is_last (part_in purpose section);
+  Section = λ shapes after section. OfRole (role_in purpose section) shapes after section;
+  is_last = λ section. is_last (role_in purpose section);
   Rest = OfRun line devices;
 }
 

@@ -1,18 +1,17 @@
 //! Looks at the commands of a run, as long as a run reads them.
 
-ghost use Rattle.std.specs.Prelude.{◌≡◌, ◌<◌, ◌≤◌, ◌+◌, ◌^◌, None, Some, Ok, true, false, length, string_bytes};
-ghost use Rattle.rv_script.specs.Openings.{AreNumbered};
+ghost use Rattle.std.specs.Prelude.{◌≡◌, ◌<◌, ◌+◌, None, Some, Ok, true, false, string_bytes};
+ghost use Rattle.rv_fault.specs.Parts.{section_of};
 ghost use Rattle.rv_shell.specs.Orders.{order_of};
 ghost use Rattle.rv_text.specs.Words.{words};
 ghost use Rattle.rv_check.specs.ScriptLines.{lines_behind};
 ghost use Rattle.rv_check.specs.CommandLines.{CountsCommands, IsLeft, Leads, Loads, LoadsUnit, TakesLine, before_commands, by_end, by_order, most_commands, unless_most};
 
 use crate::lines::LinesBehind;
-use rv_fault::{Failure, What, refused, text_unit};
+use rv_fault::{Failure, Part, Parts, What, refused, text_unit};
 use rv_shape::catalogue::Catalogue;
 use rv_shell::{Order, order_of};
 use rv_step::reading::StepError;
-use rv_text::{Section, Sections};
 use std::alloc::Global;
 use std::marker::Model;
 use std::mem;
@@ -174,23 +173,17 @@ impl Review {
     }
 }
 
-/// How many commands stand behind the opening of a section, which others follow, where nothing stands against one of them.
+/// How many commands stand behind the opening of a part, which others follow, where nothing stands against one of them.
 /// The units are loaded before the first.
 pub(crate) fn count_commands<'a>(
     alloc: Global,
     catalogue: Catalogue,
-    section: &Section<'a>,
-    others: Sections<'a>,
+    part: &Part<'a>,
+    others: Parts<'a>,
 ) -> Result<usize, Failure>
-    requires lines { section.now.line + length section.now.text.now ≤ 2 ^ 63 }
-    requires numbered { AreNumbered others }
-    ensures { CountsCommands catalogue (lines_behind (record {
-      line = section.now.line;
-      opening = section.now.opening.now;
-      text = section.now.text.now;
-    }) others.entry) result }
+    ensures { CountsCommands catalogue (lines_behind (section_of part.now) others.entry) result }
 {
-    let mut lines = LinesBehind::new(section, others);
+    let mut lines = LinesBehind::new(part, others);
     let mut review = Review {
         alloc,
         catalogue,

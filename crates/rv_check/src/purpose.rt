@@ -1,11 +1,11 @@
-//! Which command a script is for, and what that command makes of its sections.
+//! Which command a script is for, and what that command makes of its parts.
 
 ghost use Rattle.std.specs.Prelude.{◌≡◌, ◌<◌, ◌^◌, length, Ok};
-ghost use Rattle.rv_script.specs.Openings.{OpenedText, opened, opening_of};
-ghost use Rattle.rv_check.specs.Purposes.{is_last, part_of, purpose_of, taken_by};
+ghost use Rattle.rv_script.specs.Openings.{OpenedText, opened};
+ghost use Rattle.rv_check.specs.Purposes.{is_last, purpose_of, role_of, taken_by};
 
-use rv_script::{Opening, open, opening_of};
-use rv_text::Sections;
+use rv_fault::Parts;
+use rv_script::{Opening, open};
 
 /// Which command a script is for.
 #[derive(Clone, Copy, Drop)]
@@ -18,11 +18,11 @@ pub enum Purpose {
     Audit,
 }
 
-// The command that alone takes a section of an opening.
-fn taken_by(opening: &str) -> Option<Purpose>
-    ensures { result ≡ taken_by (opening_of opening.now) }
+// The command that alone takes a part of an opening.
+fn taken_by(opening: Option<Opening>) -> Option<Purpose>
+    ensures { result ≡ taken_by opening }
 {
-    match opening_of(opening) {
+    match opening {
         Some(Opening::Steps) => Some(Purpose::Play),
         Some(Opening::Journal) => Some(Purpose::Audit),
         Some(Opening::Run) => Some(Purpose::Run),
@@ -30,21 +30,21 @@ fn taken_by(opening: &str) -> Option<Purpose>
     }
 }
 
-// Which command sections are for.
-fn purpose_of(mut sections: Sections<'_>) -> Purpose
-    ensures { result ≡ purpose_of sections.entry }
+// Which command parts are for.
+fn purpose_of(mut parts: Parts<'_>) -> Purpose
+    ensures { result ≡ purpose_of parts.entry }
 {
-    'each: while let Some(section) = sections.next_section() {
-        if let Some(purpose) = taken_by(section.opening) {
+    'each: while let Some(part) = parts.next_part() {
+        if let Some(purpose) = taken_by(part.opening) {
             return purpose;
         }
     }
     Purpose::Play
 }
 
-/// What a section is in a script that is for a command.
+/// What a part is to the command that its script is for.
 #[derive(Clone, Copy, Drop)]
-pub enum Part {
+pub enum Role {
     /// It is looked at as `check` does, which refuses what it doesn't know.
     AsChecked,
     /// Steps.
@@ -60,26 +60,26 @@ pub enum Part {
 }
 
 /// What each command makes of an opening.
-pub(crate) fn part_of(purpose: Purpose, opening: &str) -> Part
-    ensures { result ≡ part_of purpose (opening_of opening.now) }
+pub(crate) fn role_of(purpose: Purpose, opening: Option<Opening>) -> Role
+    ensures { result ≡ role_of purpose opening }
 {
-    match (purpose, opening_of(opening)) {
-        (Purpose::Play, Some(Opening::Steps)) => Part::Steps,
-        (Purpose::Run, Some(Opening::Shape)) => Part::NotTaken,
-        (Purpose::Run, Some(Opening::Run)) => Part::Commands,
-        (Purpose::Audit, Some(Opening::Shape)) => Part::Given,
-        (Purpose::Audit, Some(Opening::AccessList)) => Part::NotTaken,
-        (Purpose::Audit, Some(Opening::Journal)) => Part::Journal,
-        _ => Part::AsChecked,
+    match (purpose, opening) {
+        (Purpose::Play, Some(Opening::Steps)) => Role::Steps,
+        (Purpose::Run, Some(Opening::Shape)) => Role::NotTaken,
+        (Purpose::Run, Some(Opening::Run)) => Role::Commands,
+        (Purpose::Audit, Some(Opening::Shape)) => Role::Given,
+        (Purpose::Audit, Some(Opening::AccessList)) => Role::NotTaken,
+        (Purpose::Audit, Some(Opening::Journal)) => Role::Journal,
+        _ => Role::AsChecked,
     }
 }
 
-/// Whether a part comes to the end of the script.
-pub(crate) fn is_last(part: Part) -> bool
-    ensures { result ≡ is_last part }
+/// Whether a part of this role comes to the end of the script.
+pub(crate) fn is_last(role: Role) -> bool
+    ensures { result ≡ is_last role }
 {
-    match part {
-        Part::Commands => true,
+    match role {
+        Role::Commands => true,
         _ => false,
     }
 }
@@ -89,7 +89,7 @@ pub(crate) fn purpose_in(text: &str) -> Purpose
     ensures { (script : OpenedText) → opened text.now ≡ Ok script → result ≡ purpose_of script.sections }
 {
     match open(text) {
-        Ok(script) => purpose_of(script.sections),
+        Ok(script) => purpose_of(Parts::of(script.sections)),
         Err(_) => Purpose::Play,
     }
 }

@@ -1,26 +1,26 @@
 //! Looks at a whole script, as the command that it is for takes it: at its steps, its commands or its journal too.
 
-ghost use Rattle.std.specs.Prelude.{◌≡◌, ◌≤◌, ◌+◌, ◌^◌, length, false, IfErr, IfOk, OnOk, string_bytes};
+ghost use Rattle.std.specs.Prelude.{◌≡◌, length, false, IfErr, IfOk, OnOk, string_bytes};
 ghost use Rattle.std.specs.Str.Lines.{lines};
 ghost use Rattle.rv_shape.specs.Fits.{fault};
 ghost use Rattle.rv_shape.specs.ShapeText.{shape_of};
 ghost use Rattle.rv_fault.specs.Written.{Writes};
-ghost use Rattle.rv_script.specs.Openings.{AreNumbered};
+ghost use Rattle.rv_fault.specs.Parts.{section_of};
 ghost use Rattle.rv_check.specs.Checks.{TellsAll, WritesOne};
 ghost use Rattle.rv_check.specs.Purposes.{is_last};
-ghost use Rattle.rv_check.specs.Scripts.{OfJournal, OfPart, OfRun, OfSteps, as_given, commands_line, fitted, journal_line, judging, outcome_of_whole, steps_line};
+ghost use Rattle.rv_check.specs.Scripts.{OfJournal, OfRole, OfRun, OfSteps, as_given, commands_line, fitted, journal_line, judging, outcome_of_whole, steps_line};
 
 use crate::commands::count_commands;
 use crate::devices::load_devices;
-use crate::purpose::{Part, Purpose, is_last, part_of, purpose_in};
-use crate::sections::{check_section, say, shape_line};
+use crate::purpose::{Purpose, Role, is_last, purpose_in, role_of};
+use crate::sections::{check_part, say, shape_line};
 use crate::steps::count_steps;
-use rv_fault::{Failure, What, refused, settings_line, settings_of, shape_of};
+use rv_fault::{Failure, Part, Parts, What, refused, settings_line, settings_of, shape_of};
 use rv_script::open;
 use rv_settings::Device;
 use rv_shape::catalogue::Catalogue;
 use rv_shape::shape::UnitShape;
-use rv_text::{Section, Sections, next_line};
+use rv_text::next_line;
 use std::alloc::{AllocError, Global};
 use std::io::Write;
 
@@ -63,28 +63,23 @@ fn check_steps<W: Write>(
     alloc: Global,
     writer: &mut W,
     catalogue: &Catalogue,
-    section: &Section<'_>,
+    part: &Part<'_>,
 ) -> Result<(), Failure>
-    requires lines { section.now.line + length section.now.text.now ≤ 2 ^ 63 }
     ensures { WritesOne (W.contents writer.old) (W.contents writer.new)
-        (OfSteps catalogue.now (record { line = section.now.line; opening = section.now.opening.now; text = section.now.text.now })) result }
+        (OfSteps catalogue.now (section_of part.now)) result }
 {
-    match count_steps(alloc, catalogue, section) {
+    match count_steps(alloc, catalogue, part) {
         Ok(count) => say(writer, steps_line(alloc, count)),
         Err(failure) => Err(failure),
     }
 }
 
 // Looks at a journal.
-fn check_journal<W: Write>(
-    alloc: Global,
-    writer: &mut W,
-    section: &Section<'_>,
-) -> Result<(), Failure>
+fn check_journal<W: Write>(alloc: Global, writer: &mut W, part: &Part<'_>) -> Result<(), Failure>
     ensures { WritesOne (W.contents writer.old) (W.contents writer.new)
-        (OfJournal (record { line = section.now.line; opening = section.now.opening.now; text = section.now.text.now })) result }
+        (OfJournal (section_of part.now)) result }
 {
-    say(writer, journal_line(alloc, count_lines(section.text)))
+    say(writer, journal_line(alloc, count_lines(part.text)))
 }
 
 // Adds a shape to those of the sections before where it fits, and leaves it out where it doesn't. Memory alone may be refused.
@@ -107,12 +102,12 @@ fn check_given<W: Write>(
     alloc: Global,
     writer: &mut W,
     catalogue: &mut Catalogue,
-    section: &Section<'_>,
+    part: &Part<'_>,
 ) -> Result<(), Failure>
     ensures { WritesOne (W.contents writer.old) (W.contents writer.new)
-        (as_given catalogue.old catalogue.new section.now.line (shape_of section.now.text.now)) result }
+        (as_given catalogue.old catalogue.new part.now.line (shape_of part.now.text.now)) result }
 {
-    let shape = match shape_of(alloc, section.line, section.text) {
+    let shape = match shape_of(alloc, part.line, part.text) {
         Ok(shape) => shape,
         Err(failure) => return Err(failure),
     };
@@ -122,73 +117,68 @@ fn check_given<W: Write>(
     }
 }
 
-// Looks at a section as a part, which isn't the commands.
-fn check_part<W: Write>(
+// Looks at a part in a role, which isn't that of the commands.
+fn check_as<W: Write>(
     alloc: Global,
     writer: &mut W,
     catalogue: &mut Catalogue,
-    part: Part,
-    section: &Section<'_>,
+    role: Role,
+    part: &Part<'_>,
 ) -> Result<(), Failure>
-    requires lines { section.now.line + length section.now.text.now ≤ 2 ^ 63 }
-    requires inner { is_last part ≡ false }
+    requires { is_last role ≡ false }
     ensures { WritesOne (W.contents writer.old) (W.contents writer.new)
-        (OfPart part catalogue.old catalogue.new (record { line = section.now.line; opening = section.now.opening.now; text = section.now.text.now })) result }
+        (OfRole role catalogue.old catalogue.new (section_of part.now)) result }
 {
-    match part {
-        Part::Steps => check_steps(alloc, writer, catalogue, section),
-        Part::Journal => check_journal(alloc, writer, section),
-        Part::Given => check_given(alloc, writer, catalogue, section),
-        Part::NotTaken => Err(refused(section.line, What::BadSection)),
-        Part::AsChecked | Part::Commands => check_section(alloc, writer, catalogue, section),
+    match role {
+        Role::Steps => check_steps(alloc, writer, catalogue, part),
+        Role::Journal => check_journal(alloc, writer, part),
+        Role::Given => check_given(alloc, writer, catalogue, part),
+        Role::NotTaken => Err(part.not_taken()),
+        Role::AsChecked | Role::Commands => check_part(alloc, writer, catalogue, part),
     }
 }
 
-// Loads the devices, whose settings open at a line, and looks at the commands behind the opening of a section.
+// Loads the devices, whose settings open at a line, and looks at the commands behind the opening of a part.
 fn check_commands<'a, W: Write>(
     alloc: Global,
     writer: &mut W,
     mut catalogue: Catalogue,
     line: usize,
     devices: &[Device],
-    section: &Section<'a>,
-    others: Sections<'a>,
+    part: &Part<'a>,
+    others: Parts<'a>,
 ) -> Result<(), Failure>
-    requires lines { section.now.line + length section.now.text.now ≤ 2 ^ 63 }
-    requires numbered { AreNumbered others }
     ensures { WritesOne (W.contents writer.old) (W.contents writer.new)
-        (OfRun line devices.now catalogue
-        (record { line = section.now.line; opening = section.now.opening.now; text = section.now.text.now }) others.entry) result }
+        (OfRun line devices.now catalogue (section_of part.now) others.entry) result }
 {
     match load_devices(alloc, &mut catalogue, line, devices) {
         Ok(()) => {}
         Err(failure) => return Err(failure),
     }
-    match count_commands(alloc, catalogue, section, others) {
+    match count_commands(alloc, catalogue, part, others) {
         Ok(count) => say(writer, commands_line(alloc, count)),
         Err(failure) => Err(failure),
     }
 }
 
-// Looks at sections, in order, up to the first that something stands against.
+// Looks at parts, in order, up to the first that something stands against.
 fn check_all<W: Write>(
     alloc: Global,
     writer: &mut W,
     purpose: Purpose,
     line: usize,
     devices: &[Device],
-    mut sections: Sections<'_>,
+    mut parts: Parts<'_>,
 ) -> Result<(), Failure>
-    requires { AreNumbered sections }
-    ensures { TellsAll (judging purpose line devices.now) (W.contents writer.old) (W.contents writer.new) sections.entry result }
+    ensures { TellsAll (judging purpose line devices.now) (W.contents writer.old) (W.contents writer.new) parts.entry result }
 {
     let mut catalogue = Catalogue::new(alloc);
-    'each: while let Some(section) = sections.next_section() {
-        let part = part_of(purpose, section.opening);
-        if is_last(part) {
-            return check_commands(alloc, writer, catalogue, line, devices, &section, sections);
+    'each: while let Some(part) = parts.next_part() {
+        let role = role_of(purpose, part.opening);
+        if is_last(role) {
+            return check_commands(alloc, writer, catalogue, line, devices, &part, parts);
         }
-        match check_part(alloc, writer, &mut catalogue, part, &section) {
+        match check_as(alloc, writer, &mut catalogue, role, &part) {
             Ok(()) => {}
             Err(failure) => return Err(failure),
         }
@@ -219,6 +209,6 @@ pub(crate) fn check_script_text<W: Write>(
         purpose_in(text),
         line,
         settings.devices(),
-        script.sections,
+        Parts::of(script.sections),
     )
 }

@@ -1,16 +1,15 @@
-//! Looks at one section, and says that it is well formed.
+//! Looks at one part, and says that it is well formed.
 
 ghost use Rattle.std.specs.Prelude.{◌≡◌, ℕ, List, length, IfOk, string_bytes};
 ghost use Rattle.rv_fault.specs.Written.{Puts};
-ghost use Rattle.rv_check.specs.Checks.{unit_line, shape_line, list_line, shape_failure, Adds, OfUnit, OfShape, OfList, WritesOne, as_section, at_line};
-ghost use Rattle.rv_script.specs.Openings.{opening_of};
+ghost use Rattle.rv_check.specs.Checks.{unit_line, shape_line, list_line, shape_failure, Adds, OfUnit, OfShape, OfList, OfSection, WritesOne, at_line};
+ghost use Rattle.rv_fault.specs.Parts.{section_of};
 ghost use Rattle.rv_script.specs.UnitTexts.{without_returns};
 
-use rv_fault::{Failure, What, list_of, put, refused, shape_of, unit_of};
-use rv_script::{Opening, opening_of};
+use rv_fault::{Failure, Part, What, list_of, put, refused, shape_of, unit_of};
+use rv_script::Opening;
 use rv_shape::catalogue::Catalogue;
 use rv_shape::fault::ShapeFault;
-use rv_text::Section;
 use rv_unit::Unit;
 use std::alloc::{AllocError, Global};
 use std::io::Write;
@@ -36,7 +35,7 @@ fn list_line(alloc: Global, count: usize) -> Result<String, AllocError>
     format!(in alloc; "list: ok {count} lines\n")
 }
 
-/// Says that a section is well formed.
+/// Says that a part is well formed.
 pub(crate) fn say<W: Write>(writer: &mut W, line: Result<String, AllocError>) -> Result<(), Failure>
     ensures { (text : List ℕ) → IfOk line (λ l. string_bytes l ≡ text)
         → Puts (W.contents writer.old) (W.contents writer.new) text result }
@@ -70,13 +69,13 @@ fn check_unit<W: Write>(
     alloc: Global,
     writer: &mut W,
     catalogue: &mut Catalogue,
-    section: &Section<'_>,
+    part: &Part<'_>,
 ) -> Result<(), Failure>
     ensures { WritesOne (W.contents writer.old) (W.contents writer.new)
-        (at_line section.now.line (OfUnit catalogue.old catalogue.new (without_returns section.now.text.now))) result }
+        (at_line part.now.line (OfUnit catalogue.old catalogue.new (without_returns part.now.text.now))) result }
 {
-    let unit = unit_of(alloc, catalogue, section.line, section.text)?;
-    add_unit(alloc, writer, catalogue, section.line, &unit)
+    let unit = unit_of(alloc, catalogue, part.line, part.text)?;
+    add_unit(alloc, writer, catalogue, part.line, &unit)
 }
 
 // Why a shape doesn't fit whose section opens at a line.
@@ -94,41 +93,41 @@ fn check_shape<W: Write>(
     alloc: Global,
     writer: &mut W,
     catalogue: &mut Catalogue,
-    section: &Section<'_>,
+    part: &Part<'_>,
 ) -> Result<(), Failure>
     ensures { WritesOne (W.contents writer.old) (W.contents writer.new)
-        (at_line section.now.line (OfShape catalogue.old catalogue.new section.now.text.now)) result }
+        (at_line part.now.line (OfShape catalogue.old catalogue.new part.now.text.now)) result }
 {
-    let shape = shape_of(alloc, section.line, section.text)?;
+    let shape = shape_of(alloc, part.line, part.text)?;
     match catalogue.add(&shape) {
         Ok(()) => say(writer, shape_line(alloc, shape.name())),
-        Err(fault) => Err(shape_failure(section.line, fault)),
+        Err(fault) => Err(shape_failure(part.line, fault)),
     }
 }
 
 // Looks at a list.
-fn check_list<W: Write>(alloc: Global, writer: &mut W, section: &Section<'_>) -> Result<(), Failure>
+fn check_list<W: Write>(alloc: Global, writer: &mut W, part: &Part<'_>) -> Result<(), Failure>
     ensures { WritesOne (W.contents writer.old) (W.contents writer.new)
-        (at_line section.now.line (OfList section.now.text.now)) result }
+        (at_line part.now.line (OfList part.now.text.now)) result }
 {
-    let list = list_of(alloc, section.line, section.text)?;
+    let list = list_of(alloc, part.line, part.text)?;
     say(writer, list_line(alloc, list.len()))
 }
 
-/// Looks at a section behind the settings. Steps, journals and commands aren't checked.
-pub fn check_section<W: Write>(
+/// Looks at a part behind the settings. Steps, journals and commands aren't checked.
+pub fn check_part<W: Write>(
     alloc: Global,
     writer: &mut W,
     catalogue: &mut Catalogue,
-    section: &Section<'_>,
+    part: &Part<'_>,
 ) -> Result<(), Failure>
-    ensures { WritesOne (W.contents writer.old) (W.contents writer.new) (at_line section.now.line
-        (as_section catalogue.old catalogue.new section.now.text.now (opening_of section.now.opening.now))) result }
+    ensures { WritesOne (W.contents writer.old) (W.contents writer.new)
+        (at_line part.now.line (OfSection catalogue.old catalogue.new (section_of part.now))) result }
 {
-    match opening_of(section.opening) {
-        Some(Opening::UnitText) => check_unit(alloc, writer, catalogue, section),
-        Some(Opening::Shape) => check_shape(alloc, writer, catalogue, section),
-        Some(Opening::AccessList) => check_list(alloc, writer, section),
-        _ => Err(refused(section.line, What::BadSection)),
+    match part.opening {
+        Some(Opening::UnitText) => check_unit(alloc, writer, catalogue, part),
+        Some(Opening::Shape) => check_shape(alloc, writer, catalogue, part),
+        Some(Opening::AccessList) => check_list(alloc, writer, part),
+        _ => Err(part.not_taken()),
     }
 }

@@ -1,16 +1,16 @@
-//! Looks at the steps of a section: at their form, and whether the names in them are loaded.
+//! Looks at steps: at their form, and whether the names in them are loaded.
 
-ghost use Rattle.std.specs.Prelude.{◌≡◌, ◌≤◌, ◌+◌, ◌^◌, ◌∷◌, [], length};
+ghost use Rattle.std.specs.Prelude.{◌≡◌, ◌≤◌, ◌+◌, ◌∷◌, []};
 ghost use Rattle.std.specs.Str.Lines.{lines};
 ghost use Rattle.rv_text.specs.Words.{words};
 ghost use Rattle.rv_check.specs.StepFaults.{CountsSteps, IsFound, line_fault, request_fault, step_fault, steps_count};
 
-use rv_fault::{Failure, What, refused};
+use rv_fault::{Failure, Part, What, refused};
 use rv_shape::catalogue::Catalogue;
 use rv_step::lookup::{actor_of, request_of};
 use rv_step::reading::{StepError, step_of};
 use rv_step::step::{Asked, Step};
-use rv_text::{Section, has_words, next_line};
+use rv_text::{has_words, next_line};
 use std::alloc::Global;
 
 // Looks for the names of a request.
@@ -66,18 +66,17 @@ fn steps_on(text: &str) -> usize
     if has_words(text) { 1 } else { 0 }
 }
 
-/// How many steps a section has, where nothing stands against one of them. The names are looked up among units that are
+/// How many steps a part has, where nothing stands against one of them. The names are looked up among units that are
 /// loaded.
 pub(crate) fn count_steps(
     alloc: Global,
     catalogue: &Catalogue,
-    section: &Section<'_>,
+    part: &Part<'_>,
 ) -> Result<usize, Failure>
-    requires { section.now.line + length section.now.text.now ≤ 2 ^ 63 }
-    ensures { CountsSteps catalogue.now (section.now.line + 1) (lines section.now.text.now) result }
+    ensures { CountsSteps catalogue.now (part.now.line + 1) (lines part.now.text.now) result }
 {
-    let mut rest = section.text;
-    let mut line = section.line;
+    let mut rest = part.text;
+    let mut line = part.line;
     let mut count = 0;
     while let Some((text, after)) = next_line(rest) {
         line += 1;

@@ -1,21 +1,22 @@
 //! What is told of the lists of a script, for whoever writes it: names that name nothing loaded, and lines that decide
 //! nothing.
 
-ghost use Rattle.std.specs.Prelude.{◌≤◌, ◌^◌, ◌+◌, length};
+ghost use Rattle.std.specs.Prelude.{◌≤◌, ◌^◌, ◌+◌, length, IfErr};
+ghost use Rattle.rv_fault.specs.Written.{IsNoFault};
 
 use crate::purpose::{Purpose, purpose_in};
 use rv_access::{AccessList, Change};
 use rv_event::entry::Request;
-use rv_fault::{Failure, device_unit, list_of, settings_of, shape_of, unit_of};
+use rv_fault::{Failure, Part, Parts, device_unit, list_of, settings_of, shape_of, unit_of};
 use rv_notes::{Note, changed, line_changed, new_ones, notes, words_of};
-use rv_script::{Opening, open, opening_of, text_of};
+use rv_script::{Opening, open, text_of};
 use rv_settings::{Device, Settings};
 use rv_shape::catalogue::Catalogue;
 use rv_shape::fault::ShapeFault;
 use rv_shape::shape::UnitShape;
 use rv_step::reading::{StepError, step_of};
 use rv_step::step::{Asked, Asker, Step};
-use rv_text::{Section, Sections, has_words, next_line};
+use rv_text::{has_words, next_line};
 use std::alloc::{AllocError, Global};
 use std::mem;
 
@@ -81,6 +82,17 @@ fn number_at(lines: &[usize], line: usize) -> usize {
     match lines.get(line.saturating_sub(1)) {
         Some(number) => *number,
         None => 0,
+    }
+}
+
+// Where a failure leads: a fault of the script isn't told here, and to false; memory that was refused ends all.
+fn untold(failure: Failure) -> Result<bool, Failure>
+    ensures { IfErr result IsNoFault }
+{
+    match failure {
+        Failure::Refused(_) => Ok(false),
+        Failure::Memory => Err(Failure::Memory),
+        Failure::Io(error) => Err(Failure::Io(error)),
     }
 }
 
@@ -245,7 +257,9 @@ impl Review {
     }
 
     // A unit more. False where it doesn't fit.
-    fn add(&mut self, shape: &UnitShape) -> Result<bool, Failure> {
+    fn add(&mut self, shape: &UnitShape) -> Result<bool, Failure>
+        ensures { IfErr result IsNoFault }
+    {
         match self.catalogue.add(shape) {
             Ok(()) => Ok(true),
             Err(ShapeFault::NoMemory) => Err(Failure::Memory),
@@ -260,63 +274,66 @@ impl Review {
         Ok(())
     }
 
-    // A section that `play` takes and `run` doesn't. False where it is none, or a step of it is none.
-    fn played(&mut self, opening: Opening, section: &Section<'_>) -> Result<bool, Failure> {
+    // A part that `play` takes and `run` doesn't. False where it is none, or a step of it is none.
+    fn played(&mut self, part: &Part<'_>) -> Result<bool, Failure> {
         if self.runs {
             return Ok(false);
         }
-        match opening {
-            Opening::Shape => {
-                let shape = shape_of(self.alloc, section.line, section.text)?;
+        match part.opening {
+            Some(Opening::Shape) => {
+                let shape = shape_of(self.alloc, part.line, part.text)?;
                 self.add(&shape)
             }
-            Opening::Steps => self.steps(section.line, section.text),
+            Some(Opening::Steps) => self.steps(part.line, part.text),
             _ => Ok(false),
         }
     }
 
-    // A section. False where it isn't one that is carried out, or a step of it is none.
-    fn section(&mut self, section: &Section<'_>) -> Result<bool, Failure> {
-        match opening_of(section.opening) {
+    // A part. False where it isn't one that is carried out, or a step of it is none.
+    fn part(&mut self, part: &Part<'_>) -> Result<bool, Failure> {
+        match part.opening {
             Some(Opening::UnitText) => {
-                let unit = unit_of(self.alloc, &self.catalogue, section.line, section.text)?;
+                let unit = unit_of(self.alloc, &self.catalogue, part.line, part.text)?;
                 self.add(&unit.shape)
             }
             Some(Opening::AccessList) => {
-                let list = list_of(self.alloc, section.line, section.text)?;
-                self.wait(list, section.text)?;
+                let list = list_of(self.alloc, part.line, part.text)?;
+                self.wait(list, part.text)?;
                 Ok(true)
             }
-            Some(opening) => self.played(opening, section),
-            None => Ok(false),
+            _ => self.played(part),
         }
     }
 
     // Whether the commands of a run follow an opening.
-    fn ends_at(&self, opening: &str) -> bool {
-        match opening_of(opening) {
+    fn ends_at(&self, opening: Option<Opening>) -> bool {
+        match opening {
             Some(Opening::Run) => self.runs,
             _ => false,
         }
     }
 
-    // Sections, up to the commands of a run, or the first fault, which isn't told here. False where there is one.
-    fn sections(&mut self, mut sections: Sections<'_>) -> Result<bool, Failure> {
-        'each: while let Some(section) = sections.next_section() {
-            if self.ends_at(section.opening) {
+    // Parts, up to the commands of a run, or the first fault, which isn't told here. False where there is one.
+    fn parts(&mut self, mut parts: Parts<'_>) -> Result<bool, Failure>
+        ensures { IfErr result IsNoFault }
+    {
+        'each: while let Some(part) = parts.next_part() {
+            if self.ends_at(part.opening) {
                 return Ok(true);
             }
-            match self.section(&section) {
+            match self.part(&part) {
                 Ok(true) => {}
-                Ok(false) | Err(Failure::Refused(_)) => return Ok(false),
-                Err(failure) => return Err(failure),
+                Ok(false) => return Ok(false),
+                Err(failure) => return untold(failure),
             }
         }
         Ok(true)
     }
 
     // The units that devices are. False where one doesn't fit.
-    fn devices(&mut self, devices: &[Device]) -> Result<bool, Failure> {
+    fn devices(&mut self, devices: &[Device]) -> Result<bool, Failure>
+        ensures { IfErr result IsNoFault }
+    {
         'each: for device in devices {
             let shape = device_unit(self.alloc, device)?;
             if !self.add(&shape)? {
@@ -326,9 +343,11 @@ impl Review {
         Ok(true)
     }
 
-    // Sections, behind which a run loads its devices. Lists that still wait are judged then.
-    fn settled(&mut self, settings: &Settings, sections: Sections<'_>) -> Result<(), Failure> {
-        if !self.sections(sections)? {
+    // Parts, behind which a run loads its devices. Lists that still wait are judged then.
+    fn settled(&mut self, settings: &Settings, parts: Parts<'_>) -> Result<(), Failure>
+        ensures { IfErr result IsNoFault }
+    {
+        if !self.parts(parts)? {
             return Ok(());
         }
         if self.runs && !self.devices(settings.devices())? {
@@ -338,17 +357,20 @@ impl Review {
         Ok(())
     }
 
-    // The sections of a script; nothing where its settings have a fault.
+    // The parts of a script; nothing where its settings have a fault.
     fn script(&mut self, text: &str) -> Result<(), Failure>
         requires { length text.now + 1 ≤ 2 ^ 63 }
+        ensures { IfErr result IsNoFault }
     {
         let Ok(script) = open(text) else {
             return Ok(());
         };
         match settings_of(self.alloc, &script.settings) {
-            Ok(settings) => self.settled(&settings, script.sections),
-            Err(Failure::Refused(_)) => Ok(()),
-            Err(failure) => Err(failure),
+            Ok(settings) => self.settled(&settings, Parts::of(script.sections)),
+            Err(failure) => {
+                untold(failure)?;
+                Ok(())
+            }
         }
     }
 
@@ -363,18 +385,24 @@ impl Review {
 /// are loaded when the next step comes, or at the end; one that a step makes, at that step. Behind a fault of the script
 /// nothing is told: the fault is to be mended first. Each load, and each change of the list but one behind `halt`, is taken
 /// as accepted. Err where memory was refused.
-pub fn warnings_of(alloc: Global, script: &[u8]) -> Result<Warnings, Failure> {
+pub fn warnings_of(alloc: Global, script: &[u8]) -> Result<Warnings, Failure>
+    ensures { IfErr result IsNoFault }
+{
     review_of(alloc, false, script)
 }
 
 /// What is told of the lists that stand before the commands of a run. They are judged over all its units, devices too,
 /// before the first thread. Else as `warnings_of`.
-pub fn run_warnings_of(alloc: Global, before: &[u8]) -> Result<Warnings, Failure> {
+pub fn run_warnings_of(alloc: Global, before: &[u8]) -> Result<Warnings, Failure>
+    ensures { IfErr result IsNoFault }
+{
     review_of(alloc, true, before)
 }
 
 /// What is told of the lists of a whole script, as the command carries it out that it is for.
-pub fn whole_warnings_of(alloc: Global, script: &[u8]) -> Result<Warnings, Failure> {
+pub fn whole_warnings_of(alloc: Global, script: &[u8]) -> Result<Warnings, Failure>
+    ensures { IfErr result IsNoFault }
+{
     let runs = match text_of(script) {
         Ok(text) => match purpose_in(text) {
             Purpose::Run => true,
@@ -386,7 +414,9 @@ pub fn whole_warnings_of(alloc: Global, script: &[u8]) -> Result<Warnings, Failu
 }
 
 // What is told of the lists of a script for `run`, or else for `play`.
-fn review_of(alloc: Global, runs: bool, script: &[u8]) -> Result<Warnings, Failure> {
+fn review_of(alloc: Global, runs: bool, script: &[u8]) -> Result<Warnings, Failure>
+    ensures { IfErr result IsNoFault }
+{
     let mut review = Review::new(alloc, runs);
     if let Ok(text) = text_of(script) {
         review.script(text)?;

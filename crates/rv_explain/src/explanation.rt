@@ -1,12 +1,10 @@
 //! What is said below the line of a fault.
 
-ghost use Rattle.std.specs.Prelude.{◌+◌, ◌≤◌, ◌^◌, length};
-
 use crate::excerpt::Excerpt;
 use crate::spot::{Spot, spot_of};
 use rv_cause::cause::Cause;
 use rv_cause::known::Known;
-use rv_text::Section;
+use rv_fault::Part;
 use std::alloc::{AllocError, Global};
 use std::fmt;
 
@@ -47,23 +45,15 @@ pub(crate) fn of_line<'a>(
     at_spot(alloc, spot, cause, known, spot.number)
 }
 
-/// The same of one whose place counts in a section's text, without carriage returns before line feeds.
-pub(crate) fn of_section<'a>(
+/// The same of one whose place counts in a part's text, without carriage returns before line feeds.
+pub(crate) fn of_part<'a>(
     alloc: Global,
-    section: &Section<'a>,
+    part: &Part<'a>,
     cause: &Cause<'_>,
     known: &Known<'_>,
-) -> Result<Explanation<'a>, AllocError>
-    requires { section.now.line + length section.now.text.now ≤ 2 ^ 63 }
-{
-    let other = spot_of(section, cause.other.unwrap_or(cause.at));
-    at_spot(
-        alloc,
-        spot_of(section, cause.at),
-        cause,
-        known,
-        other.number,
-    )
+) -> Result<Explanation<'a>, AllocError> {
+    let other = spot_of(part, cause.other.unwrap_or(cause.at));
+    at_spot(alloc, spot_of(part, cause.at), cause, known, other.number)
 }
 
 /// The same of one without a place.

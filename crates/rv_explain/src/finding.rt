@@ -1,9 +1,7 @@
 //! Finds what is said of a fault.
 
-ghost use Rattle.std.specs.Prelude.{◌+◌, ◌≤◌, ◌^◌, length};
-
-use crate::explanation::{Explanation, nothing, of_line, of_script, of_section};
-use crate::sections::{known_before, load_at, opening_before, section_at, texts_before};
+use crate::explanation::{Explanation, nothing, of_line, of_part, of_script};
+use crate::parts::{known_before, load_at, opening_before, part_at, texts_before};
 use crate::spot::{Spot, line_spot};
 use crate::units::of_unit;
 use rv_access::ListFault;
@@ -11,12 +9,11 @@ use rv_cause::cause::Cause;
 use rv_cause::known::Known;
 use rv_cause::line::Line;
 use rv_cause::{commands, lists, loaded, sections, settings, shapes, steps};
-use rv_fault::{ScriptFault, What};
+use rv_fault::{Part, ScriptFault, What};
 use rv_script::unit_text::unit_text;
 use rv_script::{Opening, TextError, opening_of, text_of};
 use rv_settings::SettingsFault;
 use rv_shape::fault::ShapeFault;
-use rv_text::Section;
 use std::alloc::{AllocError, Global};
 
 const TOO_LONG: &str = "a unit text has at most 262144 bytes; this one has more";
@@ -66,15 +63,15 @@ fn first_of_step(words: &Line<'_>) -> usize {
     3
 }
 
-// What is said of a fault of a list, in a section or in the line of a step.
+// What is said of a fault of a list, in a part of its own or in the line of a step.
 fn of_list<'a>(
     alloc: Global,
     script: &'a str,
     line: usize,
     fault: ListFault,
 ) -> Result<Explanation<'a>, AllocError> {
-    let is_section = section_at(script, line).is_some();
-    let number = if is_section {
+    let is_part = part_at(script, line).is_some();
+    let number = if is_part {
         line.saturating_add(list_line(fault))
     } else {
         line
@@ -83,7 +80,7 @@ fn of_list<'a>(
         return of_script(alloc, "this is no list");
     };
     let words = Line::of(alloc, spot.line, 0)?;
-    let first = if is_section { 0 } else { first_of_step(&words) };
+    let first = if is_part { 0 } else { first_of_step(&words) };
     let cause = cause_of_list(&words, first, fault)?;
     of_line(alloc, &spot, &cause, &Known::new(alloc))
 }
@@ -170,14 +167,12 @@ fn cause_of_settings<'a>(
 // What is said of a fault of settings.
 fn of_settings<'a>(
     alloc: Global,
-    section: &Section<'a>,
+    part: &Part<'a>,
     fault: SettingsFault,
-) -> Result<Explanation<'a>, AllocError>
-    requires { section.now.line + length section.now.text.now ≤ 2 ^ 63 }
-{
-    let text = unit_text(alloc, section.text)?;
+) -> Result<Explanation<'a>, AllocError> {
+    let text = unit_text(alloc, part.text)?;
     let cause = cause_of_settings(alloc, text.as_str(), fault)?;
-    of_section(alloc, section, &cause, &Known::new(alloc))
+    of_part(alloc, part, &cause, &Known::new(alloc))
 }
 
 // Which name of a shape in a script is taken.
@@ -215,56 +210,47 @@ fn cause_of_shape<'a>(
 fn of_shape<'a>(
     alloc: Global,
     script: &'a str,
-    section: &Section<'a>,
+    part: &Part<'a>,
     fault: ShapeFault,
-) -> Result<Explanation<'a>, AllocError>
-    requires { section.now.line + length section.now.text.now ≤ 2 ^ 63 }
-{
+) -> Result<Explanation<'a>, AllocError> {
     let known = Known::new(alloc);
-    if opening_of(section.opening) == Some(Opening::Settings) {
-        return of_section(
-            alloc,
-            section,
-            &Cause::plain(0, NO_ROOM_FOR_A_DEVICE),
-            &known,
-        );
+    if part.opening == Some(Opening::Settings) {
+        return of_part(alloc, part, &Cause::plain(0, NO_ROOM_FOR_A_DEVICE), &known);
     }
-    let text = unit_text(alloc, section.text)?;
+    let text = unit_text(alloc, part.text)?;
     let lines = shapes::lines_of(alloc, text.as_str())?;
-    let cause = cause_of_shape(alloc, script, section.line, lines.as_slice(), fault)?;
-    of_section(alloc, section, &cause, &known)
+    let cause = cause_of_shape(alloc, script, part.line, lines.as_slice(), fault)?;
+    of_part(alloc, part, &cause, &known)
 }
 
-// What is said of a fault of a section's text.
+// What is said of a fault of a part's text.
 fn of_text<'a>(
     alloc: Global,
     script: &'a str,
     line: usize,
     what: What,
 ) -> Result<Explanation<'a>, AllocError> {
-    if let Some(section) = section_at(script, line) {
-        return of_part(alloc, script, &section, what);
+    if let Some(part) = part_at(script, line) {
+        return of_fault(alloc, script, &part, what);
     }
     let Some(load) = load_at(script, line) else {
         return of_spot(alloc, script, line, what);
     };
-    of_part(alloc, script, &load, what)
+    of_fault(alloc, script, &load, what)
 }
 
-// What is said of a fault of the text of a section, or of the unit text behind a command `load`.
-fn of_part<'a>(
+// What is said of a fault of the text of a part, or of the unit text behind a command `load`.
+fn of_fault<'a>(
     alloc: Global,
     script: &'a str,
-    section: &Section<'a>,
+    part: &Part<'a>,
     what: What,
-) -> Result<Explanation<'a>, AllocError>
-    requires { section.now.line + length section.now.text.now ≤ 2 ^ 63 }
-{
+) -> Result<Explanation<'a>, AllocError> {
     match what {
-        What::Unit(fault) => of_unit(alloc, script, section, fault),
-        What::Shape(fault) => of_shape(alloc, script, section, fault),
-        What::Settings(fault) => of_settings(alloc, section, fault),
-        _ => of_spot(alloc, script, section.line, what),
+        What::Unit(fault) => of_unit(alloc, script, part, fault),
+        What::Shape(fault) => of_shape(alloc, script, part, fault),
+        What::Settings(fault) => of_settings(alloc, part, fault),
+        _ => of_spot(alloc, script, part.line, what),
     }
 }
 

@@ -6,8 +6,8 @@ mod excerpt;
 mod explanation;
 mod finding;
 mod grammar;
+mod parts;
 mod places;
-mod sections;
 pub mod spot;
 mod units;
 

@@ -1,10 +1,12 @@
-//! Where in the script a place of a section's text stands.
+//! Where in the script a place of a part's text stands.
 
 ghost use Rattle.std.specs.Prelude.{◌≡◌, ◌+◌, ◌≤◌, ◌^◌, length, count_by, IfSome};
 ghost use Rattle.rv_script.specs.UnitTexts.{without_returns};
+ghost use Rattle.rv_fault.specs.Parts.{section_of};
 ghost use Rattle.rv_explain.specs.Spots.{IsLine, StandsAt, begins_character, column_of};
 
-use rv_text::{Section, next_line};
+use rv_fault::Part;
+use rv_text::next_line;
 
 /// A place of a script: a line, and a byte of it.
 #[derive(Clone, Copy)]
@@ -45,23 +47,18 @@ impl<'a> Spot<'a> {
     }
 }
 
-/// Where in the script a byte of a section's text stands; bytes count from 0, without carriage returns before line feeds. A
-/// place behind the last line feed is that at the end of the last line, which is the section's opening where there is no
+/// Where in the script a byte of a part's text stands; bytes count from 0, without carriage returns before line feeds. A
+/// place behind the last line feed is that at the end of the last line, which is the part's opening where there is no
 /// other.
-pub fn spot_of<'a>(section: &Section<'a>, at: usize) -> Spot<'a>
-    requires { section.now.line + length section.now.text.now ≤ 2 ^ 63 }
-    ensures { at ≤ length (without_returns section.now.text.now) → StandsAt (record {
-      line = section.now.line;
-      opening = section.now.opening.now;
-      text = section.now.text.now;
-    }) at result.number result.line.now result.offset }
+pub fn spot_of<'a>(part: &Part<'a>, at: usize) -> Spot<'a>
+    ensures { at ≤ length (without_returns part.now.text.now) → StandsAt (section_of part.now) at result.number result.line.now result.offset }
 {
     let mut spot = Spot {
-        number: section.line,
-        line: section.opening,
-        offset: section.opening.len(),
+        number: part.line,
+        line: part.heading,
+        offset: part.heading.len(),
     };
-    let mut rest = section.text;
+    let mut rest = part.text;
     let mut left = at;
     'each: while let Some((line, behind)) = next_line(rest) {
         let number = spot.number + 1;

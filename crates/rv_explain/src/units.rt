@@ -1,17 +1,16 @@
 //! The cause of a fault of a unit text.
 
-ghost use Rattle.std.specs.Prelude.{◌+◌, ◌≤◌, ◌^◌, length};
-
-use crate::explanation::{Explanation, of_section};
+use crate::explanation::{Explanation, of_part};
 use crate::grammar::Stop;
+use crate::parts::{known_before, texts_before};
 use crate::places::place_of;
-use crate::sections::{known_before, texts_before};
 use rv_cause::around::Around;
 use rv_cause::cases::told;
 use rv_cause::cause::Cause;
 use rv_cause::known::Known;
 use rv_cause::words::Words;
 use rv_cause::{grammar, lexical, names, nulls, restrictions, shapes, types, unknown};
+use rv_fault::Part;
 use rv_lex::fault::LexFault;
 use rv_lex::lexer::tokens;
 use rv_lex::token::Token;
@@ -22,7 +21,6 @@ use rv_restrict::Restriction;
 use rv_script::unit_text::unit_text;
 use rv_shape::fault::ShapeFault;
 use rv_static::TypeFault;
-use rv_text::Section;
 use rv_unit::UnitFault;
 use std::alloc::{AllocError, Global};
 
@@ -251,25 +249,23 @@ fn without_words(text: &str, fault: UnitFault) -> Cause<'_> {
     }
 }
 
-/// What is said of a fault of the unit text of a section.
+/// What is said of a fault of the unit text of a part.
 pub(crate) fn of_unit<'a>(
     alloc: Global,
     script: &'a str,
-    section: &Section<'a>,
+    part: &Part<'a>,
     fault: UnitFault,
-) -> Result<Explanation<'a>, AllocError>
-    requires { section.now.line + length section.now.text.now ≤ 2 ^ 63 }
-{
-    let text = unit_text(alloc, section.text)?;
+) -> Result<Explanation<'a>, AllocError> {
+    let text = unit_text(alloc, part.text)?;
     let Ok(own) = tokens(alloc, text.as_str()) else {
         let cause = without_words(text.as_str(), fault);
-        return of_section(alloc, section, &cause, &Known::new(alloc));
+        return of_part(alloc, part, &cause, &Known::new(alloc));
     };
-    let texts = texts_before(alloc, script, section.line)?;
-    let mut known = known_before(alloc, script, section.line, texts.as_slice())?;
+    let texts = texts_before(alloc, script, part.line)?;
+    let mut known = known_before(alloc, script, part.line, texts.as_slice())?;
     if knows_itself(fault) {
         known.add_text(own.as_slice())?;
     }
     let cause = cause_of(alloc, text.as_str(), own.as_slice(), &known, fault)?;
-    of_section(alloc, section, &cause, &known)
+    of_part(alloc, part, &cause, &known)
 }

@@ -1,4 +1,5 @@
 pub mod Devices
 pub mod Faults
+pub mod Parts
 pub mod Sections
 pub mod Written

@@ -17,7 +17,6 @@ use Rattle.rv_fault.specs.declared.failure.Failure.{Failure}
 use Rattle.rv_fault.specs.declared.failure.Failure.TheVariants.{Refused, Memory, Io}
 use Rattle.rv_fault.specs.declared.fault.What.{What}
 use Rattle.rv_fault.specs.declared.fault.What.TheVariants as Whats
-use Rattle.rv_fault.specs.declared.fault.ScriptFault.{ScriptFault}
 
 -- what a text gives: a value, or what stands against it
 abbrev pub Giving : Type 0 → Type 1

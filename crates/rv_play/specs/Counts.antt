@@ -4,6 +4,24 @@ use Rattle.rv_event.specs.declared.entry.Answer.{Answer}
 use Rattle.rv_event.specs.declared.entry.Answer.TheVariants.{Misuse, Busy, Waiting, Full, Halted, Unattached, BadLine}
 use Rattle.rv_play.specs.declared.counts.Counts.{Counts}
 
+-- before the first answer
+abbrev pub no_answers : Counts
+no_answers = record {
+  answers = 0;
+  misuse = 0;
+  busy = 0;
+  waiting = 0;
+  full = 0;
+  halted = 0;
+  unattached = 0;
+  badline = 0;
+}
+
+-- how many answers no entry has, as far as a number can count them
+abbrev pub unrecorded : Counts → ℕ
+unrecorded counts =
+    min (counts.misuse + counts.busy + counts.waiting + counts.full + counts.halted + counts.unattached + counts.badline) (2 ^ 64 - 1)
+
 -- one more, where a number can count it
 abbrev pub one_more : ℕ → ℕ
 one_more count = min (count + 1) (2 ^ 64 - 1)

@@ -1,7 +1,7 @@
 //! How many answers were given, and how many of them no entry has.
 
 ghost use Rattle.std.specs.Prelude.{◌≡◌};
-ghost use Rattle.rv_play.specs.Counts.{counted, one_more};
+ghost use Rattle.rv_play.specs.Counts.{counted, no_answers, one_more, unrecorded};
 
 use rv_event::entry::Answer;
 use std::fmt;
@@ -29,7 +29,9 @@ fn one_more(count: usize) -> usize
 
 impl Counts {
     /// Before the first answer.
-    pub fn new() -> Counts {
+    pub fn new() -> Counts
+        ensures { result ≡ no_answers }
+    {
         Counts {
             answers: 0,
             misuse: 0,
@@ -73,12 +75,16 @@ impl Counts {
     }
 
     /// How many answers the journal doesn't have.
-    pub fn unrecorded(&self) -> usize {
-        let mut sum = 0usize;
-        for (_, count) in self.kinds() {
-            sum = sum.saturating_add(count);
-        }
-        sum
+    pub fn unrecorded(&self) -> usize
+        ensures { result ≡ unrecorded self.now }
+    {
+        self.misuse
+            .saturating_add(self.busy)
+            .saturating_add(self.waiting)
+            .saturating_add(self.full)
+            .saturating_add(self.halted)
+            .saturating_add(self.unattached)
+            .saturating_add(self.badline)
     }
 }
 

@@ -1,9 +1,9 @@
-//! Carries out a script, section by section, and writes the journal of what it did.
+//! Carries out a script, part by part, and writes the journal of what it did.
 
-ghost use Rattle.std.specs.Prelude.{ℕ, ◌≤◌, ◌<◌, ◌+◌, ◌^◌, ◌∷◌, [], length, replicate, IfOk, IfSome, option_map};
+ghost use Rattle.std.specs.Prelude.{ℕ, ◌<◌, ◌+◌, ◌∷◌, [], replicate, IfOk, IfSome, option_map};
 ghost use Rattle.std.specs.Str.Lines.{lines};
 ghost use Rattle.rv_text.specs.Words.{words};
-ghost use Rattle.rv_script.specs.Openings.{AreNumbered};
+ghost use Rattle.rv_fault.specs.Parts.{section_of};
 ghost use Rattle.rv_fault.specs.Written.{Writes, WritesScript};
 ghost use Rattle.rv_play.specs.Acts.{Act, Goes, line_of, asked_acts, line_acts, step_acts, section_acts, acts_from};
 ghost use Rattle.rv_play.specs.Deeds.{Comes, ComesToDeed};
@@ -16,13 +16,13 @@ use crate::counts::Counts;
 use crate::deed::Deed;
 use crate::going::go_along;
 use crate::player::{Limits, Player};
-use rv_fault::{Failure, What, refused, settings_of};
+use rv_fault::{Failure, Part, Parts, What, refused, settings_of};
 use rv_host::host::NewFault;
-use rv_script::{Opening, open, opening_of, read_script, text_of};
+use rv_script::{Opening, open, read_script, text_of};
 use rv_step::lookup::actor_of;
 use rv_step::reading::{StepError, step_of};
 use rv_step::step::{Asked, Asker, Step};
-use rv_text::{Section, Sections, has_words, next_line};
+use rv_text::{Section, has_words, next_line};
 use std::alloc::Global;
 use std::io::{Read, Write};
 
@@ -146,19 +146,18 @@ fn perform_line<W: Write>(
     }
 }
 
-// Carries out the steps of a section, one a line.
+// Carries out steps, one a line.
 fn perform_all<W: Write>(
     alloc: Global,
     player: &mut Player,
     writer: &mut W,
-    section: &Section,
+    steps: &Part,
 ) -> Result<(), Failure>
-    requires { section.now.line + length section.now.text.now ≤ 2 ^ 63 }
     ensures { Carries (W.contents writer.old) (W.contents writer.new) (playing player.old) (playing player.new)
-        (step_acts (section.now.line + 1) (lines section.now.text.now)) result }
+        (step_acts (steps.now.line + 1) (lines steps.now.text.now)) result }
 {
-    let mut rest = section.text;
-    let mut line = section.line;
+    let mut rest = steps.text;
+    let mut line = steps.line;
     while let Some((text, after)) = next_line(rest) {
         line += 1;
         perform_line(alloc, player, writer, line, text)?;
@@ -167,56 +166,49 @@ fn perform_all<W: Write>(
     Ok(())
 }
 
-// Carries out one section.
+// Carries out one part.
 fn carry_out<W: Write>(
     alloc: Global,
     player: &mut Player,
     writer: &mut W,
-    section: &Section,
+    part: &Part,
 ) -> Result<(), Failure>
-    requires { section.now.line + length section.now.text.now ≤ 2 ^ 63 }
     ensures { Carries (W.contents writer.old) (W.contents writer.new) (playing player.old) (playing player.new)
-        (section_acts (record {
-          line = section.now.line;
-          opening = section.now.opening.now;
-          text = section.now.text.now;
-        })) result }
+        (section_acts (section_of part.now)) result }
 {
-    let line = section.line;
-    let Some(opening) = opening_of(section.opening) else {
-        return Err(refused(line, What::BadSection));
+    let Some(opening) = part.opening else {
+        return Err(part.not_taken());
     };
     match opening {
         Opening::UnitText => {
-            let deed = unit_deed(alloc, player, line, section.text);
+            let deed = unit_deed(alloc, player, part.line, part.text);
             perform(player, writer, deed)
         }
         Opening::Shape => {
-            let deed = shape_deed(alloc, player, line, section.text);
+            let deed = shape_deed(alloc, player, part.line, part.text);
             perform(player, writer, deed)
         }
         Opening::AccessList => {
-            let deed = list_deed(alloc, player, line, section.text);
+            let deed = list_deed(alloc, player, part.line, part.text);
             perform(player, writer, deed)
         }
-        Opening::Steps => perform_all(alloc, player, writer, section),
-        _ => Err(refused(line, What::BadSection)),
+        Opening::Steps => perform_all(alloc, player, writer, part),
+        _ => Err(part.not_taken()),
     }
 }
 
-// Carries out sections, in order, up to the first fault.
+// Carries out parts, in order, up to the first fault.
 fn carry_out_all<W: Write>(
     alloc: Global,
     player: &mut Player,
     writer: &mut W,
-    mut sections: Sections<'_>,
+    mut parts: Parts<'_>,
 ) -> Result<(), Failure>
-    requires { AreNumbered sections }
     ensures { Carries (W.contents writer.old) (W.contents writer.new) (playing player.old) (playing player.new)
-        (acts_from sections.entry) result }
+        (acts_from parts.entry) result }
 {
-    'each: while let Some(section) = sections.next_section() {
-        carry_out(alloc, player, writer, &section)?;
+    'each: while let Some(part) = parts.next_part() {
+        carry_out(alloc, player, writer, &part)?;
     }
     Ok(())
 }
@@ -252,7 +244,7 @@ fn play_text<W: Write>(
     let limits = limits_of(alloc, &script.settings)?;
     match Player::new(alloc, limits, all) {
         Ok(mut player) => {
-            let done = carry_out_all(alloc, &mut player, writer, script.sections);
+            let done = carry_out_all(alloc, &mut player, writer, Parts::of(script.sections));
             *counts = player.counts;
             done
         }

@@ -1,5 +1,6 @@
 use Rattle.std.proofs.Common.{ℕ, Option, length}
 use Rattle.rv_fault.specs.declared.fault.ScriptFault.{ScriptFault}
+use Rattle.rv_fault.specs.Parts.{section_of}
 use Rattle.rv_check.specs.CommandLines.{TakesAll, before_commands}
 use Rattle.rv_check.specs.ScriptLines.{lines_behind}
 use Rattle.rv_check.proofs.commands.count_commands.Given as goal
@@ -9,7 +10,7 @@ abbrev pub invariant-loop-number : goal.invariant-loop-number
 invariant-loop-number l =
     (count : ℕ) → (told : Option ScriptFault) → TakesAll l.review l.lines count told
     → TakesAll (before_commands l.fn.catalogue)
-    (lines_behind (record { line = l.section.line; opening = l.section.opening.now; text = l.section.text.now }) l.fn.others) count told
+    (lines_behind (section_of l.part) l.fn.others) count told
 
 abbrev pub decreases-loop-number : goal.decreases-loop-number
 decreases-loop-number l = length l.lines

@@ -4,7 +4,7 @@ use Rattle.rv_check.proofs.purpose.purpose_of.Given as goal
 
 -- no section so far is one that one command alone takes
 abbrev pub invariant-each : goal.invariant-each
-invariant-each l = purpose_of l.fn.sections ≡ purpose_of l.sections
+invariant-each l = purpose_of l.fn.parts ≡ purpose_of l.parts
 
 abbrev pub decreases-each : goal.decreases-each
-decreases-each l = length l.sections
+decreases-each l = length l.parts

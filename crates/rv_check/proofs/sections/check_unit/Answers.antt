@@ -5,7 +5,7 @@ use Rattle.rv_check.proofs.sections.check_unit.Goals as goal
 pub returns : goal.returns
 returns g c =
     let given = c.in_ok-unit.ensures in
-    adds_told _ _ c.args.section.now.line _ _ _ _ given.0 (_, given.1) _ c.add_unit.ensures
+    adds_told _ _ c.args.part.now.line _ _ _ _ given.0 (_, given.1) _ c.add_unit.ensures
 
 pub returns-in_err-unit : goal.returns-in_err-unit
 returns-in_err-unit g c =

@@ -6,7 +6,7 @@ use Rattle.rv_check.proofs.steps.count_steps.Goals as goal
 pub returns-in-Err : goal.returns-in-Err
 returns-in-Err c =
     let inv = c.loop-text.invariant in
-    counts_not c.args.catalogue.now (c.loop-text.line + 1) c.in-Some.text.now (lines c.loop-text.rest.now) (lines c.in-Some.after.now) (c.args.section.now.line + 1) (lines c.args.section.now.text.now) c.in-Err.failure
+    counts_not c.args.catalogue.now (c.loop-text.line + 1) c.in-Some.text.now (lines c.loop-text.rest.now) (lines c.in-Some.after.now) (c.args.part.now.line + 1) (lines c.args.part.now.text.now) c.in-Err.failure
     c.in-Some.ensures.lines inv.faults c.in-Err.ensures
 
 pub loop-text-preserved : goal.loop-text-preserved

@@ -10,10 +10,10 @@ abbrev pub invariant-loop-text : goal.invariant-loop-text
 invariant-loop-text l =
     record {
       text : shadow (Utf8 l.rest);
-      few : l.line + length l.rest ≤ l.fn.section.line + length l.fn.section.text.now;
+      few : l.line + length l.rest ≤ l.fn.part.line + length l.fn.part.text.now;
       less : l.count ≤ l.line;
-      faults : steps_fault l.catalogue (l.fn.section.line + 1) (lines l.fn.section.text.now) ≡ steps_fault l.catalogue (l.line + 1) (lines l.rest);
-      counted : steps_count (lines l.fn.section.text.now) ≡ l.count + steps_count (lines l.rest);
+      faults : steps_fault l.catalogue (l.fn.part.line + 1) (lines l.fn.part.text.now) ≡ steps_fault l.catalogue (l.line + 1) (lines l.rest);
+      counted : steps_count (lines l.fn.part.text.now) ≡ l.count + steps_count (lines l.rest);
     }
 
 abbrev pub decreases-loop-text : goal.decreases-loop-text

@@ -12,9 +12,9 @@ abbrev pub invariant-loop-text : goal.invariant-loop-text
 invariant-loop-text g l =
     record {
       text : shadow (Utf8 l.rest);
-      few : l.line + length l.rest ≤ l.fn.section.line + length l.fn.section.text.now;
+      few : l.line + length l.rest ≤ l.fn.steps.line + length l.fn.steps.text.now;
       done : List Act;
-      all_acts : done ++ step_acts (l.line + 1) (lines l.rest) ≡ step_acts (l.fn.section.line + 1) (lines l.fn.section.text.now);
+      all_acts : done ++ step_acts (l.line + 1) (lines l.rest) ≡ step_acts (l.fn.steps.line + 1) (lines l.fn.steps.text.now);
       carried : Carries (g.W.Write.contents l.fn.writer) (g.W.Write.contents l.writer) (playing l.fn.player) (playing l.player) done (Ok tt);
     }
 

@@ -1,8 +1,8 @@
 use Rattle.std.proofs.Common.{length}
-use Rattle.rv_explain.proofs.sections.opening_before.Given as goal
+use Rattle.rv_explain.proofs.parts.part_at.Given as goal
 
 abbrev pub invariant-each : goal.invariant-each
 invariant-each l = Unit {0}
 
 abbrev pub decreases-each : goal.decreases-each
-decreases-each l = length l.sections
+decreases-each l = length l.parts

@@ -1,5 +1,0 @@
-use Rattle.std.proofs.Common.{length}
-use Rattle.rv_check.proofs.warnings.Review.sections.Given as goal
-
-abbrev pub decreases-each : goal.decreases-each
-decreases-each l = length l.sections
