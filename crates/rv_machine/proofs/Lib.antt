@@ -1,0 +1,4 @@
+pub mod Steps
+pub mod ExpressionSteps
+pub mod StatementSteps
+pub mod ValueSteps

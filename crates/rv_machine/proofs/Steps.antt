@@ -1,0 +1,83 @@
+-- One move of a run, as the laws of frames have it.
+use Rattle.std.proofs.Common.{◌≡◌, refl, sym, ap, ◌∙◌, ℕ, ℤ, List, ◌∷◌}
+use Rattle.std.specs.Prelude.{reverse}
+use Rattle.rv_code.specs.Bodies.{UnitBodies}
+use Rattle.rv_exec.specs.declared.activation.Activation.{Activation}
+use Rattle.rv_exec.specs.declared.setting.Setting.{Setting}
+use Rattle.rv_flat.specs.declared.unit.FlatUnit.{FlatUnit}
+use Rattle.rv_flat.specs.Tables.{trees}
+use Rattle.rv_flat.specs.Trees.{tree_at, as_expressions}
+use Rattle.rv_frames.specs.Frames.{Frame, Control, arguing, meant}
+use Rattle.rv_machine.specs.declared.frame.Count.{Count}
+use Rattle.rv_machine.specs.declared.frame.OperandFrame.{OperandFrame}
+use Rattle.rv_machine.specs.declared.frame.ValueFrame.{ValueFrame}
+use Rattle.rv_machine.specs.declared.frame.ValuesFrame.{ValuesFrame}
+use Rattle.rv_machine.specs.declared.frame.EndFrame.{EndFrame}
+use Rattle.rv_machine.specs.declared.frame.Frame.TheVariants as frame
+use Rattle.rv_machine.specs.declared.pile.Pile.{Pile}
+use Rattle.rv_machine.specs.declared.stack.Stack.{Stack}
+use Rattle.rv_machine.specs.Points.{Leads, LeadsIn}
+use Rattle.rv_machine.specs.Stacks.{operand_frame, value_frame, values_frame, end_frame, count_frame, frames_with, waiting, set_aside, below}
+
+-- a law, where the point is known and the frames behind the move are
+pub by_law :
+    (from known to : Control) (before after pushed : List Frame)
+    → from ≡ known → after ≡ pushed
+    → ((bodies : UnitBodies) (s : Setting) → meant bodies known before s ≡ meant bodies to pushed s)
+    → Leads from before to after
+by_law from known to before after pushed is put law = record {
+  same = λ bodies s. ap (λ (x : Control). meant bodies x before s) is ∙ (law bodies s ∙ ap (λ (fs : List Frame). meant bodies to fs s) (sym put));
+}
+
+-- what a frame that is put on top of the others stands for
+pub operand_on : (u : FlatUnit) (old new : Stack) (x : OperandFrame)
+    → waiting new ≡ frame.Operand x ∷ waiting old → new.activations ≡ old.activations
+    → below u new ≡ operand_frame (trees u.code) x ∷ below u old
+unfolding frames_with
+operand_on u old new x on same =
+    ap (λ fs. frames_with u fs (set_aside new)) on ∙ ap (λ (kept : Pile Activation). operand_frame (trees u.code) x ∷ frames_with u (waiting old) (reverse kept.items.items)) same
+
+pub value_on : (u : FlatUnit) (old new : Stack) (x : ValueFrame)
+    → waiting new ≡ frame.Value x ∷ waiting old → new.activations ≡ old.activations
+    → below u new ≡ value_frame (trees u.code) x ∷ below u old
+unfolding frames_with
+value_on u old new x on same =
+    ap (λ fs. frames_with u fs (set_aside new)) on ∙ ap (λ (kept : Pile Activation). value_frame (trees u.code) x ∷ frames_with u (waiting old) (reverse kept.items.items)) same
+
+pub values_on : (u : FlatUnit) (old new : Stack) (x : ValuesFrame)
+    → waiting new ≡ frame.Values x ∷ waiting old → new.activations ≡ old.activations
+    → below u new ≡ values_frame (trees u.code) x ∷ below u old
+unfolding frames_with
+values_on u old new x on same =
+    ap (λ fs. frames_with u fs (set_aside new)) on ∙ ap (λ (kept : Pile Activation). values_frame (trees u.code) x ∷ frames_with u (waiting old) (reverse kept.items.items)) same
+
+pub end_on : (u : FlatUnit) (old new : Stack) (x : EndFrame)
+    → waiting new ≡ frame.End x ∷ waiting old → new.activations ≡ old.activations
+    → below u new ≡ end_frame u x ∷ below u old
+unfolding frames_with
+end_on u old new x on same =
+    ap (λ fs. frames_with u fs (set_aside new)) on ∙ ap (λ (kept : Pile Activation). end_frame u x ∷ frames_with u (waiting old) (reverse kept.items.items)) same
+
+pub argument_on : (u : FlatUnit) (old new : Stack) (given : List ℤ) (es : ℕ)
+    → waiting new ≡ frame.Arguing given es ∷ waiting old → new.activations ≡ old.activations
+    → below u new ≡ arguing given (as_expressions (tree_at (trees u.code) es)) ∷ below u old
+unfolding frames_with
+argument_on u old new given es on same =
+    ap (λ fs. frames_with u fs (set_aside new)) on ∙ ap (λ (kept : Pile Activation). arguing given (as_expressions (tree_at (trees u.code) es)) ∷ frames_with u (waiting old) (reverse kept.items.items)) same
+
+pub count_on : (u : FlatUnit) (old new : Stack) (count : Count) (ss : ℕ)
+    → waiting new ≡ frame.Counting count ss ∷ waiting old → new.activations ≡ old.activations
+    → below u new ≡ count_frame (trees u.code) count ss ∷ below u old
+unfolding frames_with
+count_on u old new count ss on same =
+    ap (λ fs. frames_with u fs (set_aside new)) on ∙ ap (λ (kept : Pile Activation). count_frame (trees u.code) count ss ∷ frames_with u (waiting old) (reverse kept.items.items)) same
+
+-- the same in one setting
+pub by_law_in :
+    (s : Setting) (from known to : Control) (before after pushed : List Frame)
+    → from ≡ known → after ≡ pushed
+    → ((bodies : UnitBodies) → meant bodies known before s ≡ meant bodies to pushed s)
+    → LeadsIn s from before to after
+by_law_in s from known to before after pushed is put law = record {
+  same = λ bodies. ap (λ (x : Control). meant bodies x before s) is ∙ (law bodies ∙ ap (λ (fs : List Frame). meant bodies to fs s) (sym put));
+}

@@ -1,0 +1,16 @@
+//! A machine that runs compiled bodies on a stack of its own, in place of the caller's: it moves by small steps, and stops at
+//! each request. What stands in parentheses, as (5.2), is a section of ISO/IEC 8652:2012; (own) marks what is this project's
+//! choice.
+#![tactic(auto)]
+
+pub mod expressions;
+pub mod frame;
+pub mod nodes;
+pub mod pile;
+pub mod point;
+pub mod stack;
+mod choices;
+pub mod select;
+mod stacking;
+pub mod statements;
+pub mod values;
