@@ -1,13 +1,17 @@
 -- One move of a run, as the laws of frames have it.
-use Rattle.std.proofs.Common.{◌≡◌, refl, sym, ap, ◌∙◌, ℕ, ℤ, List, ◌∷◌}
+use Rattle.std.proofs.Common.{◌≡◌, refl, sym, ap, subst, arith, ◌∙◌, ℕ, zero, suc, ◌-◌, ℤ, List, ◌∷◌, Bool, Ok}
 use Rattle.std.specs.Prelude.{reverse}
+use Rattle.rv_shape.specs.declared.kind.Range.{Range}
+use Rattle.rv_code.specs.declared.expression.Operator.{Operator}
+use Rattle.rv_code.specs.Expressions.{Links}
+use Rattle.rv_code.specs.Statements.{Statements, Alternatives}
 use Rattle.rv_code.specs.Bodies.{UnitBodies}
 use Rattle.rv_exec.specs.declared.activation.Activation.{Activation}
 use Rattle.rv_exec.specs.declared.setting.Setting.{Setting}
 use Rattle.rv_flat.specs.declared.unit.FlatUnit.{FlatUnit}
 use Rattle.rv_flat.specs.Tables.{trees}
-use Rattle.rv_flat.specs.Trees.{tree_at, as_expressions}
-use Rattle.rv_frames.specs.Frames.{Frame, Control, arguing, meant}
+use Rattle.rv_flat.specs.Trees.{Tree, tree_at, as_expressions}
+use Rattle.rv_frames.specs.Frames.{Frame, Control, arguing, operating, raising, comes, selects_of, valued, meant}
 use Rattle.rv_machine.specs.declared.frame.Count.{Count}
 use Rattle.rv_machine.specs.declared.frame.OperandFrame.{OperandFrame}
 use Rattle.rv_machine.specs.declared.frame.ValueFrame.{ValueFrame}
@@ -81,3 +85,42 @@ pub by_law_in :
 by_law_in s from known to before after pushed is put law = record {
   same = λ bodies. ap (λ (x : Control). meant bodies x before s) is ∙ (law bodies ∙ ap (λ (fs : List Frame). meant bodies to fs s) (sym put));
 }
+
+-- frames that are known by another name
+pub at_operand : (ts : List Tree) (x y : OperandFrame) (from to : Control) (fs after : List Frame)
+    → x ≡ y → Leads from (operand_frame ts y ∷ fs) to after → Leads from (operand_frame ts x ∷ fs) to after
+at_operand ts x y from to fs after is leads = subst (λ (z : OperandFrame). Leads from (operand_frame ts z ∷ fs) to after) (sym is) leads
+
+pub at_value : (ts : List Tree) (x y : ValueFrame) (from to : Control) (fs after : List Frame)
+    → x ≡ y → Leads from (value_frame ts y ∷ fs) to after → Leads from (value_frame ts x ∷ fs) to after
+at_value ts x y from to fs after is leads = subst (λ (z : ValueFrame). Leads from (value_frame ts z ∷ fs) to after) (sym is) leads
+
+pub at_end : (u : FlatUnit) (x y : EndFrame) (from to : Control) (fs after : List Frame)
+    → x ≡ y → Leads from (end_frame u y ∷ fs) to after → Leads from (end_frame u x ∷ fs) to after
+at_end u x y from to fs after is leads = subst (λ (z : EndFrame). Leads from (end_frame u z ∷ fs) to after) (sym is) leads
+
+-- numbers that are known by another name
+pub at_number : (v w : ℤ) (a : Activation) (to : Control) (before after : List Frame)
+    → w ≡ v → Leads (comes (valued (Ok w) a)) before to after → Leads (comes (valued (Ok v) a)) before to after
+at_number v w a to before after is leads = subst (λ (z : ℤ). Leads (comes (valued (Ok z) a)) before to after) is leads
+
+pub at_left : (op : Operator) (u w : ℤ) (ls : Links) (from to : Control) (fs after : List Frame)
+    → w ≡ u → Leads from (operating op w ls ∷ fs) to after → Leads from (operating op u ls ∷ fs) to after
+at_left op u w ls from to fs after is leads = subst (λ (z : ℤ). Leads from (operating op z ls ∷ fs) to after) is leads
+
+pub at_selection : (more : Alternatives) (v w : ℤ) (a : Activation) (to : Control) (before after : List Frame)
+    → w ≡ v → Leads (selects_of more w a) before to after → Leads (selects_of more v a) before to after
+at_selection more v w a to before after is leads = subst (λ (z : ℤ). Leads (selects_of more z a) before to after) is leads
+
+pub at_bounds : (slot : ℕ) (is_reverse : Bool) (range : Range) (low low_is high high_is : ℤ) (ss : Statements) (a : Activation) (to : Control) (fs after : List Frame)
+    → low_is ≡ low → high_is ≡ high
+    → Leads (comes (valued (Ok high_is) a)) (raising slot is_reverse range low_is ss ∷ fs) to after
+    → Leads (comes (valued (Ok high) a)) (raising slot is_reverse range low ss ∷ fs) to after
+at_bounds slot is_reverse range low low_is high high_is ss a to fs after one other leads =
+    subst (λ (z : ℤ). Leads (comes (valued (Ok z) a)) (raising slot is_reverse range low ss ∷ fs) to after) other
+    (subst (λ (z : ℤ). Leads (comes (valued (Ok high_is) a)) (raising slot is_reverse range z ss ∷ fs) to after) one leads)
+
+-- one less than what isn't 0
+pub one_less : (n : ℕ) → (n ≡ 0 → ⊥) → n ≡ suc (n - 1)
+one_less zero some = absurd (some refl)
+one_less (suc n) some = omega arith

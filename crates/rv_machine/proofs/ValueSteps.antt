@@ -22,7 +22,9 @@ use Rattle.rv_frames.specs.Rests.{is_next}
 use Rattle.rv_frames.proofs.Arrivals.{expressions_arrive, statements_arrive}
 use Rattle.rv_frames.proofs.Rests.{loops_rest, statements_rest}
 use Rattle.rv_machine.specs.Points.{Leads}
-use Rattle.rv_machine.specs.Stacks.{value_frame}
+use Rattle.rv_machine.specs.Stacks.{operand_frame, value_frame}
+use Rattle.rv_machine.specs.declared.frame.OperandFrame.{OperandFrame}
+use Rattle.rv_machine.specs.declared.frame.OperandFrame.TheVariants as operand
 use Rattle.rv_machine.specs.declared.frame.ValueFrame.{ValueFrame}
 use Rattle.rv_machine.specs.declared.frame.ValueFrame.TheVariants as value
 use Rattle.rv_machine.proofs.Steps.{by_law}
@@ -152,3 +154,10 @@ value_fails ts (value.Raising scheme low ss) why a fs = record { same = λ bodie
 value_fails ts value.Leaving why a fs = record { same = λ bodies s. (statements_rest bodies fs s).exit_fails why a }
 value_fails ts value.Returning why a fs = record { same = λ bodies s. (statements_rest bodies fs s).return_fails why a }
 value_fails ts (value.Declaring target more) why a fs = record { same = λ bodies s. (statements_rest bodies fs s).declaration_fails _ _ why a }
+
+pub operand_fails_so : (ts : List Tree) (x : OperandFrame) (why : Cause) (a : Activation) (fs : List Frame)
+    → Leads (comes (valued (Err why) a)) (operand_frame ts x ∷ fs) (comes (valued (Err why) a)) fs
+operand_fails_so ts (operand.Prefixing op) why a fs = prefix_fails op why a fs
+operand_fails_so ts (operand.Linking ls) why a fs = chain_fails _ why a fs
+operand_fails_so ts (operand.Operating op v ls) why a fs = operand_fails op v _ why a fs
+operand_fails_so ts (operand.Bounding range) why a fs = bounds_fail range why a fs

@@ -194,3 +194,51 @@ pub fn fail_value(unit: &FlatUnit, activation: &Activation, frame: ValueFrame, c
     let _ = frame;
     Point::Done(End::Abandoned(cause))
 }
+
+/// The value of an operand comes, or the cause that it fails by.
+pub fn operand_comes(
+    unit: &FlatUnit,
+    activation: &Activation,
+    frame: OperandFrame,
+    value: Result<i64, Cause>,
+) -> Point
+    ensures { (fs : List Waiting) → Leads (comes (valued value activation.now)) (operand_frame (trees unit.now.code) frame ∷ fs) (control (trees unit.now.code) result activation.now) fs }
+{
+    match value {
+        Ok(value) => take_operand(unit, activation, frame, value),
+        Err(cause) => fail_operand(unit, activation, frame, cause),
+    }
+}
+
+/// The value of an argument comes, or the cause that it fails by (6.4.1).
+pub fn argument_comes(
+    unit: &FlatUnit,
+    activation: &Activation,
+    before: Args,
+    arguments: usize,
+    value: Result<i64, Cause>,
+) -> Point
+    ensures { (fs : List Waiting) → Leads (comes (valued value activation.now)) (arguing before (as_expressions (tree_at (trees unit.now.code) arguments)) ∷ fs) (control (trees unit.now.code) result activation.now) fs }
+{
+    match value {
+        Ok(value) => take_argument(unit, activation, before, arguments, value),
+        Err(cause) => Point::Listed(Err(cause)),
+    }
+}
+
+/// The value that a statement or a declaration waits for comes, or the cause that it fails by.
+pub fn part_comes(
+    unit: &FlatUnit,
+    stack: &mut Stack,
+    activation: &mut Activation,
+    frame: ValueFrame,
+    value: Result<i64, Cause>,
+) -> Point
+    requires { HasRoom 1 stack.old }
+    ensures { Leads (comes (valued value activation.old)) (value_frame (trees unit.now.code) frame ∷ below unit.now stack.old) (control (trees unit.now.code) result activation.new) (below unit.now stack.new) }
+{
+    match value {
+        Ok(value) => take_value(unit, stack, activation, frame, value),
+        Err(cause) => fail_value(unit, activation, frame, cause),
+    }
+}
