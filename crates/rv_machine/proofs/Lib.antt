@@ -3,3 +3,5 @@ pub mod ExpressionSteps
 pub mod StatementSteps
 pub mod ValueSteps
 pub mod ChoiceSteps
+pub mod EndSteps
+pub mod Meetings

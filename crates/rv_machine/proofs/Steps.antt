@@ -1,17 +1,19 @@
 -- One move of a run, as the laws of frames have it.
-use Rattle.std.proofs.Common.{◌≡◌, refl, sym, ap, subst, arith, ◌∙◌, ℕ, zero, suc, ◌-◌, ℤ, List, ◌∷◌, Bool, Ok}
+use Rattle.std.proofs.Common.{◌≡◌, refl, sym, ap, subst, arith, ◌∙◌, ℕ, zero, suc, ◌-◌, ℤ, List, ◌∷◌, Bool, Option, Result, Ok}
 use Rattle.std.specs.Prelude.{reverse}
 use Rattle.rv_shape.specs.declared.kind.Range.{Range}
+use Rattle.rv_event.specs.declared.entry.Exception.{Exception}
 use Rattle.rv_code.specs.declared.expression.Operator.{Operator}
 use Rattle.rv_code.specs.Expressions.{Links}
 use Rattle.rv_code.specs.Statements.{Statements, Alternatives}
 use Rattle.rv_code.specs.Bodies.{UnitBodies}
 use Rattle.rv_exec.specs.declared.activation.Activation.{Activation}
 use Rattle.rv_exec.specs.declared.setting.Setting.{Setting}
+use Rattle.rv_exec.specs.declared.end.Cause.{Cause}
 use Rattle.rv_flat.specs.declared.unit.FlatUnit.{FlatUnit}
 use Rattle.rv_flat.specs.Tables.{trees}
-use Rattle.rv_flat.specs.Trees.{Tree, tree_at, as_expressions}
-use Rattle.rv_frames.specs.Frames.{Frame, Control, arguing, operating, raising, comes, selects_of, valued, meant}
+use Rattle.rv_flat.specs.Trees.{Tree, tree_at, as_expressions, as_handlers}
+use Rattle.rv_frames.specs.Frames.{Frame, Control, arguing, operating, raising, handling, restoring, comes, selects_of, valued, meant}
 use Rattle.rv_machine.specs.declared.frame.Count.{Count}
 use Rattle.rv_machine.specs.declared.frame.OperandFrame.{OperandFrame}
 use Rattle.rv_machine.specs.declared.frame.ValueFrame.{ValueFrame}
@@ -76,6 +78,20 @@ unfolding frames_with
 count_on u old new count ss on same =
     ap (λ fs. frames_with u fs (set_aside new)) on ∙ ap (λ (kept : Pile Activation). count_frame (trees u.code) count ss ∷ frames_with u (waiting old) (reverse kept.items.items)) same
 
+pub handling_on : (u : FlatUnit) (old new : Stack) (hs : ℕ)
+    → waiting new ≡ frame.Handling hs ∷ waiting old → new.activations ≡ old.activations
+    → below u new ≡ handling (as_handlers (tree_at (trees u.code) hs)) ∷ below u old
+unfolding frames_with
+handling_on u old new hs on same =
+    ap (λ fs. frames_with u fs (set_aside new)) on ∙ ap (λ (kept : Pile Activation). handling (as_handlers (tree_at (trees u.code) hs)) ∷ frames_with u (waiting old) (reverse kept.items.items)) same
+
+pub restoring_on : (u : FlatUnit) (old new : Stack) (exception : Option Exception)
+    → waiting new ≡ frame.Restoring exception ∷ waiting old → new.activations ≡ old.activations
+    → below u new ≡ restoring exception ∷ below u old
+unfolding frames_with
+restoring_on u old new exception on same =
+    ap (λ fs. frames_with u fs (set_aside new)) on ∙ ap (λ (kept : Pile Activation). restoring exception ∷ frames_with u (waiting old) (reverse kept.items.items)) same
+
 -- the same in one setting
 pub by_law_in :
     (s : Setting) (from known to : Control) (before after pushed : List Frame)
@@ -124,3 +140,7 @@ at_bounds slot is_reverse range low low_is high high_is ss a to fs after one oth
 pub one_less : (n : ℕ) → (n ≡ 0 → ⊥) → n ≡ suc (n - 1)
 one_less zero some = absurd (some refl)
 one_less (suc n) some = omega arith
+
+pub at_result : (r x : Result ℤ Cause) (a : Activation) (to : Control) (before after : List Frame)
+    → r ≡ x → Leads (comes (valued x a)) before to after → Leads (comes (valued r a)) before to after
+at_result r x a to before after is leads = subst (λ (z : Result ℤ Cause). Leads (comes (valued z a)) before to after) (sym is) leads

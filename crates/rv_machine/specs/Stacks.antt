@@ -60,7 +60,6 @@ abbrev pub end_frame : FlatUnit → EndFrame → Frame
 end_frame u (ends.Turning n e ss) = f.turning n (as_expression (tree_at (trees u.code) e)) (as_statements (tree_at (trees u.code) ss))
 end_frame u (ends.Sequencing ss) = f.sequencing (as_statements (tree_at (trees u.code) ss))
 end_frame u (ends.Opening ss hs) = f.opening (as_statements (tree_at (trees u.code) ss)) (as_handlers (tree_at (trees u.code) hs))
-end_frame u (ends.Handling hs) = f.handling (as_handlers (tree_at (trees u.code) hs))
 end_frame u (ends.Closing object operation) = f.closing (body_or (operation_of (flat_view u) object operation))
 end_frame u (ends.Quitting actor) = f.quitting (body_or (task_of (flat_view u) actor))
 
@@ -87,6 +86,7 @@ frames_with u (frame.Values x ∷ fs) kept = values_frame (trees u.code) x ∷ f
 frames_with u (frame.End x ∷ fs) kept = end_frame u x ∷ frames_with u fs kept
 frames_with u (frame.Arguing given es ∷ fs) kept = f.arguing given (as_expressions (tree_at (trees u.code) es)) ∷ frames_with u fs kept
 frames_with u (frame.Counting count ss ∷ fs) kept = count_frame (trees u.code) count ss ∷ frames_with u fs kept
+frames_with u (frame.Handling hs ∷ fs) kept = f.handling (as_handlers (tree_at (trees u.code) hs)) ∷ frames_with u fs kept
 frames_with u (frame.Restoring exception ∷ fs) kept = f.restoring exception ∷ frames_with u fs kept
 frames_with u (frame.Resuming t ∷ fs) kept = f.resuming t (first_of kept) ∷ frames_with u fs (rest_of kept)
 frames_with u (frame.Answering ∷ fs) kept = f.answering (first_of kept) ∷ frames_with u fs (rest_of kept)

@@ -75,8 +75,6 @@ pub enum EndFrame {
     Sequencing(usize),
     /// The statements of a body, and its handlers.
     Opening(usize, usize),
-    /// The handlers of a body.
-    Handling(usize),
     /// The body of an operation of an object, by their numbers.
     Closing(usize, usize),
     /// The body of a task, by the number of its actor.
@@ -94,6 +92,8 @@ pub enum Frame {
     Arguing(Args, usize),
     /// The end of the statements for one value of a loop's range, by the values that are left (5.5).
     Counting(Count, usize),
+    /// The end of a body's statements, by its handlers (11.4).
+    Handling(usize),
     /// The exception that was handled before a handler.
     Restoring(Option<Exception>),
     /// A call inside the object, whose caller ran in this setting.

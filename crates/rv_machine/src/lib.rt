@@ -3,14 +3,18 @@
 //! choice.
 #![tactic(auto)]
 
+mod choices;
+pub mod ends;
 pub mod expressions;
 pub mod frame;
+pub mod machine;
+mod moves;
 pub mod nodes;
+pub mod outcomes;
 pub mod pile;
 pub mod point;
-pub mod stack;
-mod choices;
 pub mod select;
+pub mod stack;
 mod stacking;
 pub mod statements;
 pub mod values;

@@ -101,6 +101,17 @@ impl Stack {
         self.frames.push(Frame::End(frame));
     }
 
+    /// The handlers of a body are put on top.
+    pub fn push_handling(&mut self, handlers: usize)
+        requires { HasRoom 1 self.old }
+        ensures frames { waiting self.new ≡ Frame.Handling handlers ∷ waiting self.old }
+        ensures activations { self.new.activations ≡ self.old.activations }
+        ensures longer { length self.new.frames.items.items ≡ length self.old.frames.items.items + 1 }
+        ensures capacity { self.new.frames.capacity ≡ self.old.frames.capacity }
+    {
+        self.frames.push(Frame::Handling(handlers));
+    }
+
     /// The exception that was handled before a handler is put on top.
     pub fn push_restoring(&mut self, exception: Option<Exception>)
         requires { HasRoom 1 self.old }
