@@ -5,3 +5,4 @@ pub mod ValueSteps
 pub mod ChoiceSteps
 pub mod EndSteps
 pub mod Meetings
+pub mod Starts

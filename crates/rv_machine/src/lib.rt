@@ -17,4 +17,5 @@ pub mod select;
 pub mod stack;
 mod stacking;
 pub mod statements;
+mod tasks;
 pub mod values;

@@ -18,6 +18,7 @@ impl Stack {
     pub fn new(alloc: Global) -> Result<Stack, AllocError>
         ensures frames { IfOk result (λ s. waiting s ≡ []) }
         ensures activations { IfOk result (λ s. set_aside s ≡ []) }
+        ensures room { IfOk result (λ s. s.frames.capacity ≡ 262144) }
     {
         let frames = Pile::reserve(alloc, MOST_FRAMES)?;
         let activations = Pile::reserve(alloc, MOST_ACTIVATIONS)?;
