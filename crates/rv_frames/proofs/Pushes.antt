@@ -31,7 +31,7 @@ internal_enters bodies fs s operation values a nested body deeper is =
     ∙ (associative (block (world bodies (inner_setting s nested)) body (begun body values a)) _ _
     ∙ associative (elaborated (world bodies (inner_setting s nested)) body.declarations (begun body values a)) _ _))
 
-external_spent :
+pub external_spent :
     (bodies : UnitBodies) (fs : List Frame) (s : Setting) (callee : Callee) (values : List ℤ) (a b : Activation)
     → internal callee ≡ None → spent s.is_task a ≡ Some b
     → meant bodies (calls callee values a) fs s ≡ and_then (outer_at bodies s.held callee values) (out (denoted bodies (answering b ∷ fs) s))
@@ -39,7 +39,7 @@ unfolding meant denoted called
 external_spent bodies fs s callee values a b = λ other is. rw other (rw is (associative (outer_at bodies s.held callee values) _ _))
 
 -- the outside of an actor that may hold so many more
-outer_as :
+pub outer_as :
     (bodies : UnitBodies) (held : ℕ) (callee : Callee) (values : List ℤ)
     → outer_at bodies held callee values ≡ and_then (reached held callee values) (performed (started_by bodies held values))
 unfolding outer_at

@@ -8,6 +8,10 @@ ghost use Rattle.rv_frames.specs.Questions.{PartsAreAssociative, EndsAddNothing}
 ghost use Rattle.rv_frames.specs.Begins.{RunsBeginAsTheyAre};
 ghost use Rattle.rv_frames.specs.Pushes.{PushesKeepTheMeaning};
 ghost use Rattle.rv_frames.specs.Arrivals.{ArrivalsKeepTheMeaning};
+ghost use Rattle.rv_frames.specs.AtOnce.{ComesAtOnce};
+ghost use Rattle.rv_frames.specs.Asks.{QuestionsKeepTheMeaning};
+ghost use Rattle.rv_frames.specs.Rests.{RestsKeepTheMeaning};
+ghost use Rattle.rv_frames.specs.Passing.{OthersPass};
 
 /// Of three parts that ask one behind another it is all the same which two are put together first, and a part that only ends
 /// adds nothing behind the last.
@@ -29,7 +33,28 @@ pub fn pushes_keep_the_meaning()
 {}
 
 /// Where a value, an end, an answer or what a body comes to is taken by the frame on top, what the run still asks and comes to
-/// stays. This is said of the frames and of what comes to them that the law names, not of each.
+/// stays. The frames, and what comes to them, that this law doesn't name are those of the laws below.
 pub fn arrivals_keep_the_meaning()
     ensures { ArrivalsKeepTheMeaning }
+{}
+
+/// Where the run comes to something at once, as to a null statement, to a call that starts no body or to the body that starts,
+/// what it still asks and comes to stays.
+pub fn comes_at_once()
+    ensures { ComesAtOnce }
+{}
+
+/// Where the run asks, and where each answer leads.
+pub fn questions_keep_the_meaning()
+    ensures { QuestionsKeepTheMeaning }
+{}
+
+/// The rest of the frames with what they take: with the laws above, each frame with each thing of the kind that it takes.
+pub fn rests_keep_the_meaning()
+    ensures { RestsKeepTheMeaning }
+{}
+
+/// What a frame doesn't take comes to the frame below, as if it weren't there.
+pub fn others_pass()
+    ensures { OthersPass }
 {}

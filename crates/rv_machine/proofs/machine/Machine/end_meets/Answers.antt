@@ -1,0 +1,20 @@
+use Rattle.std.proofs.Common.{◌∙◌, ap}
+use Rattle.rv_exec.specs.declared.activation.Activation.{Activation}
+use Rattle.rv_flat.specs.FlatUnits.{flat_view}
+use Rattle.rv_frames.specs.Frames.{comes, valued, done, meant}
+use Rattle.rv_machine.specs.Stacks.{below}
+use Rattle.rv_machine.proofs.Meetings.{across, met_end, met_count, met_handling, takes_no_end}
+use Rattle.rv_machine.proofs.machine.Machine.end_meets.Goals as goal
+
+pub returns-in-End : goal.returns-in-End
+returns-in-End c = met_end c.args.unit.now c.args.self.now.stack (record c.args.self.now { point = c.take_end-self.result; stack = c.take_end-self.new.stack }) (done c.args.end c.args.self.now.activation) c.args.self.now.setting _ _ c.in-End.is (across _ _ _ _ _ c.take_end-self.ensures)
+
+pub returns-in-Counting : goal.returns-in-Counting
+returns-in-Counting c = met_count c.args.unit.now c.args.self.now.stack (record c.args.self.now { point = c.take_count_end-self.result }) (done c.args.end c.args.self.now.activation) c.args.self.now.setting _ _ _ c.in-Counting.is (across _ _ _ _ _ (c.take_count_end-self.ensures (below c.args.unit.now c.args.self.now.stack)))
+
+pub returns-in-Handling : goal.returns-in-Handling
+returns-in-Handling c = met_handling c.args.unit.now c.args.self.now.stack (record c.args.self.now { point = c.handle-self.result; setting = c.handle-self.new.setting; stack = c.handle-self.new.stack }) (done c.args.end c.args.self.now.activation) c.args.self.now.setting _ _ c.in-Handling.is c.handle-self.ensures
+
+pub returns-in_default : goal.returns-in_default
+returns-in_default c = ap (λ (x : Activation). meant (flat_view c.args.unit.now) (comes (done c.args.end x)) (below c.args.unit.now c.pass.new.self.stack) c.pass.new.self.setting) c.pass.ensures.same ∙ c.pass.ensures.below (done c.args.end c.args.self.now.activation) (takes_no_end _ c.in_default.not-End c.in_default.not-Counting c.in_default.not-Handling)
+

@@ -1,0 +1,4 @@
+pub mod Nodes
+pub mod Stacks
+pub mod Points
+pub mod Machines

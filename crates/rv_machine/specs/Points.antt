@@ -1,0 +1,58 @@
+-- Where a machine is, and what it still does (own).
+use Rattle.std.specs.Prelude.{◌≡◌, List}
+use Rattle.rv_code.specs.Bodies.{UnitBodies}
+use Rattle.rv_exec.specs.declared.activation.Activation.{Activation}
+use Rattle.rv_exec.specs.declared.setting.Setting.{Setting}
+use Rattle.rv_exec.specs.declared.end.End.{End}
+use Rattle.rv_exec.specs.declared.end.End.TheVariants as ends
+use Rattle.rv_flat.specs.Trees.{Tree, tree_at, as_expression, as_expressions, as_links, as_statement, as_statements, as_branches, as_alternatives, as_declarations}
+use Rattle.rv_frames.specs.Frames as f
+use Rattle.rv_frames.specs.Frames.{Frame, Control, meant}
+use Rattle.rv_machine.specs.declared.point.Point.{Point}
+use Rattle.rv_machine.specs.declared.point.Point.TheVariants as point
+
+-- what the run is at, where the parts stand in a table, with this activation
+abbrev pub control : List Tree → Point → Activation → Control
+control ts (point.Evaluates e) a = f.evaluates (as_expression (tree_at ts e)) a
+control ts (point.Links ls v) a = f.links (as_links (tree_at ts ls)) v a
+control ts (point.Argues es values) a = f.argues (as_expressions (tree_at ts es)) values a
+control ts (point.Calls callee values) a = f.calls callee values a
+control ts (point.Runs x) a = f.runs (as_statement (tree_at ts x)) a
+control ts (point.RunsAll ss) a = f.runs_all (as_statements (tree_at ts ss)) a
+control ts (point.Tries bs ss) a = f.tries (as_branches (tree_at ts bs)) (as_statements (tree_at ts ss)) a
+control ts (point.Selects more v) a = f.selects_of (as_alternatives (tree_at ts more)) v a
+control ts (point.Turns n e ss) a = f.turns_of n (as_expression (tree_at ts e)) (as_statements (tree_at ts ss)) a
+control ts (point.Counts count ss) a =
+    f.counts count.left count.values.is_reverse count.values.low count.values.high count.values.slot (as_statements (tree_at ts ss)) a
+control ts (point.Declares ds) a = f.declares (as_declarations (tree_at ts ds)) a
+control ts (point.Enters operation values components steps) a = f.enters operation values components steps
+control ts (point.Asks callee values) a = f.asks_of callee values
+control ts (point.Waits callee) a = f.waits callee
+control ts (point.Ends request outcome) a = f.ends_of request outcome
+control ts (point.Quits outcome) a = f.quits_of outcome
+control ts (point.Fires object operation) a = f.fires object operation
+control ts (point.Valued v) a = f.comes (f.valued v a)
+control ts (point.Listed outcome) a = f.comes (f.listed outcome a)
+control ts (point.Done e) a = f.comes (f.done e a)
+control ts (point.Closes outcome components steps) a = f.comes (f.closes outcome components steps)
+control ts (point.Reaches what) a = f.comes (f.reaches what)
+control ts (point.Outside outcome) a = f.comes (f.outside outcome)
+control ts (point.Exited e components) a = f.comes (f.exited e components)
+control ts (point.Quitted e) a = f.comes (f.quitted e)
+
+-- in each setting the run still does the same, at the one point with the one frames and at the other with the others
+pub record Leads (from : Control) (before : List Frame) (to : Control) (after : List Frame) : Type 0 where
+  pub same : (bodies : UnitBodies) (s : Setting) → meant bodies from before s ≡ meant bodies to after s
+
+-- the same in one setting
+pub record LeadsIn (s : Setting) (from : Control) (before : List Frame) (to : Control) (after : List Frame) : Type 0 where
+  pub same : (bodies : UnitBodies) → meant bodies from before s ≡ meant bodies to after s
+
+-- the same from one setting to another
+pub record LeadsAcross (s : Setting) (from : Control) (before : List Frame) (t : Setting) (to : Control) (after : List Frame) : Type 0 where
+  pub same : (bodies : UnitBodies) → meant bodies from before s ≡ meant bodies to after t
+
+-- how a loop ends whose turn ends so (5.7)
+abbrev pub left_by : End → End
+left_by ends.Exit = ends.Next
+left_by other = other

@@ -1,0 +1,124 @@
+//! The end of statements or declarations comes to what waits for it.
+
+ghost use Rattle.std.specs.Prelude.{◌≡◌, ◌≤◌, ◌∷◌, List};
+ghost use Rattle.rv_flat.specs.Tables.{trees};
+ghost use Rattle.rv_flat.specs.Trees.{tree_at, as_handlers};
+ghost use Rattle.rv_frames.specs.Frames.{Frame as Waiting, handling, comes, done};
+ghost use Rattle.rv_frames.specs.Rests.{is_next};
+ghost use Rattle.rv_machine.specs.Points.{control, left_by, Leads, LeadsAcross};
+ghost use Rattle.rv_machine.specs.Stacks.{below, count_frame, end_frame, HasRoom};
+
+use crate::choices::handler_of;
+use crate::frame::{Count, EndFrame};
+use crate::outcomes::{operation_outcome, task_outcome};
+use crate::point::Point;
+use crate::stack::Stack;
+use rv_exec::activation::Activation;
+use rv_exec::end::End;
+use rv_exec::outcome::raised;
+use rv_exec::setting::Setting;
+use rv_flat::unit::FlatUnit;
+
+/// Whether the next statement follows.
+pub fn is_next(end: End) -> bool
+    ensures { result ≡ is_next end }
+{
+    match end {
+        End::Next => true,
+        _ => false,
+    }
+}
+
+// How a loop ends whose turn ends so: an exit leaves the loop alone (5.7).
+fn left_by(end: End) -> End
+    ensures { result ≡ left_by end }
+{
+    match end {
+        End::Exit => End::Next,
+        other => other,
+    }
+}
+
+/// The end of a body's statements comes: the handler that names the exception runs, if it is one and there is one (11.4).
+pub fn handle(
+    unit: &FlatUnit,
+    stack: &mut Stack,
+    activation: &Activation,
+    setting: &mut Setting,
+    handlers: usize,
+    end: End,
+) -> Point
+    requires { HasRoom 1 stack.old }
+    ensures { LeadsAcross setting.old (comes (done end activation.now)) (handling (as_handlers (tree_at (trees unit.now.code) handlers)) ∷ below unit.now stack.old) setting.new (control (trees unit.now.code) result activation.now) (below unit.now stack.new) }
+{
+    let Some(exception) = raised(end) else {
+        return Point::Done(end);
+    };
+    let Some(statements) = handler_of(&unit.code, handlers, exception) else {
+        return Point::Done(end);
+    };
+    stack.push_restoring(setting.handling);
+    setting.handling = Some(exception);
+    Point::RunsAll(statements)
+}
+
+/// The end of the statements for one value of a loop's range comes (5.5).
+pub fn take_count_end(
+    unit: &FlatUnit,
+    activation: &Activation,
+    count: Count,
+    statements: usize,
+    end: End,
+) -> Point
+    ensures { (fs : List Waiting) → Leads (comes (done end activation.now)) (count_frame (trees unit.now.code) count statements ∷ fs) (control (trees unit.now.code) result activation.now) fs }
+{
+    let _ = unit;
+    let _ = activation;
+    if is_next(end) {
+        Point::Counts(count, statements)
+    } else {
+        Point::Done(left_by(end))
+    }
+}
+
+/// The end of a statement, or of declarations, comes (5.1, 3.11).
+pub fn take_end(
+    unit: &FlatUnit,
+    stack: &mut Stack,
+    activation: &Activation,
+    frame: EndFrame,
+    end: End,
+) -> Point
+    requires { HasRoom 1 stack.old }
+    ensures { Leads (comes (done end activation.now)) (end_frame unit.now frame ∷ below unit.now stack.old) (control (trees unit.now.code) result activation.now) (below unit.now stack.new) }
+{
+    match frame {
+        EndFrame::Turning(turns, condition, statements) => {
+            if is_next(end) {
+                Point::Turns(turns, condition, statements)
+            } else {
+                Point::Done(left_by(end))
+            }
+        }
+        EndFrame::Sequencing(statements) => {
+            if is_next(end) {
+                Point::RunsAll(statements)
+            } else {
+                Point::Done(end)
+            }
+        }
+        EndFrame::Opening(statements, handlers) => {
+            if is_next(end) {
+                stack.push_handling(handlers);
+                Point::RunsAll(statements)
+            } else {
+                Point::Done(end)
+            }
+        }
+        EndFrame::Closing(object, operation) => {
+            let outcome = operation_outcome(unit, object, operation, end, activation);
+            Point::Closes(outcome, activation.components, activation.steps)
+        }
+        EndFrame::Quitting(actor) => Point::Quits(task_outcome(unit, actor, end, activation)),
+    }
+}

@@ -1,0 +1,94 @@
+//! One move in an expression (4.4), or in the arguments of a call (6.4.1).
+
+ghost use Rattle.std.specs.Prelude.{◌≤◌};
+ghost use Rattle.rv_flat.specs.Tables.{trees};
+ghost use Rattle.rv_flat.specs.Trees.{tree_at, as_expression, as_expressions, as_links};
+ghost use Rattle.rv_frames.specs.Frames.{evaluates, links as links_of, argues};
+ghost use Rattle.rv_machine.specs.Points.{control, Leads};
+ghost use Rattle.rv_machine.specs.Stacks.{below, HasRoom};
+
+use crate::frame::{OperandFrame, ValuesFrame};
+use crate::nodes::{ExpressionNode, expression_at, expressions_at, links_at};
+use crate::point::Point;
+use crate::stack::Stack;
+use rv_exec::activation::Activation;
+use rv_exec::operators::decides;
+use rv_flat::unit::FlatUnit;
+use rv_value::Args;
+
+/// An expression: its value, or its first operand before what waits for that (4.4).
+pub fn evaluate(
+    unit: &FlatUnit,
+    stack: &mut Stack,
+    activation: &Activation,
+    number: usize,
+) -> Point
+    requires { HasRoom 2 stack.old }
+    ensures { Leads (evaluates (as_expression (tree_at (trees unit.now.code) number)) activation.now) (below unit.now stack.old) (control (trees unit.now.code) result activation.now) (below unit.now stack.new) }
+{
+    match expression_at(&unit.code, number) {
+        ExpressionNode::Value(value) => Point::Valued(Ok(value)),
+        ExpressionNode::Variable(slot) => Point::Valued(Ok(activation.variable(slot))),
+        ExpressionNode::Component(index) => Point::Valued(Ok(activation.component(index))),
+        ExpressionNode::Prefixed(prefix, operand) => {
+            stack.push_operand(OperandFrame::Prefixing(prefix));
+            Point::Evaluates(operand)
+        }
+        ExpressionNode::Chain(first, links) => {
+            stack.push_operand(OperandFrame::Linking(links));
+            Point::Evaluates(first)
+        }
+        ExpressionNode::Within(range, operand) => {
+            stack.push_operand(OperandFrame::Bounding(range));
+            Point::Evaluates(operand)
+        }
+        ExpressionNode::Call(callee, given) => {
+            stack.push_values(ValuesFrame::Giving);
+            stack.push_values(ValuesFrame::Passing(callee));
+            Point::Argues(given, Args::new())
+        }
+    }
+}
+
+/// The next link of a chain, behind the value so far: its operand is skipped where that value decides (4.5.1).
+pub fn link(
+    unit: &FlatUnit,
+    stack: &mut Stack,
+    activation: &Activation,
+    links: usize,
+    value: i64,
+) -> Point
+    requires { HasRoom 2 stack.old }
+    ensures { Leads (links_of (as_links (tree_at (trees unit.now.code) links)) value activation.now) (below unit.now stack.old) (control (trees unit.now.code) result activation.now) (below unit.now stack.new) }
+{
+    match links_at(&unit.code, links) {
+        None => Point::Valued(Ok(value)),
+        Some(link) => {
+            if decides(link.operator, value) {
+                return Point::Links(link.rest, value);
+            }
+            stack.push_operand(OperandFrame::Operating(link.operator, value, link.rest));
+            Point::Evaluates(link.operand)
+        }
+    }
+}
+
+/// The next argument, behind the values of those before it (6.4.1).
+pub fn argue(
+    unit: &FlatUnit,
+    stack: &mut Stack,
+    activation: &Activation,
+    arguments: usize,
+    values: Args,
+) -> Point
+    requires { HasRoom 2 stack.old }
+    ensures { Leads (argues (as_expressions (tree_at (trees unit.now.code) arguments)) values activation.now) (below unit.now stack.old) (control (trees unit.now.code) result activation.now) (below unit.now stack.new) }
+{
+    match expressions_at(&unit.code, arguments) {
+        None => Point::Listed(Ok(values)),
+        Some(argument) => {
+            stack.push_argument(values, argument.rest);
+            Point::Evaluates(argument.first)
+        }
+    }
+}

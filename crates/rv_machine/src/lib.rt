@@ -1,0 +1,21 @@
+//! A machine that runs compiled bodies on a stack of its own, in place of the caller's: it moves by small steps, and stops at
+//! each request. What stands in parentheses, as (5.2), is a section of ISO/IEC 8652:2012; (own) marks what is this project's
+//! choice.
+#![tactic(auto)]
+
+mod choices;
+pub mod ends;
+pub mod expressions;
+pub mod frame;
+pub mod machine;
+mod moves;
+pub mod nodes;
+pub mod outcomes;
+pub mod pile;
+pub mod point;
+pub mod select;
+pub mod stack;
+mod stacking;
+pub mod statements;
+mod tasks;
+pub mod values;

@@ -1,0 +1,61 @@
+//! Where a run is: what it turns to next, or what comes to the frame on top.
+
+use crate::frame::Count;
+use rv_code::Callee;
+use rv_event::entry::{Exit, Request};
+use rv_exec::end::{Asked, Cause, End};
+use rv_value::{Args, Scalars};
+
+/// Where a run is. Expressions, statements and lists of them stand by their numbers in the unit's table.
+#[derive(Clone, Copy)]
+pub enum Point {
+    /// An expression (4.4).
+    Evaluates(usize),
+    /// The links behind this value (4.5).
+    Links(usize, i64),
+    /// The arguments behind these values (6.4.1).
+    Argues(usize, Args),
+    /// A call with these values (6.4).
+    Calls(Callee, Args),
+    /// A statement (5.1).
+    Runs(usize),
+    /// Statements (5.1).
+    RunsAll(usize),
+    /// Branches, before the statements behind `else` (5.3).
+    Tries(usize, usize),
+    /// The alternatives for a value (5.4).
+    Selects(usize, i64),
+    /// So many turns of a loop at most: its condition and its statements (5.5).
+    Turns(u64, usize, usize),
+    /// The values of a loop's range that are left, and the statements (5.5).
+    Counts(Count, usize),
+    /// Declarations (3.11).
+    Declares(usize),
+    /// An operation of the setting's object, on these values, components and steps (6.4).
+    Enters(usize, Args, Scalars, u32),
+    /// The first request of a call of another object, and the resume of one that waits (9.5).
+    Asks(Callee, Args),
+    Waits(Callee),
+    /// The end of a body that has come to this, by this request (9.5.1).
+    Ends(Request, Result<Args, Cause>),
+    /// The end of a task that has come to this (9.3).
+    Quits(Result<Args, Cause>),
+    /// A line that fires, whose handler is this operation of this object (C.3).
+    Fires(usize, usize),
+    /// The value of an expression comes.
+    Valued(Result<i64, Cause>),
+    /// The values of arguments come, or those that a call gives.
+    Listed(Result<Args, Cause>),
+    /// The end of a statement comes.
+    Done(End),
+    /// What a body comes to, the components and the steps left.
+    Closes(Result<Args, Cause>, Scalars, u32),
+    /// What a request comes to.
+    Reaches(Asked),
+    /// What a call of another object comes to.
+    Outside(Result<Args, Cause>),
+    /// How the body of an operation exits, and the components then.
+    Exited(Exit, Scalars),
+    /// How a task ends.
+    Quitted(Exit),
+}

@@ -1,0 +1,198 @@
+//! One move in statements (5.1), or in declarations (3.11).
+
+ghost use Rattle.std.specs.Prelude.{◌≡◌, ◌≤◌, suc, pos, IsTrue, IsFalse, true, false, Some, None, length};
+ghost use Rattle.rv_exec.specs.Activations.{steps_left};
+ghost use Rattle.rv_exec.specs.Choices.{covered};
+ghost use Rattle.rv_flat.specs.Tables.{trees};
+ghost use Rattle.rv_flat.specs.Trees.{tree_at, as_expression, as_statement, as_statements, as_branches, as_alternatives, as_choices, as_declarations};
+ghost use Rattle.rv_frames.specs.Frames.{runs, runs_all, tries, selects_of, turns_of, counts, declares};
+ghost use Rattle.rv_machine.specs.Points.{control, Leads, LeadsIn};
+ghost use Rattle.rv_machine.specs.Stacks.{below, HasRoom};
+
+use crate::frame::{Count, EndFrame, ValueFrame, ValuesFrame};
+use crate::nodes::{StatementNode, alternatives_at, branches_at, declarations_at, statement_at, statements_at};
+use crate::point::Point;
+use crate::stack::Stack;
+use rv_event::entry::Exception;
+use rv_exec::activation::Activation;
+use rv_exec::end::{Cause, End};
+use rv_exec::outcome::raised_again;
+use rv_exec::ranges::value_before;
+use rv_exec::setting::Setting;
+use rv_flat::unit::FlatUnit;
+use rv_value::Args;
+
+// A loop turns at most once more than steps are left (5.5).
+fn most_turns(activation: &Activation) -> u64
+    ensures { result ≡ suc (steps_left activation.now) }
+{
+    activation.requests as u64 * 100_001 + activation.steps as u64 + 1
+}
+
+/// A statement: its end, or its first part before what waits for that (5.1).
+pub fn run(
+    unit: &FlatUnit,
+    stack: &mut Stack,
+    activation: &Activation,
+    setting: &Setting,
+    number: usize,
+) -> Point
+    requires { HasRoom 2 stack.old }
+    ensures { LeadsIn setting.now (runs (as_statement (tree_at (trees unit.now.code) number)) activation.now) (below unit.now stack.old) (control (trees unit.now.code) result activation.now) (below unit.now stack.new) }
+{
+    match statement_at(&unit.code, number) {
+        StatementNode::Null => Point::Done(End::Next),
+        StatementNode::Assign(target, value) => {
+            stack.push_value(ValueFrame::Assigning(target));
+            Point::Evaluates(value)
+        }
+        StatementNode::If(branches, otherwise) => Point::Tries(branches, otherwise),
+        StatementNode::Case(selector, alternatives) => {
+            stack.push_value(ValueFrame::Selecting(alternatives));
+            Point::Evaluates(selector)
+        }
+        StatementNode::While(condition, statements) => {
+            Point::Turns(most_turns(activation), condition, statements)
+        }
+        StatementNode::For(scheme, low, high, statements) => {
+            stack.push_value(ValueFrame::Lowering(scheme, high, statements));
+            Point::Evaluates(low)
+        }
+        StatementNode::ExitWhen(condition) => {
+            stack.push_value(ValueFrame::Leaving);
+            Point::Evaluates(condition)
+        }
+        StatementNode::Return => Point::Done(End::Return(None)),
+        StatementNode::ReturnValue(value) => {
+            stack.push_value(ValueFrame::Returning);
+            Point::Evaluates(value)
+        }
+        StatementNode::Raise(exception) => {
+            Point::Done(End::Abandoned(Cause::Raised(exception)))
+        }
+        StatementNode::Reraise => Point::Done(End::Abandoned(raised_again(setting.handling))),
+        StatementNode::Call(callee, given, targets) => {
+            stack.push_values(ValuesFrame::Copying(targets));
+            stack.push_values(ValuesFrame::Passing(callee));
+            Point::Argues(given, Args::new())
+        }
+    }
+}
+
+/// Statements in their order: the next one takes a step (5.1).
+pub fn run_all(
+    unit: &FlatUnit,
+    stack: &mut Stack,
+    activation: &mut Activation,
+    statements: usize,
+) -> Point
+    requires { HasRoom 1 stack.old }
+    ensures { Leads (runs_all (as_statements (tree_at (trees unit.now.code) statements)) activation.old) (below unit.now stack.old) (control (trees unit.now.code) result activation.new) (below unit.now stack.new) }
+{
+    match statements_at(&unit.code, statements) {
+        None => Point::Done(End::Next),
+        Some(statement) => {
+            if !activation.step() {
+                return Point::Done(End::Abandoned(Cause::Overrun));
+            }
+            stack.push_end(EndFrame::Sequencing(statement.rest));
+            Point::Runs(statement.first)
+        }
+    }
+}
+
+/// The next branch: its condition, or the statements behind `else` (5.3).
+pub fn try_branches(
+    unit: &FlatUnit,
+    stack: &mut Stack,
+    activation: &Activation,
+    branches: usize,
+    otherwise: usize,
+) -> Point
+    requires { HasRoom 1 stack.old }
+    ensures { Leads (tries (as_branches (tree_at (trees unit.now.code) branches)) (as_statements (tree_at (trees unit.now.code) otherwise)) activation.now) (below unit.now stack.old) (control (trees unit.now.code) result activation.now) (below unit.now stack.new) }
+{
+    match branches_at(&unit.code, branches) {
+        None => Point::RunsAll(otherwise),
+        Some(branch) => {
+            stack.push_value(ValueFrame::Branching(
+                branch.statements,
+                branch.rest,
+                otherwise,
+            ));
+            Point::Evaluates(branch.condition)
+        }
+    }
+}
+
+/// The next turn of a loop while a condition is True (5.5).
+pub fn turn(
+    unit: &FlatUnit,
+    stack: &mut Stack,
+    activation: &Activation,
+    turns: u64,
+    condition: usize,
+    statements: usize,
+) -> Point
+    requires { HasRoom 1 stack.old }
+    ensures { Leads (turns_of turns (as_expression (tree_at (trees unit.now.code) condition)) (as_statements (tree_at (trees unit.now.code) statements)) activation.now) (below unit.now stack.old) (control (trees unit.now.code) result activation.now) (below unit.now stack.new) }
+{
+    if turns == 0 {
+        return Point::Done(End::Abandoned(Cause::Overrun));
+    }
+    stack.push_value(ValueFrame::Testing(
+        turns - 1,
+        condition,
+        statements,
+    ));
+    Point::Evaluates(condition)
+}
+
+/// The next value of a loop's range (5.5).
+pub fn count(
+    unit: &FlatUnit,
+    stack: &mut Stack,
+    activation: &mut Activation,
+    count: Count,
+    statements: usize,
+) -> Point
+    requires { HasRoom 1 stack.old }
+    ensures { Leads (counts count.left count.values.is_reverse count.values.low count.values.high count.values.slot (as_statements (tree_at (trees unit.now.code) statements)) activation.old) (below unit.now stack.old) (control (trees unit.now.code) result activation.new) (below unit.now stack.new) }
+{
+    if count.left == 0 {
+        return Point::Done(End::Next);
+    }
+    if !activation.step() {
+        return Point::Done(End::Abandoned(Cause::Overrun));
+    }
+    let left = count.left - 1;
+    activation.put_slot(count.values.slot, value_before(count.values, left));
+    let rest = Count {
+        values: count.values,
+        left,
+    };
+    stack.push_count(rest, statements);
+    Point::RunsAll(statements)
+}
+
+/// The next declaration (3.11).
+pub fn declare(
+    unit: &FlatUnit,
+    stack: &mut Stack,
+    activation: &Activation,
+    declarations: usize,
+) -> Point
+    requires { HasRoom 1 stack.old }
+    ensures { Leads (declares (as_declarations (tree_at (trees unit.now.code) declarations)) activation.now) (below unit.now stack.old) (control (trees unit.now.code) result activation.now) (below unit.now stack.new) }
+{
+    match declarations_at(&unit.code, declarations) {
+        None => Point::Done(End::Next),
+        Some(declaration) => {
+            stack.push_value(ValueFrame::Declaring(
+                declaration.target,
+                declaration.rest,
+            ));
+            Point::Evaluates(declaration.initial)
+        }
+    }
+}

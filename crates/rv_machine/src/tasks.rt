@@ -1,0 +1,98 @@
+//! A machine for a task: it starts at the task's declarations, moves, and quits (9.2, 9.3).
+
+ghost use Rattle.std.specs.Prelude.{◌≡◌, ◌≤◌, [], pos, replicate, IfOk};
+ghost use Rattle.rv_exec.specs.Activations.{opened};
+ghost use Rattle.rv_exec.specs.Asking.{ended, and_then};
+ghost use Rattle.rv_exec.specs.Tasks.{task_run, task_setting};
+ghost use Rattle.rv_flat.specs.FlatUnits.{flat_view};
+ghost use Rattle.rv_frames.specs.Frames.{quit};
+ghost use Rattle.rv_machine.specs.Machines.{stands};
+ghost use Rattle.rv_machine.specs.Stacks.{waiting, HasRoom};
+
+use crate::frame::EndFrame;
+use crate::machine::Machine;
+use crate::outcomes::task;
+use crate::point::Point;
+use crate::stack::Stack;
+use rv_code::MOST_SLOTS;
+use rv_exec::activation::{Activation, MOST_STEPS};
+use rv_exec::setting::{MOST_HELD, MOST_NESTED, Setting};
+use rv_flat::unit::FlatUnit;
+use rv_value::{Args, Scalars};
+use std::alloc::{AllocError, Global};
+
+// What a task's own body runs in.
+fn of_task() -> Setting
+    ensures { result ≡ task_setting }
+{
+    Setting {
+        object: 0,
+        held: MOST_HELD,
+        nested: MOST_NESTED,
+        is_task: true,
+        handling: None,
+    }
+}
+
+// A task's own body before its declarations.
+fn of_budget(requests: u32) -> Activation
+    ensures { result ≡ opened (replicate 132 (pos 0)) [] 100000 requests }
+{
+    Activation {
+        slots: [0; MOST_SLOTS],
+        components: Scalars::new(),
+        steps: MOST_STEPS,
+        requests,
+    }
+}
+
+impl Machine {
+    /// Takes all memory that a run needs: an empty stack. Err where memory was refused.
+    pub fn reserve(alloc: Global) -> Result<Stack, AllocError>
+        ensures { IfOk result (λ stack. waiting stack ≡ []) }
+    {
+        Stack::new(alloc)
+    }
+
+    /// A machine at the start of an actor's task, which may make so many requests; its stack is empty (9.2).
+    pub fn start_task(stack: Stack, unit: &FlatUnit, actor: usize, requests: u32) -> Machine
+        requires empty { waiting stack ≡ [] }
+        requires room { HasRoom 2 stack }
+        ensures { stands unit.now result ≡ and_then (task_run (flat_view unit.now) actor requests) (quit ended) }
+    {
+        let activation = of_budget(requests);
+        match task(unit, actor) {
+            Some(body) => {
+                let mut frames = stack;
+                frames.push_end(EndFrame::Quitting(actor));
+                frames.push_end(EndFrame::Opening(body.statements, body.handlers));
+                Machine {
+                    point: Point::Declares(body.declarations),
+                    activation,
+                    setting: of_task(),
+                    stack: frames,
+                }
+            }
+            None => Machine {
+                point: Point::Quits(Ok(Args::new())),
+                activation,
+                setting: of_task(),
+                stack,
+            },
+        }
+    }
+
+    /// Moves so many times at most, and as long as the stack has room.
+    pub fn proceed(&mut self, unit: &FlatUnit, most: u32)
+        ensures { stands unit.now self.new ≡ stands unit.now self.old }
+    {
+        let mut left = most;
+        'moves: while left > 0 {
+            left -= 1;
+            if !self.stack.is_roomy() {
+                return;
+            }
+            self.advance(unit);
+        }
+    }
+}

@@ -1,0 +1,244 @@
+//! The value of an expression comes to what waits for it.
+
+ghost use Rattle.std.specs.Prelude.{◌≡◌, ◌∷◌, List, Ok, Err, pos};
+ghost use Rattle.rv_exec.specs.Statements.{exit_where};
+ghost use Rattle.rv_flat.specs.Tables.{trees};
+ghost use Rattle.rv_flat.specs.Trees.{tree_at, as_expressions};
+ghost use Rattle.rv_frames.specs.Frames.{Frame as Waiting, arguing, comes, valued, done};
+ghost use Rattle.rv_frames.specs.Rests.{is_next};
+ghost use Rattle.rv_machine.specs.Points.{control, Leads};
+ghost use Rattle.rv_machine.specs.Stacks.{below, operand_frame, value_frame, HasRoom};
+
+use crate::frame::{Count, EndFrame, OperandFrame, ValueFrame};
+use crate::point::Point;
+use crate::stack::Stack;
+use rv_event::entry::Exception;
+use rv_exec::activation::{Activation, join};
+use rv_exec::end::{Cause, End};
+use rv_exec::operators::{is_true, prefix_of, result_of, within};
+use rv_exec::ranges::{Scheme, Values, fits, span};
+use rv_flat::unit::FlatUnit;
+use rv_value::Args;
+
+/// The value of an operand comes: what its operator makes of it, or the links or arguments behind it (4.4).
+pub fn take_operand(
+    unit: &FlatUnit,
+    activation: &Activation,
+    frame: OperandFrame,
+    value: i64,
+) -> Point
+    ensures { (fs : List Waiting) → Leads (comes (valued (Ok value) activation.now)) (operand_frame (trees unit.now.code) frame ∷ fs) (control (trees unit.now.code) result activation.now) fs }
+{
+    match frame {
+        OperandFrame::Prefixing(prefix) => Point::Valued(prefix_of(prefix, value)),
+        OperandFrame::Linking(links) => Point::Links(links, value),
+        OperandFrame::Operating(operator, left, links) => {
+            match result_of(operator, left, value) {
+                Ok(result) => Point::Links(links, result),
+                Err(cause) => Point::Valued(Err(cause)),
+            }
+        }
+        OperandFrame::Bounding(range) => Point::Valued(within(range, value)),
+    }
+}
+
+/// An operand fails: so does what waits for it (11.4).
+pub fn fail_operand(
+    unit: &FlatUnit,
+    activation: &Activation,
+    frame: OperandFrame,
+    cause: Cause,
+) -> Point
+    ensures { (fs : List Waiting) → Leads (comes (valued (Err cause) activation.now)) (operand_frame (trees unit.now.code) frame ∷ fs) (control (trees unit.now.code) result activation.now) fs }
+{
+    let _ = unit;
+    let _ = activation;
+    let _ = frame;
+    Point::Valued(Err(cause))
+}
+
+/// The value of an argument comes: it stands behind those before it (6.4.1).
+pub fn take_argument(
+    unit: &FlatUnit,
+    activation: &Activation,
+    before: Args,
+    arguments: usize,
+    value: i64,
+) -> Point
+    ensures { (fs : List Waiting) → Leads (comes (valued (Ok value) activation.now)) (arguing before (as_expressions (tree_at (trees unit.now.code) arguments)) ∷ fs) (control (trees unit.now.code) result activation.now) fs }
+{
+    let _ = unit;
+    let _ = activation;
+    let mut values = before;
+    join(&mut values, value);
+    Point::Argues(arguments, values)
+}
+
+// How `exit when` ends (5.7).
+fn exit_where(value: i64) -> End
+    ensures { result ≡ exit_where value }
+{
+    if is_true(value) { End::Exit } else { End::Next }
+}
+
+// Whether the next statement follows.
+fn is_next(end: End) -> bool
+    ensures { result ≡ is_next end }
+{
+    match end {
+        End::Next => true,
+        _ => false,
+    }
+}
+
+// The condition of a loop: a turn takes a step (5.5).
+fn test(
+    unit: &FlatUnit,
+    stack: &mut Stack,
+    activation: &mut Activation,
+    turns: u64,
+    condition: usize,
+    statements: usize,
+    value: i64,
+) -> Point
+    requires { HasRoom 1 stack.old }
+    ensures { Leads (comes (valued (Ok value) activation.old)) (value_frame (trees unit.now.code) (ValueFrame.Testing turns condition statements) ∷ below unit.now stack.old) (control (trees unit.now.code) result activation.new) (below unit.now stack.new) }
+{
+    if !is_true(value) {
+        return Point::Done(End::Next);
+    }
+    if !activation.step() {
+        return Point::Done(End::Abandoned(Cause::Overrun));
+    }
+    stack.push_end(EndFrame::Turning(turns, condition, statements));
+    Point::RunsAll(statements)
+}
+
+// The upper bound of a loop's range: the values between the bounds, if the range isn't null (3.5, 5.5).
+fn start_count(
+    unit: &FlatUnit,
+    activation: &Activation,
+    scheme: Scheme,
+    low: i64,
+    high: i64,
+    statements: usize,
+) -> Point
+    ensures { (fs : List Waiting) → Leads (comes (valued (Ok high) activation.now)) (value_frame (trees unit.now.code) (ValueFrame.Raising scheme low statements) ∷ fs) (control (trees unit.now.code) result activation.now) fs }
+{
+    if high < low {
+        return Point::Done(End::Next);
+    }
+    if !fits(scheme.range, low, high) {
+        return Point::Done(End::Abandoned(Cause::Raised(Exception::ConstraintError)));
+    }
+    let values = Values {
+        slot: scheme.parameter,
+        is_reverse: scheme.is_reverse,
+        low,
+        high,
+    };
+    let left = span(values);
+    Point::Counts(Count { values, left }, statements)
+}
+
+/// The value that a statement or a declaration waits for comes (5.1, 3.11).
+pub fn take_value(
+    unit: &FlatUnit,
+    stack: &mut Stack,
+    activation: &mut Activation,
+    frame: ValueFrame,
+    value: i64,
+) -> Point
+    requires { HasRoom 1 stack.old }
+    ensures { Leads (comes (valued (Ok value) activation.old)) (value_frame (trees unit.now.code) frame ∷ below unit.now stack.old) (control (trees unit.now.code) result activation.new) (below unit.now stack.new) }
+{
+    match frame {
+        ValueFrame::Assigning(target) => Point::Done(activation.assign(target, value)),
+        ValueFrame::Branching(statements, branches, otherwise) => {
+            if is_true(value) {
+                Point::RunsAll(statements)
+            } else {
+                Point::Tries(branches, otherwise)
+            }
+        }
+        ValueFrame::Selecting(alternatives) => Point::Selects(alternatives, value),
+        ValueFrame::Testing(turns, condition, statements) => {
+            test(unit, stack, activation, turns, condition, statements, value)
+        }
+        ValueFrame::Lowering(scheme, high, statements) => {
+            stack.push_value(ValueFrame::Raising(scheme, value, statements));
+            Point::Evaluates(high)
+        }
+        ValueFrame::Raising(scheme, low, statements) => {
+            start_count(unit, activation, scheme, low, value, statements)
+        }
+        ValueFrame::Leaving => Point::Done(exit_where(value)),
+        ValueFrame::Returning => Point::Done(End::Return(Some(value))),
+        ValueFrame::Declaring(target, declarations) => {
+            let end = activation.assign(target, value);
+            if is_next(end) {
+                Point::Declares(declarations)
+            } else {
+                Point::Done(end)
+            }
+        }
+    }
+}
+
+/// The value that a statement or a declaration waits for fails: so does the statement (11.4).
+pub fn fail_value(unit: &FlatUnit, activation: &Activation, frame: ValueFrame, cause: Cause) -> Point
+    ensures { (fs : List Waiting) → Leads (comes (valued (Err cause) activation.now)) (value_frame (trees unit.now.code) frame ∷ fs) (control (trees unit.now.code) result activation.now) fs }
+{
+    let _ = unit;
+    let _ = activation;
+    let _ = frame;
+    Point::Done(End::Abandoned(cause))
+}
+
+/// The value of an operand comes, or the cause that it fails by.
+pub fn operand_comes(
+    unit: &FlatUnit,
+    activation: &Activation,
+    frame: OperandFrame,
+    value: Result<i64, Cause>,
+) -> Point
+    ensures { (fs : List Waiting) → Leads (comes (valued value activation.now)) (operand_frame (trees unit.now.code) frame ∷ fs) (control (trees unit.now.code) result activation.now) fs }
+{
+    match value {
+        Ok(value) => take_operand(unit, activation, frame, value),
+        Err(cause) => fail_operand(unit, activation, frame, cause),
+    }
+}
+
+/// The value of an argument comes, or the cause that it fails by (6.4.1).
+pub fn argument_comes(
+    unit: &FlatUnit,
+    activation: &Activation,
+    before: Args,
+    arguments: usize,
+    value: Result<i64, Cause>,
+) -> Point
+    ensures { (fs : List Waiting) → Leads (comes (valued value activation.now)) (arguing before (as_expressions (tree_at (trees unit.now.code) arguments)) ∷ fs) (control (trees unit.now.code) result activation.now) fs }
+{
+    match value {
+        Ok(value) => take_argument(unit, activation, before, arguments, value),
+        Err(cause) => Point::Listed(Err(cause)),
+    }
+}
+
+/// The value that a statement or a declaration waits for comes, or the cause that it fails by.
+pub fn part_comes(
+    unit: &FlatUnit,
+    stack: &mut Stack,
+    activation: &mut Activation,
+    frame: ValueFrame,
+    value: Result<i64, Cause>,
+) -> Point
+    requires { HasRoom 1 stack.old }
+    ensures { Leads (comes (valued value activation.old)) (value_frame (trees unit.now.code) frame ∷ below unit.now stack.old) (control (trees unit.now.code) result activation.new) (below unit.now stack.new) }
+{
+    match value {
+        Ok(value) => take_value(unit, stack, activation, frame, value),
+        Err(cause) => fail_value(unit, activation, frame, cause),
+    }
+}
