@@ -29,12 +29,13 @@ settings_refused has_journal script whole (Refused told) is settings = subst (λ
 settings_refused has_journal script whole Memory is settings = tt
 settings_refused has_journal script whole (Io error) is settings = settings
 
-pub sections_refused : (has_journal : Bool) (script : List ℕ) (whole : OpenedText) (settings : SettingsText) (failure : Failure) → opened script ≡ Ok whole → GivesSettings whole.settings (Ok settings) →
-    (let r : Result GivenText Failure = Err failure in GivesAll has_journal whole.sections r) → Failed has_journal script failure
-sections_refused has_journal script whole settings (Refused told) is gives h =
-    subst (λ (o : Result OpenedText ℕ). brings_by has_journal o (Err told)) (sym is) (inr (settings, gives, h))
-sections_refused has_journal script whole settings Memory is gives h = tt
-sections_refused has_journal script whole settings (Io error) is gives h = h
+pub sections_refused : (has_journal : Bool) (script : List ℕ) (whole : OpenedText) (settings : SettingsText) (failure : Failure) (parts : List SectionText) → opened script ≡ Ok whole → GivesSettings whole.settings (Ok settings) →
+    parts ≡ whole.sections → (let r : Result GivenText Failure = Err failure in GivesAll has_journal parts r) → Failed has_journal script failure
+sections_refused has_journal script whole settings (Refused told) parts is gives same h =
+    let there = subst (λ (ss : List SectionText). Gathers has_journal nothing ss (Err told)) same h in
+    subst (λ (o : Result OpenedText ℕ). brings_by has_journal o (Err told)) (sym is) (inr (settings, gives, there))
+sections_refused has_journal script whole settings Memory parts is gives same h = tt
+sections_refused has_journal script whole settings (Io error) parts is gives same h = h
 
 pub memory_lacks : (has_journal : Bool) (script : List ℕ) (failure : Failure) → failure ≡ Memory → Failed has_journal script failure
 memory_lacks has_journal script failure e = subst (λ (f : Failure). Failed has_journal script f) (sym e) tt
@@ -61,11 +62,11 @@ within (Some section) settings is = record {
   queue = within_queue settings.queue_limit is.values.shortest is.values.longest;
 }
 
-pub all_brought : (has_journal : Bool) (script : List ℕ) (whole : OpenedText) (settings : SettingsText) (given after : GivenText) → opened script ≡ Ok whole → GivesSettings whole.settings (Ok settings) →
-    Gathers has_journal nothing whole.sections (Ok given) → after ≡ record given { units = with_devices given.units settings.devices } →
+pub all_brought : (has_journal : Bool) (script : List ℕ) (whole : OpenedText) (settings : SettingsText) (given after : GivenText) (parts : List SectionText) → opened script ≡ Ok whole → GivesSettings whole.settings (Ok settings) →
+    parts ≡ whole.sections → Gathers has_journal nothing parts (Ok given) → after ≡ record given { units = with_devices given.units settings.devices } →
     GivesScript has_journal script (Ok (limits_in settings, after))
-all_brought has_journal script whole settings given after is gives gathers e = (
+all_brought has_journal script whole settings given after parts is gives same gathers e = (
   within whole.settings settings gives,
   subst (λ (o : Result OpenedText ℕ). brings_by has_journal o (Ok (record { limits = limits_in settings; units = after.units; journal = after.journal }))) (sym is)
-      (settings, given, gives, gathers, ap (λ (g : GivenText). record { limits = limits_in settings; units = g.units; journal = g.journal }) e),
+      (settings, given, gives, subst (λ (ss : List SectionText). Gathers has_journal nothing ss (Ok given)) same gathers, ap (λ (g : GivenText). record { limits = limits_in settings; units = g.units; journal = g.journal }) e),
 )

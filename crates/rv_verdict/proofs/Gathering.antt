@@ -35,12 +35,6 @@ misfit_on fitting after shape told (Err failure) other memory e = tt
 
 -- Sections
 
--- a unit text holds the unit that it is
-pub unit_held : (line : ℕ) (fitting : List Shape) (text : List ℕ) (opening : Option Opening) (unit : Compiled) → opening ≡ Some Openings.UnitText → GivesUnit fitting (without_returns text) (Ok unit)
-    → let r : Result Shape Failure = Ok unit.shape in Reads line (Holds fitting text opening) r
-unit_held line fitting text opening unit e given =
-    subst (λ (o : Option Opening). let r : Result Shape Failure = Ok unit.shape in Reads line (Holds fitting text o) r) (sym e) (unit, given, refl)
-
 -- All sections
 
 -- what is given so far, and how what others give goes on behind it

@@ -1,29 +1,30 @@
-//! What a journal is judged over: the units that the sections of a script give, in order, those of its devices last.
+//! What a journal is judged over: the units that the parts of a script give, in order, those of its devices last.
 
 ghost use Rattle.std.specs.Prelude.{◌≡◌, ◌≢◌, OnOk, IfErr};
 ghost use Rattle.rv_script.specs.Openings.{opening_of};
+ghost use Rattle.rv_script.specs.UnitTexts.{without_returns};
 ghost use Rattle.rv_shape.specs.Fits.{fault};
+ghost use Rattle.rv_fault.specs.Parts.{section_of};
 ghost use Rattle.rv_fault.specs.Sections.{Reads};
-ghost use Rattle.rv_verdict.specs.Given.{GivesAll, Holds, TakesOne, fits_then, is_journal, nothing, with_devices, with_unit};
+ghost use Rattle.rv_verdict.specs.Given.{GivesAll, GivesShape, Holds, TakesOne, fits_then, is_journal, nothing, with_devices, with_unit};
 
-use rv_fault::{Failure, What, device_unit, refused, shape_of, unit_of};
-use rv_script::{Opening, opening_of};
+use rv_fault::{Failure, Part, Parts, device_unit, shape_of, unit_of};
+use rv_script::Opening;
 use rv_settings::Device;
 use rv_shape::catalogue::Catalogue;
 use rv_shape::fault::ShapeFault;
 use rv_shape::shape::UnitShape;
-use rv_text::{Section, Sections};
 use std::alloc::Global;
 use std::marker::Model;
 
-/// What the sections of a script give.
+/// What the parts of a script give.
 #[derive(Drop)]
 pub struct Given<'a> {
     // All units, in order. Whether one fits those before it is judged where a journal loads it.
     units: Vec<UnitShape>,
     // Those that fit the ones before them: unit texts are compiled over these.
     fitting: Catalogue,
-    // The journal: the text of the last section that holds one, else empty.
+    // The journal: the text of the last part that holds one, else empty.
     journal: &'a str,
 }
 
@@ -35,29 +36,35 @@ impl<'a> Model for Given<'a> {
     ghost view = { λ g. record { units = g.units.items; fitting = g.fitting; journal = g.journal.now } };
 }
 
-// The unit of a section.
-fn section_shape(
+// The unit that a text is, of a part that opens at a line.
+fn unit_shape(
     alloc: Global,
     fitting: &Catalogue,
-    section: &Section<'_>,
+    line: usize,
+    text: &str,
 ) -> Result<UnitShape, Failure>
-    ensures { Reads section.now.line (Holds fitting.now section.now.text.now (opening_of section.now.opening.now)) result }
+    ensures { Reads line (GivesShape fitting.now (without_returns text.now)) result }
 {
-    match opening_of(section.opening) {
-        Some(Opening::UnitText) => {
-            let unit = unit_of(alloc, fitting, section.line, section.text)?;
-            Ok(unit.shape)
-        }
-        Some(Opening::Shape) => shape_of(alloc, section.line, section.text),
-        _ => Err(refused(section.line, What::BadSection)),
+    let unit = unit_of(alloc, fitting, line, text)?;
+    Ok(unit.shape)
+}
+
+// The unit of a part.
+fn part_shape(alloc: Global, fitting: &Catalogue, part: &Part<'_>) -> Result<UnitShape, Failure>
+    ensures { Reads part.now.line (Holds fitting.now part.now.text.now (opening_of part.now.heading.now)) result }
+{
+    match part.opening {
+        Some(Opening::UnitText) => unit_shape(alloc, fitting, part.line, part.text),
+        Some(Opening::Shape) => shape_of(alloc, part.line, part.text),
+        _ => Err(part.not_taken()),
     }
 }
 
-// Whether a line opens a journal that is taken.
-fn is_journal(opening: &str, has_journal: bool) -> bool
-    ensures { result ≡ is_journal has_journal (opening_of opening.now) }
+// Whether a part is a journal that is taken.
+fn is_journal(part: &Part<'_>, has_journal: bool) -> bool
+    ensures { result ≡ is_journal has_journal (opening_of part.now.heading.now) }
 {
-    match opening_of(opening) {
+    match part.opening {
         Some(Opening::Journal) => has_journal,
         _ => false,
     }
@@ -86,7 +93,7 @@ fn fit(fitting: &mut Catalogue, shape: &UnitShape) -> Result<(), Failure>
 }
 
 impl<'a> Given<'a> {
-    // Before the first section.
+    // Before the first part.
     fn new(alloc: Global) -> Given<'a>
         ensures { result ≡ nothing }
     {
@@ -123,24 +130,15 @@ impl<'a> Given<'a> {
         Ok(())
     }
 
-    // Takes a section.
-    fn take(
-        &mut self,
-        alloc: Global,
-        section: &Section<'a>,
-        has_journal: bool,
-    ) -> Result<(), Failure>
-        ensures { TakesOne has_journal self.old self.new (record {
-          line = section.now.line;
-          opening = section.now.opening.now;
-          text = section.now.text.now;
-        }) result }
+    // Takes a part.
+    fn take(&mut self, alloc: Global, part: &Part<'a>, has_journal: bool) -> Result<(), Failure>
+        ensures { TakesOne has_journal self.old self.new (section_of part.now) result }
     {
-        if is_journal(section.opening, has_journal) {
-            self.journal = section.text;
+        if is_journal(part, has_journal) {
+            self.journal = part.text;
             return Ok(());
         }
-        let shape = section_shape(alloc, &self.fitting, section)?;
+        let shape = part_shape(alloc, &self.fitting, part)?;
         self.add(shape)
     }
 
@@ -159,18 +157,18 @@ impl<'a> Given<'a> {
     }
 }
 
-/// What sections give, up to the first that something stands against. One that holds a journal is taken only where
+/// What parts give, up to the first that something stands against. One that holds a journal is taken only where
 /// `has_journal`.
 pub fn given_by<'a>(
     alloc: Global,
-    mut sections: Sections<'a>,
+    mut parts: Parts<'a>,
     has_journal: bool,
 ) -> Result<Given<'a>, Failure>
-    ensures { GivesAll has_journal sections.entry result }
+    ensures { GivesAll has_journal parts.entry result }
 {
     let mut given = Given::new(alloc);
-    'each: while let Some(section) = sections.next_section() {
-        given.take(alloc, &section, has_journal)?;
+    'each: while let Some(part) = parts.next_part() {
+        given.take(alloc, &part, has_journal)?;
     }
     Ok(given)
 }

@@ -8,7 +8,7 @@ ghost use Rattle.rv_verdict.specs.Brought.{GivesScript};
 
 use crate::given::{Given, given_by};
 use rv_audit::audit::Audit;
-use rv_fault::{Failure, What, refused, settings_of};
+use rv_fault::{Failure, Parts, What, refused, settings_of};
 use rv_history::limits::Limits;
 use rv_script::open;
 use rv_settings::Settings;
@@ -35,7 +35,7 @@ pub fn script_of(
         Err(line) => return Err(refused(line, What::BadSection)),
     };
     let settings = settings_of(alloc, &script.settings)?;
-    let mut given = given_by(alloc, script.sections, has_journal)?;
+    let mut given = given_by(alloc, Parts::of(script.sections), has_journal)?;
     given.add_devices(alloc, settings.devices())?;
     let limits = limits_of(&settings);
     Ok((limits, given))

@@ -8,20 +8,19 @@ ghost use Rattle.rv_script.specs.Openings.{opening_of};
 ghost use Rattle.rv_verdict.specs.Texts.{HasBodies, text_named, text_now, texts_in, texts_now, unit_texts, with_text};
 
 use rv_code::UnitBodies;
-use rv_fault::{Failure, unit_of};
-use rv_script::{Opening, open, opening_of};
+use rv_fault::{Failure, Part, Parts, unit_of};
+use rv_script::{Opening, open};
 use rv_shape::catalogue::Catalogue;
 use rv_shape::shape::UnitShape;
-use rv_text::{Section, Sections};
 use std::alloc::{AllocError, Global};
 
-// Puts the text of a section's unit behind the others, or none where it gives a shape. A section that gives no unit puts nothing.
-fn put_text<'a>(texts: &mut Vec<Option<&'a str>>, section: &Section<'a>) -> Result<(), AllocError>
+// Puts the text of a part's unit behind the others, or none where it gives a shape. A part that gives no unit puts nothing.
+fn put_text<'a>(texts: &mut Vec<Option<&'a str>>, part: &Part<'a>) -> Result<(), AllocError>
     ensures { OnOk result ((more : List (Option (List ℕ))) →
-        texts_now texts.old.items ++ with_text (opening_of section.now.opening.now) section.now.text.now more ≡ texts_now texts.new.items ++ more) }
+        texts_now texts.old.items ++ with_text (opening_of part.now.heading.now) part.now.text.now more ≡ texts_now texts.new.items ++ more) }
 {
-    let text = match opening_of(section.opening) {
-        Some(Opening::UnitText) => Some(section.text),
+    let text = match part.opening {
+        Some(Opening::UnitText) => Some(part.text),
         Some(Opening::Shape) => None,
         _ => return Ok(()),
     };
@@ -29,16 +28,13 @@ fn put_text<'a>(texts: &mut Vec<Option<&'a str>>, section: &Section<'a>) -> Resu
     Ok(())
 }
 
-// The texts of the units that sections give, in order.
-fn unit_texts<'a>(
-    alloc: Global,
-    mut sections: Sections<'a>,
-) -> Result<Vec<Option<&'a str>>, AllocError>
-    ensures { IfOk result (λ texts. texts_now texts.items ≡ unit_texts sections.entry) }
+// The texts of the units that parts give, in order.
+fn unit_texts<'a>(alloc: Global, mut parts: Parts<'a>) -> Result<Vec<Option<&'a str>>, AllocError>
+    ensures { IfOk result (λ texts. texts_now texts.items ≡ unit_texts parts.entry) }
 {
     let mut texts = Vec::new(alloc);
-    'each: while let Some(section) = sections.next_section() {
-        put_text(&mut texts, &section)?;
+    'each: while let Some(part) = parts.next_part() {
+        put_text(&mut texts, &part)?;
     }
     Ok(texts)
 }
@@ -48,7 +44,7 @@ pub fn texts_of<'a>(alloc: Global, script: &'a str) -> Result<Vec<Option<&'a str
     ensures { IfOk result (λ texts. texts_now texts.items ≡ texts_in script.now) }
 {
     match open(script) {
-        Ok(opened) => unit_texts(alloc, opened.sections),
+        Ok(opened) => unit_texts(alloc, Parts::of(opened.sections)),
         Err(_) => Ok(Vec::new(alloc)),
     }
 }

@@ -3,7 +3,7 @@ use Rattle.rv_verdict.proofs.Gathering.{SoFar}
 use Rattle.rv_verdict.proofs.given.given_by.Given as goal
 
 abbrev pub invariant-each : goal.invariant-each
-invariant-each l = SoFar l.has_journal l.given l.sections l.fn.sections
+invariant-each l = SoFar l.has_journal l.given l.parts l.fn.parts
 
 abbrev pub decreases-each : goal.decreases-each
-decreases-each l = length l.sections
+decreases-each l = length l.parts

@@ -18,7 +18,7 @@ returns-in_err-settings c =
 pub returns-in_err-given : goal.returns-in_err-given
 returns-in_err-given c =
     let p = err_from_is_err_and c.from_residual-in_err-given.result c.from_residual-in_err-given.ensures.1 in
-    rw (p.1, p.2) (sections_refused c.args.has_journal c.args.text.now _ _ _ c.in-Ok.ensures.ok c.in_ok-settings.ensures c.in_err-given.ensures)
+    rw (p.1, p.2) (sections_refused c.args.has_journal c.args.text.now _ _ _ c.of.result c.in-Ok.ensures.ok c.in_ok-settings.ensures c.of.ensures c.in_err-given.ensures)
 
 pub returns-in_err-add_devices : goal.returns-in_err-add_devices
 returns-in_err-add_devices c =
@@ -30,4 +30,4 @@ returns c =
     let with = λ (ds : List DeviceText). let g : GivenText = record { units = with_devices c.in_ok-given.given.units ds; fitting = c.in_ok-given.given.fitting; journal = c.in_ok-given.given.journal } in g in
     let limits = c.limits_of-limits.ensures in
     subst (λ (l : Limits). GivesScript c.args.has_journal c.args.text.now (Ok (l, c.add_devices.new.self))) (sym limits)
-    (all_brought c.args.has_journal c.args.text.now _ c.in_ok-settings.settings c.in_ok-given.given c.add_devices.new.self c.in-Ok.ensures.ok c.in_ok-settings.ensures c.in_ok-given.ensures (c.in_ok-add_devices.ensures.ok ∙ ap with c.devices.ensures))
+    (all_brought c.args.has_journal c.args.text.now _ c.in_ok-settings.settings c.in_ok-given.given c.add_devices.new.self c.of.result c.in-Ok.ensures.ok c.in_ok-settings.ensures c.of.ensures c.in_ok-given.ensures (c.in_ok-add_devices.ensures.ok ∙ ap with c.devices.ensures))
