@@ -12,11 +12,11 @@ use Rattle.rv_exec.specs.Bodies.{operation_of}
 use Rattle.rv_exec.specs.Calls.{end_with}
 use Rattle.rv_ends.specs.Afoot.{Open}
 use Rattle.rv_ends.specs.Courses.{IsCourse, IsWeighed}
-use Rattle.rv_ends.specs.Explained.{AsksBehind, ByRecorded, Ends, EndsBy, Follows, HasNoText, calls_without_text, end_of_body, held_after, is_stopped_end, is_unasked}
+use Rattle.rv_ends.specs.Explained.{AsksBehind, ByRecorded, Ends, EndsBy, FitsStop, Follows, HasNoText, calls_without_text, end_of_body, held_after, is_stopped_end, is_unasked}
 use Rattle.rv_ends.specs.Following.{Place, Plays}
 use Rattle.rv_ends.specs.declared.meaning.Course.{Course}
 use Rattle.rv_ends.specs.declared.meaning.Course.TheVariants as course
-use Rattle.rv_ends.proofs.Sound.{by_recorded, by_stop, comes_to_other, follows_front, true_is_false}
+use Rattle.rv_ends.proofs.Sound.{by_recorded, by_stop, comes_to_other, follows_front, true_is_false, winds_up}
 
 -- where a run begins
 abbrev pub begin_at : List Shape → Open → Place
@@ -101,24 +101,31 @@ course_is bodies shapes body end is_function q exit left trace found texts code 
         ∙ ap (λ (x : Exit × List ℤ). end_of_body (operation_of bodies body.start.object body.start.operation) x) one.same ∙ sym r.3.2 in
         true_is_false (sym (only one.none_left given) ∙ r.0)
 
-    by_other : (other : Request) → q.other ≡ Some other → AsksBehind bodies shapes body other
+    -- the first other ask; it fits no stop, where the run came to something else
+    by_other : (other : Request) → q.other ≡ Some other
+        → (asks : AsksBehind bodies shapes body other) × ((q.is_broken ≡ false → q.asked ≡ [] → end_with is_function exit left ≡ end → ⊥) → FitsStop bodies shapes body other asks end → ⊥)
     by_other other is =
-        let s = comes_to_other (begin_at shapes body) q trace other refl plays is in
-        record {
-          front = s.front;
-          left = s.left;
-          before = s.before;
-          behind = s.behind;
-          end = (exit, left);
-          recorded_is = s.recorded_is;
-          follows = s.follows;
-          asks = subst (λ (t : Trace). Along (operation_run_at bodies body.start.held body.start.object body.start.operation body.start.values body.start.components) t (exit, left)) s.trace_is along;
-          is_other = s.is_other;
-        }
+        let s = comes_to_other (begin_at shapes body) q trace other refl plays is in (
+          record {
+            front = s.front;
+            left = s.left;
+            before = s.before;
+            behind = s.behind;
+            end = (exit, left);
+            recorded_is = s.recorded_is;
+            follows = s.follows;
+            asks = subst (λ (t : Trace). Along (operation_run_at bodies body.start.held body.start.object body.start.operation body.start.values body.start.components) t (exit, left)) s.trace_is along;
+            is_other = s.is_other;
+            is_asked = s.is_asked;
+          },
+          λ only fits.
+              let there = winds_up s.at q s.behind other s.at_other s.plays (s.at_left ∙ fits.0) fits.1 fits.2 in
+              only (there.0 ∙ s.at_whole) there.1 (by_function (operation_of bodies body.start.object body.start.operation) is_function (exit, left) code ∙ sym fits.3),
+        )
 
     by_found : (f : Course) → IsWeighed q (end_with is_function exit left) end f → IsCourse bodies shapes body end f
     by_found course.Explained w = ((w.3, trace, by_recorded (begin_at shapes body) q trace plays w.0 w.1, ends w.2), has_text)
     by_found course.WithoutText w = absurd w
     by_found (course.Gives request) w = (by_front w.0 w.1, (λ r. not_so w.0 w.2 r), has_text)
-    by_found (course.Stops other) w = (trace, by_stop (begin_at shapes body) q trace other refl plays w.0 w.1 w.2, ends w.3, by_other other w.0, has_text)
-    by_found (course.Asks request) w = (by_other request w, has_text)
+    by_found (course.Stops other) w = (trace, by_stop (begin_at shapes body) q trace other refl plays w.0 w.1 w.2, ends w.3, (by_other other w.0).0, has_text)
+    by_found (course.Asks request) w = (let o = by_other request w.0 in (o.0, has_text, λ fits. o.1 w.1 fits))

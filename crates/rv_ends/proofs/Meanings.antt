@@ -5,7 +5,7 @@ use Rattle.rv_history.specs.History.{History}
 use Rattle.rv_ends.specs.Afoot.{Open}
 use Rattle.rv_ends.specs.Courses.{IsCourse}
 use Rattle.rv_ends.specs.Ends.{IsFoundStop, IsMeaning, IsTextless, IsWhole, afoot_of, texts_of}
-use Rattle.rv_ends.specs.Explained.{AsksBehind, HasNoText, innermost}
+use Rattle.rv_ends.specs.Explained.{AsksBehind, HasNoText, StopsHere, innermost}
 use Rattle.rv_ends.specs.declared.ends.Ends.{Ends}
 use Rattle.rv_ends.specs.declared.meaning.Course.TheVariants as course
 use Rattle.rv_ends.specs.declared.meaning.Meaning.{Meaning}
@@ -28,7 +28,8 @@ by_found_stop e h actor ask end body meaning.Explained w is so stopped =
 by_found_stop e h actor ask end body meaning.WithoutText w is so stopped = absurd stopped
 by_found_stop e h actor ask end body (meaning.Gives request) w is so stopped = absurd stopped
 by_found_stop e h actor ask end body (meaning.Asks request) w is so stopped =
-    (body, is, subst (λ (r : Request). AsksBehind (texts_of e) h.shapes body r) (sym stopped) so.3, so.4)
+    let asks : AsksBehind (texts_of e) h.shapes body request = subst (λ (r : Request). AsksBehind (texts_of e) h.shapes body r) (sym stopped.0) so.3 in
+    (body, is, asks, so.4, λ fits here. stopped.1 (subst (λ (r : Request). StopsHere h actor r) stopped.0 here))
 
 -- its text gives another end
 pub gives_other : (e : Ends) (h : History) (actor : ℕ) (end given : Request) (body : Open) → innermost actor (afoot_of e).bodies ≡ Some body → IsCourse (texts_of e) h.shapes body end (course.Gives given)
@@ -38,4 +39,4 @@ gives_other e h actor end given body is so = (body, is, so.0, so.1, so.2)
 -- its text asks something else
 pub asks_other : (e : Ends) (h : History) (actor : ℕ) (end ask : Request) (body : Open) → innermost actor (afoot_of e).bodies ≡ Some body → IsCourse (texts_of e) h.shapes body end (course.Asks ask)
     → IsMeaning (texts_of e) h (afoot_of e) actor end (meaning.Asks ask)
-asks_other e h actor end ask body is so = (body, is, so.0, so.1)
+asks_other e h actor end ask body is so = (body, is, so.0, so.1, λ fits here. so.2 fits)

@@ -6,7 +6,7 @@ use Rattle.rv_event.specs.declared.entry.Answer.{Answer}
 use Rattle.rv_event.specs.declared.entry.Answer.TheVariants.{Full}
 use Rattle.rv_event.specs.declared.entry.Request.{Request}
 use Rattle.rv_exec.specs.Asking.{Trace, stands}
-use Rattle.rv_ends.specs.Explained.{AreStoppedEnds, Follows, FollowsToStop, is_stopped_end}
+use Rattle.rv_ends.specs.Explained.{AreStoppedEnds, Follows, FollowsToStop, NoneStands, held_behind, is_stopped_end, is_unasked}
 use Rattle.rv_ends.specs.Following.{Goes, Place, Plays, gone_on, may_follow, missed, missed_by}
 
 some_is_none : {A X : Type 0} (a : A) → Some a ≡ None → X
@@ -99,14 +99,17 @@ pub record ComesToOther (p q : Place) (trace : Trace) (other : Request) : Type 0
   pub trace_is : trace ≡ before ++ (other, Full) ∷ behind
   pub follows : Follows p.shapes p.held front before
   pub is_other : (answer : Answer) (rest : Trace) → left ≡ (other, answer) ∷ rest → stands answer ≡ true
+  pub is_asked : is_unasked p.shapes (held_behind p.held front) other ≡ false
   -- the place behind it, and what is played from there
   pub at : Place
   pub at_left : at.asked ≡ left
+  pub at_whole : at.is_broken ≡ p.is_broken
   pub at_other : at.other ≡ Some other
   pub plays : Plays at behind q
 
-first_missed : (o : Option Request) (p : Place) (r : Request) → p.other ≡ o → o ≡ None → ((missed_by o p r).other ≡ Some r) × ((missed_by o p r).asked ≡ p.asked)
-first_missed None p r is e = (refl, refl)
+first_missed : (o : Option Request) (p : Place) (r : Request) → p.other ≡ o → o ≡ None →
+    ((missed_by o p r).other ≡ Some r) × ((missed_by o p r).asked ≡ p.asked) × ((missed_by o p r).is_broken ≡ p.is_broken)
+first_missed None p r is e = (refl, refl, refl)
 first_missed (Some y) p r is e = some_is_none y e
 
 same_some : (a b : Request) → Some a ≡ Some b → a ≡ b
@@ -120,8 +123,8 @@ not_false None r e f = true_is_false f
 not_false (Some y) r e f = some_is_none y e
 
 -- so it does with one ask more before it
-comes_on : (p m q : Place) (pair : Request × Answer) (trace : Trace) (x : Request) (s : ComesToOther m q trace x) (front : Trace) → p.asked ≡ front ++ s.left → Follows p.shapes p.held front (pair ∷ s.before) → ComesToOther p q (pair ∷ trace) x
-comes_on p m q pair trace x s front is follows = record {
+comes_on : (p m q : Place) (pair : Request × Answer) (trace : Trace) (x : Request) (s : ComesToOther m q trace x) (front : Trace) → m.is_broken ≡ p.is_broken → p.asked ≡ front ++ s.left → Follows p.shapes p.held front (pair ∷ s.before) → is_unasked p.shapes (held_behind p.held front) x ≡ false → ComesToOther p q (pair ∷ trace) x
+comes_on p m q pair trace x s front whole is follows asked = record {
   front = front;
   left = s.left;
   before = pair ∷ s.before;
@@ -130,8 +133,10 @@ comes_on p m q pair trace x s front is follows = record {
   trace_is = ap (λ (l : Trace). pair ∷ l) s.trace_is;
   follows = follows;
   is_other = s.is_other;
+  is_asked = asked;
   at = s.at;
   at_left = s.at_left;
+  at_whole = s.at_whole ∙ whole;
   at_other = s.at_other;
   plays = s.plays;
 }
@@ -143,10 +148,10 @@ comes_to_other p q (pair ∷ trace) x none h other = by_case (λ m_none. comes_t
     by_case : (h.0.other ≡ None → ComesToOther h.0 q trace x) → Goes p pair h.0 → ComesToOther p q (pair ∷ trace) x
     by_case later (inl g) =
         let s = subst (λ (r : Place). ComesToOther r q trace x) g.3 (later (ap (λ (r : Place). r.other) g.3 ∙ none)) in
-        comes_on p p q pair trace x s s.front s.recorded_is (inl (g.1, g.2, s.follows))
+        comes_on p p q pair trace x s s.front refl s.recorded_is (inl (g.1, g.2, s.follows)) s.is_asked
     by_case later (inr (inl g)) =
         let s = subst (λ (r : Place). ComesToOther r q trace x) g.4 (later (ap (λ (r : Place). r.other) g.4 ∙ none)) in
-        comes_on p (gone_on p g.2 pair.1) q pair trace x s (pair ∷ s.front) (g.3 ∙ ap (λ (l : Trace). pair ∷ l) s.recorded_is) (inr (g.0 none, s.front, refl, s.follows))
+        comes_on p (gone_on p g.2 pair.1) q pair trace x s (pair ∷ s.front) refl (g.3 ∙ ap (λ (l : Trace). pair ∷ l) s.recorded_is) (inr (g.0 none, s.front, refl, s.follows)) s.is_asked
     by_case later (inr (inr g)) =
         let first = first_missed p.other p pair.0 refl none in
         let m_other : h.0.other ≡ Some pair.0 = ap (λ (r : Place). r.other) g.3 ∙ first.0 in
@@ -160,8 +165,10 @@ comes_to_other p q (pair ∷ trace) x none h other = by_case (λ m_none. comes_t
           trace_is = ap (λ (y : Request × Answer). y ∷ trace) (pair_is pair x same g.0);
           follows = refl;
           is_other = λ answer rest at. stands_only answer (g.2 answer rest (at ∙ ap (λ (r : Request). (r, answer) ∷ rest) (sym same)));
+          is_asked = subst (λ (r : Request). is_unasked p.shapes p.held r ≡ false) same (g.1 none);
           at = h.0;
           at_left = ap (λ (r : Place). r.asked) g.3 ∙ first.1;
+          at_whole = ap (λ (r : Place). r.is_broken) g.3 ∙ first.2;
           at_other = m_other ∙ ap (λ (r : Request). Some r) same;
           plays = h.2;
         }
@@ -209,3 +216,27 @@ by_stop p q trace x none h other whole empty =
       follows = s.follows;
       stopped = ends.1;
     }
+
+-- And where what is left is what the text goes on with, ends by stopped, nothing else comes.
+
+tail_is : (c d : Request × Answer) (xs ys : Trace) → c ∷ xs ≡ d ∷ ys → xs ≡ ys
+tail_is c d xs ys e = cc e
+
+pub winds_up : (p q : Place) (trace : Trace) (x : Request) → p.other ≡ Some x → Plays p trace q → p.asked ≡ trace → AreStoppedEnds trace → NoneStands trace → (q.is_broken ≡ p.is_broken) × (q.asked ≡ [])
+winds_up p q [] x is h asked ends settled = (ap (λ (r : Place). r.is_broken) (sym h), ap (λ (r : Place). r.asked) (sym h) ∙ asked)
+winds_up p q (pair ∷ trace) x is h asked ends settled = by_case (λ at. winds_up h.0 q trace x (stays_other p h.0 (pair ∷ []) x is (h.0, h.1, refl)) h.2 at ends.1 settled.1) h.1
+  where
+    may : (o : Option Request) → o ≡ Some x → may_follow o pair.0 ≡ is_stopped_end pair.0
+    may None e = some_is_none x (sym e)
+    may (Some y) e = refl
+
+    not_other : (stands pair.1 ≡ true) ⊎ (may_follow p.other pair.0 ≡ false) → ⊥
+    not_other (inl is_standing) = true_is_false (sym is_standing ∙ settled.0)
+    not_other (inr may_not) = true_is_false (sym ends.0 ∙ sym (may p.other is) ∙ may_not)
+
+    by_case : (h.0.asked ≡ trace → (q.is_broken ≡ h.0.is_broken) × (q.asked ≡ [])) → Goes p pair h.0 → (q.is_broken ≡ p.is_broken) × (q.asked ≡ [])
+    by_case later (inl g) = some_is_none x (sym is ∙ g.0)
+    by_case later (inr (inl g)) =
+        let there = later (ap (λ (r : Place). r.asked) g.4 ∙ tail_is pair pair g.2 trace (sym g.3 ∙ asked)) in
+        (there.0 ∙ ap (λ (r : Place). r.is_broken) g.4, there.1)
+    by_case later (inr (inr g)) = absurd (not_other (g.2 pair.1 trace asked))

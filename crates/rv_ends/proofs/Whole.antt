@@ -1,5 +1,5 @@
 -- What is kept of a history's bodies stays what is afoot, entry by entry.
-use Rattle.std.proofs.Common.{◌≡◌, ℕ, List, [], ◌∷◌, ◌++◌, Bool, true, false, Some, cond, refl, sym, ap, ◌∙◌, subst, map, append_assoc, append-nil}
+use Rattle.std.proofs.Common.{◌≡◌, ◌⊎◌, inl, inr, ℕ, List, [], ◌∷◌, ◌++◌, Bool, true, false, Some, cond, refl, sym, ap, ◌∙◌, subst, map, append_assoc, append-nil}
 use Rattle.std.specs.Prelude.{◌==◌, not, if◌then◌else◌, is_some}
 use Rattle.rv_access.specs.Words.{Words}
 use Rattle.rv_shape.specs.Shape.{Shape}
@@ -16,7 +16,7 @@ use Rattle.rv_history.specs.History.{History}
 use Rattle.rv_history.specs.Legal.{Legal, after, after_list, empty, entered}
 use Rattle.rv_history.specs.declared.limits.Limits.{Limits}
 use Rattle.rv_ends.specs.Afoot.{Afoot, AreAfoot, answered, nothing_afoot, open_view}
-use Rattle.rv_ends.specs.Ends.{AllStopped, IsWhole, TakesTexts, afoot_of, left_stops, of_others}
+use Rattle.rv_ends.specs.Ends.{AllStopped, IsAmong, IsWhole, TakesTexts, afoot_of, left_stops, of_others}
 use Rattle.rv_ends.specs.Explained.{IsFront, IsStopped, unwinds, leaves_open}
 use Rattle.rv_ends.specs.declared.ends.Ends.{Ends}
 use Rattle.rv_ends.specs.declared.ends.Stop.{Stop}
@@ -151,12 +151,33 @@ whole_stopped e n h stop w is afoot_is stops_is = whole_at n h (afoot_of e) (e.s
     all_more [] all = (is, tt)
     all_more (s ∷ stops) all = (all.0, all_more stops all.1)
 
--- What stopped an actor is among the first, or the later ones.
+-- What is among the stops
 
-pub known_first : (h : History) (stops later : List Stop) (stop : Stop) (actor : ℕ) (ask : Request) → stops ≡ stop ∷ later → stop.actor ≡ actor → stop.ask ≡ ask → AllStopped h stops → IsStopped h actor ask
-known_first h stops later stop actor ask is of same all =
-    let all_is = subst (λ (l : List Stop). AllStopped h l) is all in
-    subst (λ (r : Request). IsStopped h actor r) same (subst (λ (a : ℕ). IsStopped h a stop.ask) of all_is.0)
+pub is_first : (stops later : List Stop) (stop : Stop) (actor : ℕ) (ask : Request) → stops ≡ stop ∷ later → stop.actor ≡ actor → stop.ask ≡ ask → IsAmong stops actor ask
+is_first stops later stop actor ask is of same = subst (λ (l : List Stop). IsAmong l actor ask) (sym is) (inl (of, same))
 
-pub known_later : (h : History) (stops later : List Stop) (stop : Stop) → stops ≡ stop ∷ later → AllStopped h stops → AllStopped h later
-known_later h stops later stop is all = let all_is = subst (λ (l : List Stop). AllStopped h l) is all in all_is.1
+pub is_later : (stops later : List Stop) (stop : Stop) (actor : ℕ) (ask : Request) → stops ≡ stop ∷ later → IsAmong later actor ask → IsAmong stops actor ask
+is_later stops later stop actor ask is among = subst (λ (l : List Stop). IsAmong l actor ask) (sym is) (inr among)
+
+pub is_neither : (stops later : List Stop) (stop : Stop) (actor : ℕ) (ask : Request) → stops ≡ stop ∷ later → (stop.actor ≡ actor → stop.ask ≡ ask → ⊥) → (IsAmong later actor ask → ⊥) → IsAmong stops actor ask → ⊥
+is_neither stops later stop actor ask is not_first not_later among = by_case (subst (λ (l : List Stop). IsAmong l actor ask) is among)
+  where
+    by_case : ((stop.actor ≡ actor) × (stop.ask ≡ ask)) ⊎ IsAmong later actor ask → ⊥
+    by_case (inl first) = not_first first.0 first.1
+    by_case (inr rest) = not_later rest
+
+pub is_last : (stops all : List Stop) (actor : ℕ) (ask : Request) → all ≡ stops ++ (record { actor = actor; ask = ask }) ∷ [] → IsAmong all actor ask
+is_last stops all actor ask is = subst (λ (l : List Stop). IsAmong l actor ask) (sym is) (at_end stops)
+  where
+    at_end : (stops : List Stop) → IsAmong (stops ++ (record { actor = actor; ask = ask }) ∷ []) actor ask
+    at_end [] = inl (refl, refl)
+    at_end (s ∷ stops) = inr (at_end stops)
+
+-- each of them stopped its actor
+pub known_stop : (e : Ends) (h : History) (actor : ℕ) (ask : Request) → IsWhole e h → IsAmong e.stops.items actor ask → IsStopped h actor ask
+known_stop e h actor ask w among = by_list e.stops.items w.stopped among
+  where
+    by_list : (stops : List Stop) → AllStopped h stops → IsAmong stops actor ask → IsStopped h actor ask
+    by_list [] all among = absurd among
+    by_list (s ∷ stops) all (inl at) = subst (λ (r : Request). IsStopped h actor r) at.1 (subst (λ (a : ℕ). IsStopped h a s.ask) at.0 all.0)
+    by_list (s ∷ stops) all (inr rest) = by_list stops all.1 rest

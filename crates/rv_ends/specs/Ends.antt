@@ -1,5 +1,5 @@
 -- The ends of bodies, entry by entry of a journal (own).
-use Rattle.std.specs.Prelude.{◌≡◌, ℕ, Bool, true, false, ◌==◌, not, if◌then◌else◌, List, [], ◌∷◌, map, Option, Some, None, is_some}
+use Rattle.std.specs.Prelude.{◌≡◌, ◌⊎◌, ℕ, Bool, true, false, ◌==◌, not, if◌then◌else◌, List, [], ◌∷◌, map, Option, Some, None, is_some}
 use Rattle.std.specs.List.{filter}
 use Rattle.rv_shape.specs.Shape.{Shape}
 use Rattle.rv_code.specs.Bodies.{UnitBodies}
@@ -12,7 +12,7 @@ use Rattle.rv_history.specs.Due.{out}
 use Rattle.rv_history.specs.History.{History}
 use Rattle.rv_history.specs.Legal.{after, after_load, out_load}
 use Rattle.rv_ends.specs.Afoot.{Afoot, AreAfoot, Open, open_view}
-use Rattle.rv_ends.specs.Explained.{AsksBehind, ByRecorded, EndsBy, HasNoText, IsExplained, IsStopped, innermost, unwinds}
+use Rattle.rv_ends.specs.Explained.{AsksBehind, ByRecorded, EndsBy, FitsStop, HasNoText, IsExplained, IsStopped, StopsHere, innermost, unwinds}
 use Rattle.rv_ends.specs.declared.ends.Ends.{Ends}
 use Rattle.rv_ends.specs.declared.ends.Stop.{Stop}
 use Rattle.rv_ends.specs.declared.meaning.Meaning.{Meaning}
@@ -30,6 +30,11 @@ afoot_of ends = record { calls = ends.calls.items; bodies = map open_view ends.u
 abbrev pub AllStopped : History → List Stop → Type 0
 AllStopped h [] = Unit {0}
 AllStopped h (stop ∷ stops) = IsStopped h stop.actor stop.ask × AllStopped h stops
+
+-- this ask is among those that stopped the actor
+abbrev pub IsAmong : List Stop → ℕ → Request → Type 0
+IsAmong [] actor ask = ⊥
+IsAmong (stop ∷ stops) actor ask = ((stop.actor ≡ actor) × (stop.ask ≡ ask)) ⊎ IsAmong stops actor ask
 
 -- those that stopped others than this actor
 abbrev pub of_others : ℕ → List Stop → List Stop
@@ -69,15 +74,15 @@ IsMeaning bodies h afoot actor end (meaning.Gives request) =
     (body : Open) × (innermost actor afoot.bodies ≡ Some body) × EndsBy bodies h.shapes body request
     × (ByRecorded bodies h.shapes body end → ⊥) × (HasNoText bodies body → ⊥)
 IsMeaning bodies h afoot actor end (meaning.Asks request) =
-    (body : Open) × (innermost actor afoot.bodies ≡ Some body) × AsksBehind bodies h.shapes body request
-    × (HasNoText bodies body → ⊥)
+    (body : Open) × (innermost actor afoot.bodies ≡ Some body) × (asks : AsksBehind bodies h.shapes body request)
+    × (HasNoText bodies body → ⊥) × (FitsStop bodies h.shapes body request asks end → StopsHere h actor request → ⊥)
 
--- an end by stopped is explained where this ask stopped its actor
+-- an end by stopped is explained where this ask stopped its actor; where it isn't, the ask would stop nobody here
 abbrev pub IsFoundStop : History → ℕ → Request → Meaning → Type 0
 IsFoundStop h actor ask meaning.Explained = IsStopped h actor ask
 IsFoundStop h actor ask meaning.WithoutText = ⊥
 IsFoundStop h actor ask (meaning.Gives request) = ⊥
-IsFoundStop h actor ask (meaning.Asks request) = request ≡ ask
+IsFoundStop h actor ask (meaning.Asks request) = (request ≡ ask) × (StopsHere h actor ask → ⊥)
 
 -- whether an end is settled: behind another the entries to come aren't explained
 abbrev pub is_settled : Meaning → Bool

@@ -24,6 +24,7 @@ use Rattle.rv_history.specs.Due.{out}
 use Rattle.rv_history.specs.Fitting.{is_settling}
 use Rattle.rv_history.specs.History.{History}
 use Rattle.rv_history.specs.Legal.{Legal}
+use Rattle.rv_history.specs.Owed.{actors}
 use Rattle.rv_ends.specs.Afoot.{Afoot, AreAfoot, Open}
 use Rattle.rv_ends.specs.declared.afoot.Start.{Start}
 
@@ -47,6 +48,11 @@ abbrev pub held_after : ℕ → Answer → ℕ
 held_after held (Started components) = if nat_lt held 16 then suc held else held
 held_after held (Done next) = held - 1
 held_after held answer = held
+
+-- so many are behind all of these
+abbrev pub held_behind : ℕ → Trace → ℕ
+held_behind held [] = held
+held_behind held (pair ∷ more) = held_behind (held_after held pair.1) more
 
 -- Traces
 
@@ -172,7 +178,8 @@ pub record EndsBy (bodies : UnitBodies) (shapes : List Shape) (body : Open) (req
   pub follows : Follows shapes body.start.held front trace
   pub ends : Ends bodies body.start trace request
 
--- the text of a body asks this request, where it follows a front of what was recorded, and it isn't what was recorded next
+-- the text of a body asks this request, where it follows a front of what was recorded, and it isn't what was recorded next, nor a
+-- call that isn't asked
 pub record AsksBehind (bodies : UnitBodies) (shapes : List Shape) (body : Open) (request : Request) : Type 0 where
   pub front : Trace
   pub left : Trace
@@ -183,6 +190,25 @@ pub record AsksBehind (bodies : UnitBodies) (shapes : List Shape) (body : Open) 
   pub follows : Follows shapes body.start.held front before
   pub asks : Along (operation_run_at bodies body.start.held body.start.object body.start.operation body.start.values body.start.components) (before ++ (request, Full) ∷ behind) end
   pub is_other : (answer : Answer) (rest : Trace) → left ≡ (request, answer) ∷ rest → stands answer ≡ true
+  pub is_asked : is_unasked shapes (held_behind body.start.held front) request ≡ false
+
+-- none of these answers left its request standing, as no recorded one does
+abbrev pub NoneStands : Trace → Type 0
+NoneStands [] = Unit {0}
+NoneStands (pair ∷ more) = (stands pair.1 ≡ false) × NoneStands more
+
+-- behind such an ask the text goes on with all that is left, ends by stopped, and ends by this request: had the ask stopped its
+-- actor, that would explain the end
+abbrev pub FitsStop : (bodies : UnitBodies) (shapes : List Shape) (body : Open) (request : Request) → AsksBehind bodies shapes body request → Request → Type 0
+FitsStop bodies shapes body request asks end =
+    (asks.left ≡ asks.behind) × AreStoppedEnds asks.behind × NoneStands asks.behind
+    × (end ≡ end_of_body (operation_of bodies body.start.object body.start.operation) asks.end)
+
+-- an ask would stop its actor right behind a history: one that there is, and that has nothing to settle
+abbrev pub StopsHere : History → ℕ → Request → Type 0
+StopsHere h actor ask =
+    (nat_lt actor (actors h.shapes) ≡ true) × (is_settling (mode h.shapes actor h.past) ≡ false)
+    × (stops_bodies (out h actor ask) ≡ true)
 
 -- This end of an actor's innermost body, behind this history, is what its text among these bodies means; and it has one, as those
 -- have that it called.

@@ -1,7 +1,7 @@
 //! The ends of bodies, entry by entry of a journal. The host that carries the journal out is lent: before an entry that ends a
 //! body, to say what the body's text means there, and behind each entry, to keep what is afoot.
 
-ghost use Rattle.std.specs.Prelude.{◌≡◌, ℕ, false, true, List, Some, IfOk, OnOk};
+ghost use Rattle.std.specs.Prelude.{◌≡◌, ◌∷◌, ◌++◌, [], ℕ, false, true, List, Some, IfOk, OnOk, nat_lt};
 ghost use Rattle.rv_access.specs.Words.{Words};
 ghost use Rattle.rv_code.specs.BodyView.{unit_view};
 ghost use Rattle.rv_exec.specs.Bodies.{no_bodies, with_unit};
@@ -9,11 +9,12 @@ ghost use Rattle.rv_exec.specs.Stops.{stops_bodies};
 ghost use Rattle.rv_event.specs.Past.{mode};
 ghost use Rattle.rv_event.specs.Modes.{is_settling};
 ghost use Rattle.rv_history.specs.Legal.{after_list, empty};
+ghost use Rattle.rv_history.specs.Owed.{actors};
 ghost use Rattle.rv_history.specs.History.{History};
 ghost use Rattle.rv_history.specs.declared.limits.Limits.{Limits};
 ghost use Rattle.rv_ends.specs.Afoot.{answered};
-ghost use Rattle.rv_ends.specs.Ends.{AllStopped, IsFoundStop, IsMeaning, IsWhole, TakesAnswered, TakesTexts, afoot_of, left_stops, of_others, texts_of};
-ghost use Rattle.rv_ends.specs.Explained.{IsStopped, unwinds};
+ghost use Rattle.rv_ends.specs.Ends.{IsAmong, IsFoundStop, IsMeaning, IsWhole, TakesAnswered, TakesTexts, afoot_of, left_stops, of_others, texts_of};
+ghost use Rattle.rv_ends.specs.Explained.{IsStopped, StopsHere, unwinds};
 
 use crate::afoot::{OpenBody, QueuedCall};
 use crate::answered::{begin, close, hear_all, innermost, queue, started};
@@ -77,7 +78,9 @@ fn unwinds(request: &Request) -> bool
 
 // Whether an actor is known to have nothing to settle.
 fn has_settled(host: &Host, actor: usize) -> bool
-    ensures { result ≡ true → is_settling (mode host.now.shapes actor host.now.past) ≡ false }
+    ensures settled { result ≡ true → is_settling (mode host.now.shapes actor host.now.past) ≡ false }
+    ensures other { result ≡ false → nat_lt actor (actors host.now.shapes) ≡ true →
+        is_settling (mode host.now.shapes actor host.now.past) ≡ false → ⊥ }
 {
     match host.mode(actor) {
         Some(mode) => !matches!(mode, Mode::Settling),
@@ -88,7 +91,8 @@ fn has_settled(host: &Host, actor: usize) -> bool
 // Whether an ask, were it asked now, would stop its actor: the host says what would be due, and carries nothing out.
 #[tactic(auto, using(crate::proofs::Whole::stopped_here))]
 fn would_stop(host: &Host, actor: usize, ask: &Request) -> bool
-    ensures { result ≡ true → IsStopped host.now actor ask.now }
+    ensures stops { result ≡ true → IsStopped host.now actor ask.now }
+    ensures other { result ≡ false → StopsHere host.now actor ask.now → ⊥ }
 {
     host.replays();
     if !has_settled(host, actor) {
@@ -97,10 +101,11 @@ fn would_stop(host: &Host, actor: usize, ask: &Request) -> bool
     stops_bodies(&host.due(actor, ask))
 }
 
-// Whether this ask stopped the actor.
-#[tactic(auto, using(crate::proofs::Whole::known_first, crate::proofs::Whole::known_later))]
+// Whether this ask is among those that stopped the actor.
+#[tactic(auto, using(crate::proofs::Whole::is_first, crate::proofs::Whole::is_later, crate::proofs::Whole::is_neither))]
 fn has_stop(stops: &[Stop], actor: usize, ask: &Request) -> bool
-    ensures { (h : History) → AllStopped h stops.now → result ≡ true → IsStopped h actor ask.now }
+    ensures found { result ≡ true → IsAmong stops.now actor ask.now }
+    ensures other { result ≡ false → IsAmong stops.now actor ask.now → ⊥ }
 {
     let Some((first, rest)) = stops.split_first() else {
         return false;
@@ -206,15 +211,16 @@ impl Ends {
 
     // Whether this ask is one that stopped the actor already.
     fn is_known_stop(&self, actor: usize, ask: &Request) -> bool
-        ensures { (h : History) → IsWhole self.now h → result ≡ true → IsStopped h actor ask.now }
+        ensures found { result ≡ true → IsAmong self.now.stops.items actor ask.now }
+        ensures other { result ≡ false → IsAmong self.now.stops.items actor ask.now → ⊥ }
     {
         has_stop(self.stops.as_slice(), actor, ask)
     }
 
     // Keeps an ask that stops its actor here.
     fn keep_stop(&mut self, actor: usize, ask: &Request) -> Result<(), AllocError>
-        ensures whole { OnOk result ((h : History) → IsWhole self.old h → IsStopped h actor ask.now → IsWhole self.new h) }
-        ensures same { self.new.bodies ≡ self.old.bodies }
+        ensures stops { OnOk result (self.new.stops.items ≡ self.old.stops.items ++ (record { actor = actor; ask = ask.now }) ∷ []) }
+        ensures same { (self.new.bodies ≡ self.old.bodies) × (afoot_of self.new ≡ afoot_of self.old) }
     {
         // The check is told of these types only where they are named.
         let _exit: Option<Exit> = None;
@@ -228,8 +234,12 @@ impl Ends {
     }
 
     // Whether an ask stopped its actor: one that would stop it now is kept.
+    #[tactic(auto, using(crate::proofs::Whole::known_stop, crate::proofs::Whole::is_last))]
     fn is_stopped(&mut self, host: &Host, actor: usize, ask: &Request) -> Result<bool, AllocError>
         ensures stopped { IsWhole self.old host.now → IfOk result (λ is. is ≡ true → IsStopped host.now actor ask.now) }
+        ensures other { IfOk result (λ is. is ≡ false →
+            (IsAmong self.old.stops.items actor ask.now → ⊥) × (StopsHere host.now actor ask.now → ⊥)) }
+        ensures kept { IfOk result (λ is. is ≡ true → IsAmong self.new.stops.items actor ask.now) }
         ensures whole { IsWhole self.old host.now → OnOk result (IsWhole self.new host.now) }
         ensures texts { texts_of self.new ≡ texts_of self.old }
     {
@@ -245,7 +255,7 @@ impl Ends {
 
     /// What the text of an actor's innermost body means, where this end of it is to come behind the entries of the host. After
     /// any other answer than that it is explained, or without a text, the entries to come can't be explained.
-    #[tactic(auto, using(crate::proofs::Meanings::explained_is, crate::proofs::Meanings::no_body, crate::proofs::Meanings::without_text, crate::proofs::Meanings::by_found_stop, crate::proofs::Meanings::gives_other, crate::proofs::Meanings::asks_other))]
+    #[tactic(auto, using(crate::proofs::Meanings::no_body, crate::proofs::Meanings::without_text, crate::proofs::Meanings::by_found_stop, crate::proofs::Meanings::gives_other))]
     pub fn meaning(
         &mut self,
         host: &Host,
