@@ -144,3 +144,7 @@ one_less (suc n) some = omega arith
 pub at_result : (r x : Result ℤ Cause) (a : Activation) (to : Control) (before after : List Frame)
     → r ≡ x → Leads (comes (valued x a)) before to after → Leads (comes (valued r a)) before to after
 at_result r x a to before after is leads = subst (λ (z : Result ℤ Cause). Leads (comes (valued z a)) before to after) (sym is) leads
+
+pub at_values : (ts : List Tree) (x y : ValuesFrame) (from to : Control) (fs after : List Frame)
+    → x ≡ y → Leads from (values_frame ts y ∷ fs) to after → Leads from (values_frame ts x ∷ fs) to after
+at_values ts x y from to fs after is leads = subst (λ (z : ValuesFrame). Leads from (values_frame ts z ∷ fs) to after) (sym is) leads

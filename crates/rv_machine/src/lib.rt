@@ -3,7 +3,9 @@
 //! choice.
 #![tactic(auto)]
 
+mod calls;
 mod choices;
+mod copying;
 pub mod ends;
 pub mod expressions;
 pub mod frame;
