@@ -13,7 +13,7 @@ use Rattle.rv_exec.specs.declared.end.Cause.{Cause}
 use Rattle.rv_flat.specs.declared.unit.FlatUnit.{FlatUnit}
 use Rattle.rv_flat.specs.Tables.{trees}
 use Rattle.rv_flat.specs.Trees.{Tree, tree_at, as_expressions, as_handlers}
-use Rattle.rv_frames.specs.Frames.{Frame, Control, arguing, operating, raising, handling, restoring, comes, selects_of, valued, meant}
+use Rattle.rv_frames.specs.Frames.{Frame, Control, arguing, operating, raising, handling, restoring, exiting, comes, selects_of, valued, meant}
 use Rattle.rv_machine.specs.declared.frame.Count.{Count}
 use Rattle.rv_machine.specs.declared.frame.OperandFrame.{OperandFrame}
 use Rattle.rv_machine.specs.declared.frame.ValueFrame.{ValueFrame}
@@ -91,6 +91,13 @@ pub restoring_on : (u : FlatUnit) (old new : Stack) (exception : Option Exceptio
 unfolding frames_with
 restoring_on u old new exception on same =
     ap (λ fs. frames_with u fs (set_aside new)) on ∙ ap (λ (kept : Pile Activation). restoring exception ∷ frames_with u (waiting old) (reverse kept.items.items)) same
+
+pub exiting_on : (u : FlatUnit) (old new : Stack)
+    → waiting new ≡ frame.Exiting ∷ waiting old → new.activations ≡ old.activations
+    → below u new ≡ exiting ∷ below u old
+unfolding frames_with
+exiting_on u old new on same =
+    ap (λ fs. frames_with u fs (set_aside new)) on ∙ ap (λ (kept : Pile Activation). exiting ∷ frames_with u (waiting old) (reverse kept.items.items)) same
 
 -- the same in one setting
 pub by_law_in :

@@ -33,8 +33,8 @@ fn copy_of(activation: &Activation) -> Activation
     }
 }
 
-// The activation of a body with these values, as its declarations begin (6.4.1).
-fn begun(body: &FlatBody, values: Args, components: Scalars, steps: u32) -> Activation
+/// The activation of a body with these values, as its declarations begin (6.4.1).
+pub(crate) fn begun(body: &FlatBody, values: Args, components: Scalars, steps: u32) -> Activation
     ensures { result ≡ opened (bound body.now.parameters.items 0 0 values (replicate 132 (pos 0))) components steps 0 }
 {
     let mut activation = Activation {
@@ -45,6 +45,16 @@ fn begun(body: &FlatBody, values: Args, components: Scalars, steps: u32) -> Acti
     };
     activation.bind(&body.parameters, values);
     activation
+}
+
+/// An activation that nothing runs in.
+pub(crate) fn no_activation() -> Activation {
+    Activation {
+        slots: [0; MOST_SLOTS],
+        components: Scalars::new(),
+        steps: 0,
+        requests: 0,
+    }
 }
 
 // The activation of a caller whose call is over: the call worked on the same components, and took of the same steps.
@@ -59,8 +69,8 @@ fn resumed(caller: &Activation, components: Scalars, steps: u32) -> Activation
     }
 }
 
-// What the body of a call inside the object runs in.
-fn inner(setting: &Setting) -> Setting
+/// What the body of a call inside the object runs in.
+pub(crate) fn inner(setting: &Setting) -> Setting
     ensures { result ≡ inner_setting setting.now (setting.now.nested - 1) }
 {
     Setting {

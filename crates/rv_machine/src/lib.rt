@@ -3,6 +3,7 @@
 //! choice.
 #![tactic(auto)]
 
+mod bodies;
 mod calls;
 mod choices;
 mod copying;
