@@ -6,3 +6,5 @@ pub mod ChoiceSteps
 pub mod EndSteps
 pub mod Meetings
 pub mod Starts
+pub mod CopySteps
+pub mod CallSteps

@@ -244,3 +244,43 @@ unfolding frames_with
 empty u old new now s was is =
     ap (λ (fs : List m.Frame). meant (flat_view u) (comes now) (frames_with u fs (set_aside new)) s) is
     ∙ sym (ap (λ (fs : List m.Frame). meant (flat_view u) (comes now) (frames_with u fs (set_aside old)) s) was)
+
+pub met_values : (u : FlatUnit) (old : Stack) (new : Machine) (now : Now) (s : Setting) (g : m.Frame) (x : ValuesFrame)
+    → g ≡ frame.Values x
+    → LeadsAcross s (comes now) (values_frame (trees u.code) x ∷ below u old) new.setting (control (trees u.code) new.point new.activation) (below u new.stack)
+    → stands u new ≡ meant (flat_view u) (comes now) (frames_with u (g ∷ waiting old) (set_aside old)) s
+unfolding frames_with
+met_values u old new now s g x is leads =
+    sym (ap (λ (z : m.Frame). meant (flat_view u) (comes now) (frames_with u (z ∷ waiting old) (set_aside old)) s) is ∙ leads.same (flat_view u))
+
+pub takes_no_values : (g : m.Frame) → ((x : ValuesFrame) → g ≡ frame.Values x → ⊥) → is_kind (kind_taken g) all_values ≡ false
+takes_no_values (frame.Operand x) a = refl
+takes_no_values (frame.Value x) a = refl
+takes_no_values (frame.Values x) a = absurd (a x refl)
+takes_no_values (frame.End x) a = refl
+takes_no_values (frame.Arguing given es) a = refl
+takes_no_values (frame.Counting count ss) a = refl
+takes_no_values (frame.Handling hs) a = refl
+takes_no_values (frame.Restoring x) a = refl
+takes_no_values (frame.Resuming t) a = refl
+takes_no_values frame.Answering a = refl
+takes_no_values (frame.Performing held given) a = refl
+takes_no_values (frame.Completing is_function t) a = refl
+takes_no_values frame.Exiting a = refl
+
+pub takes_no_body : (g : m.Frame)
+    → ((t : Setting) → g ≡ frame.Resuming t → ⊥) → ((is_function : Bool) (t : Setting) → g ≡ frame.Completing is_function t → ⊥) → (g ≡ frame.Exiting → ⊥)
+    → is_kind (kind_taken g) a_body ≡ false
+takes_no_body (frame.Operand x) a b d = refl
+takes_no_body (frame.Value x) a b d = refl
+takes_no_body (frame.Values x) a b d = refl
+takes_no_body (frame.End x) a b d = refl
+takes_no_body (frame.Arguing given es) a b d = refl
+takes_no_body (frame.Counting count ss) a b d = refl
+takes_no_body (frame.Handling hs) a b d = refl
+takes_no_body (frame.Restoring x) a b d = refl
+takes_no_body (frame.Resuming t) a b d = absurd (a t refl)
+takes_no_body frame.Answering a b d = refl
+takes_no_body (frame.Performing held given) a b d = refl
+takes_no_body (frame.Completing is_function t) a b d = absurd (b is_function t refl)
+takes_no_body frame.Exiting a b d = absurd (d refl)

@@ -13,7 +13,7 @@ use Rattle.rv_exec.specs.declared.end.Cause.{Cause}
 use Rattle.rv_flat.specs.declared.unit.FlatUnit.{FlatUnit}
 use Rattle.rv_flat.specs.Tables.{trees}
 use Rattle.rv_flat.specs.Trees.{Tree, tree_at, as_expressions, as_handlers}
-use Rattle.rv_frames.specs.Frames.{Frame, Control, arguing, operating, raising, handling, restoring, comes, selects_of, valued, meant}
+use Rattle.rv_frames.specs.Frames.{Frame, Control, arguing, operating, raising, handling, restoring, exiting, comes, selects_of, valued, meant}
 use Rattle.rv_machine.specs.declared.frame.Count.{Count}
 use Rattle.rv_machine.specs.declared.frame.OperandFrame.{OperandFrame}
 use Rattle.rv_machine.specs.declared.frame.ValueFrame.{ValueFrame}
@@ -92,6 +92,13 @@ unfolding frames_with
 restoring_on u old new exception on same =
     ap (λ fs. frames_with u fs (set_aside new)) on ∙ ap (λ (kept : Pile Activation). restoring exception ∷ frames_with u (waiting old) (reverse kept.items.items)) same
 
+pub exiting_on : (u : FlatUnit) (old new : Stack)
+    → waiting new ≡ frame.Exiting ∷ waiting old → new.activations ≡ old.activations
+    → below u new ≡ exiting ∷ below u old
+unfolding frames_with
+exiting_on u old new on same =
+    ap (λ fs. frames_with u fs (set_aside new)) on ∙ ap (λ (kept : Pile Activation). exiting ∷ frames_with u (waiting old) (reverse kept.items.items)) same
+
 -- the same in one setting
 pub by_law_in :
     (s : Setting) (from known to : Control) (before after pushed : List Frame)
@@ -144,3 +151,7 @@ one_less (suc n) some = omega arith
 pub at_result : (r x : Result ℤ Cause) (a : Activation) (to : Control) (before after : List Frame)
     → r ≡ x → Leads (comes (valued x a)) before to after → Leads (comes (valued r a)) before to after
 at_result r x a to before after is leads = subst (λ (z : Result ℤ Cause). Leads (comes (valued z a)) before to after) (sym is) leads
+
+pub at_values : (ts : List Tree) (x y : ValuesFrame) (from to : Control) (fs after : List Frame)
+    → x ≡ y → Leads from (values_frame ts y ∷ fs) to after → Leads from (values_frame ts x ∷ fs) to after
+at_values ts x y from to fs after is leads = subst (λ (z : ValuesFrame). Leads from (values_frame ts z ∷ fs) to after) (sym is) leads

@@ -1,6 +1,8 @@
 -- The value of an expression comes to what waits for it.
-use Rattle.std.proofs.Common.{◌≡◌, refl, sym, ap, ◌∙◌, ℕ, suc, ℤ, int_lt, List, [], ◌∷◌, Bool, true, false, Option, Some, None, Result, Ok, Err}
+use Rattle.std.proofs.Common.{◌≡◌, refl, sym, ap, ◌∙◌, ℕ, suc, ℤ, pos, int_lt, List, [], ◌∷◌, Bool, true, false, Option, Some, None, Result, Ok, Err}
+use Rattle.std.specs.Prelude.{slice_index_or}
 use Rattle.rv_shape.specs.declared.kind.Range.{Range}
+use Rattle.rv_code.specs.declared.expression.Callee.{Callee}
 use Rattle.rv_event.specs.declared.entry.Exception.TheVariants.{ConstraintError}
 use Rattle.rv_code.specs.declared.expression.Prefix.{Prefix}
 use Rattle.rv_code.specs.declared.expression.Operator.{Operator}
@@ -13,11 +15,11 @@ use Rattle.rv_exec.specs.declared.end.Cause.{Cause}
 use Rattle.rv_exec.specs.declared.end.Cause.TheVariants as cause
 use Rattle.rv_exec.specs.declared.end.End.{End}
 use Rattle.rv_exec.specs.declared.end.End.TheVariants as ends
-use Rattle.rv_exec.specs.Activations.{assigned, joined, stepped, fits, span}
+use Rattle.rv_exec.specs.Activations.{assigned, copied_back, joined, stepped, fits, span}
 use Rattle.rv_exec.specs.Operators.{prefix_of, result_of, within, is_true}
 use Rattle.rv_exec.specs.Statements.{exit_where}
 use Rattle.rv_flat.specs.Trees.{Tree}
-use Rattle.rv_frames.specs.Frames.{Frame, prefixing, linking, operating, bounding, arguing, assigning, branching, selecting, testing, turning, lowering, raising, leaving, returning, declaring, evaluates, links, argues, runs_all, tries, selects_of, counts, declares, comes, valued, listed, done, meant}
+use Rattle.rv_frames.specs.Frames.{Frame, passing, giving, copying, calls, prefixing, linking, operating, bounding, arguing, assigning, branching, selecting, testing, turning, lowering, raising, leaving, returning, declaring, evaluates, links, argues, runs_all, tries, selects_of, counts, declares, comes, valued, listed, done, meant}
 use Rattle.rv_frames.specs.Rests.{is_next}
 use Rattle.rv_frames.proofs.Arrivals.{expressions_arrive, statements_arrive}
 use Rattle.rv_frames.proofs.Rests.{loops_rest, statements_rest}
@@ -161,3 +163,24 @@ operand_fails_so ts (operand.Prefixing op) why a fs = prefix_fails op why a fs
 operand_fails_so ts (operand.Linking ls) why a fs = chain_fails _ why a fs
 operand_fails_so ts (operand.Operating op v ls) why a fs = operand_fails op v _ why a fs
 operand_fails_so ts (operand.Bounding range) why a fs = bounds_fail range why a fs
+
+pub values_passed : (callee : Callee) (values : List ℤ) (a : Activation) (fs : List Frame)
+    → Leads (comes (listed (Ok values) a)) (passing callee ∷ fs) (calls callee values a) fs
+values_passed callee values a fs = record { same = λ bodies s. (expressions_arrive bodies fs s).arguments callee values a }
+
+pub values_given : (values : List ℤ) (v : ℤ) (a : Activation) (fs : List Frame)
+    → v ≡ slice_index_or values 0 (pos 0) → Leads (comes (listed (Ok values) a)) (giving ∷ fs) (comes (valued (Ok v) a)) fs
+values_given values v a fs is = record { same = λ bodies s. (expressions_arrive bodies fs s).call values a ∙ ap (λ (z : ℤ). meant bodies (comes (valued (Ok z) a)) fs s) (sym is) }
+
+pub values_copied : (targets : List Target) (values : List ℤ) (a : Activation) (e : End) (b : Activation) (fs : List Frame)
+    → (e, b) ≡ copied_back targets 0 values a → Leads (comes (listed (Ok values) a)) (copying targets ∷ fs) (comes (done e b)) fs
+values_copied targets values a e b fs is = record { same = λ bodies s. (statements_rest bodies fs s).copied targets values a e b is }
+
+pub passing_fails : (callee : Callee) (why : Cause) (a : Activation) (fs : List Frame) → Leads (comes (listed (Err why) a)) (passing callee ∷ fs) (comes (listed (Err why) a)) fs
+passing_fails callee why a fs = record { same = λ bodies s. (expressions_arrive bodies fs s).arguments_fail callee why a }
+
+pub giving_fails : (why : Cause) (a : Activation) (fs : List Frame) → Leads (comes (listed (Err why) a)) (giving ∷ fs) (comes (valued (Err why) a)) fs
+giving_fails why a fs = record { same = λ bodies s. (expressions_arrive bodies fs s).call_fails why a }
+
+pub copying_fails : (targets : List Target) (why : Cause) (a : Activation) (fs : List Frame) → Leads (comes (listed (Err why) a)) (copying targets ∷ fs) (comes (done (ends.Abandoned why) a)) fs
+copying_fails targets why a fs = record { same = λ bodies s. (statements_rest bodies fs s).copy_fails targets why a }

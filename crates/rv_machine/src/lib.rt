@@ -3,7 +3,10 @@
 //! choice.
 #![tactic(auto)]
 
+mod bodies;
+mod calls;
 mod choices;
+mod copying;
 pub mod ends;
 pub mod expressions;
 pub mod frame;

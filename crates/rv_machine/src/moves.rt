@@ -1,13 +1,13 @@
 //! One move of a machine.
 
-ghost use Rattle.std.specs.Prelude.{◌≡◌, ◌≤◌, ◌∷◌, false};
+ghost use Rattle.std.specs.Prelude.{◌≡◌, ◌≤◌, ◌<◌, ◌∷◌, false};
 ghost use Rattle.rv_flat.specs.FlatUnits.{flat_view};
 ghost use Rattle.rv_flat.specs.Tables.{trees};
-ghost use Rattle.rv_frames.specs.Frames.{Now, comes, valued, done, meant};
+ghost use Rattle.rv_frames.specs.Frames.{Now, comes, valued, listed, done, meant};
 ghost use Rattle.rv_frames.specs.Passing.{comes_as, is_kind};
 ghost use Rattle.rv_machine.specs.Machines.{stands, kind_taken};
 ghost use Rattle.rv_machine.specs.Points.{control};
-ghost use Rattle.rv_machine.specs.Stacks.{below, frames_with, waiting, set_aside, HasRoom};
+ghost use Rattle.rv_machine.specs.Stacks.{below, frames_with, waiting, set_aside, HasRoom, HasSpace};
 
 use crate::ends::{handle, take_count_end, take_end};
 use crate::expressions::{argue, evaluate, link};
@@ -16,13 +16,14 @@ use crate::machine::Machine;
 use crate::point::Point;
 use crate::select::select;
 use crate::statements::{count, declare, run, run_all, try_branches, turn};
-use crate::values::{argument_comes, operand_comes, part_comes};
+use crate::values::{argument_comes, operand_comes, part_comes, values_come_to};
 use rv_exec::end::{Cause, End};
 use rv_flat::unit::FlatUnit;
+use rv_value::Args;
 
 impl Machine {
     /// A frame that doesn't take what comes is taken off, and the setting behind it is taken up.
-    fn pass(&mut self, unit: &FlatUnit, frame: Frame)
+    pub(crate) fn pass(&mut self, unit: &FlatUnit, frame: Frame)
         ensures below { (now : Now) → is_kind (kind_taken frame) (comes_as now) ≡ false → meant (flat_view unit.now) (comes now) (below unit.now self.new.stack) self.new.setting ≡ meant (flat_view unit.now) (comes now) (frames_with unit.now (frame ∷ waiting self.old.stack) (set_aside self.old.stack)) self.old.setting }
         ensures same { self.new.activation ≡ self.old.activation }
     {
@@ -122,6 +123,33 @@ impl Machine {
         }
     }
 
+    /// The values of arguments, or those that a call gives, come to this frame, which was on top.
+    fn values_meet(&mut self, unit: &FlatUnit, frame: Frame, outcome: Result<Args, Cause>)
+        ensures { stands unit.now self.new ≡ meant (flat_view unit.now) (comes (listed outcome self.old.activation)) (frames_with unit.now (frame ∷ waiting self.old.stack) (set_aside self.old.stack)) self.old.setting }
+    {
+        match frame {
+            Frame::Values(part) => {
+                self.point = values_come_to(unit, &mut self.activation, part, outcome);
+            }
+            _ => {
+                self.pass(unit, frame);
+                self.point = Point::Listed(outcome);
+            }
+        }
+    }
+
+    /// The values of arguments, or those that a call gives, come to the frame on top.
+    fn values_come(&mut self, unit: &FlatUnit, outcome: Result<Args, Cause>)
+        ensures { stands unit.now self.new ≡ meant (flat_view unit.now) (comes (listed outcome self.old.activation)) (below unit.now self.old.stack) self.old.setting }
+    {
+        match self.stack.pop() {
+            None => {
+                self.point = Point::Listed(outcome);
+            }
+            Some(frame) => self.values_meet(unit, frame, outcome),
+        }
+    }
+
     /// One move at a point of statements, loops or declarations.
     fn move_in_statements(&mut self, unit: &FlatUnit, point: Point)
         requires { HasRoom 2 self.old.stack }
@@ -174,7 +202,8 @@ impl Machine {
 
     /// One move at a point.
     fn move_at(&mut self, unit: &FlatUnit, point: Point)
-        requires { HasRoom 2 self.old.stack }
+        requires room { HasRoom 3 self.old.stack }
+        requires space { HasSpace self.old.stack }
         ensures { stands unit.now self.new ≡ meant (flat_view unit.now) (control (trees unit.now.code) point self.old.activation) (below unit.now self.old.stack) self.old.setting }
     {
         match point {
@@ -191,14 +220,20 @@ impl Machine {
                 self.point = select(unit, &self.activation, alternatives, value);
             }
             Point::Valued(value) => self.value_comes(unit, value),
+            Point::Listed(outcome) => self.values_come(unit, outcome),
+            Point::Calls(callee, values) => self.call(unit, callee, values),
+            Point::Closes(outcome, components, steps) => {
+                self.body_comes(unit, outcome, components, steps)
+            }
             _ => self.move_in_statements(unit, point),
         }
     }
 
-    /// One move, where the run turns to a part of an expression, of a statement or of a body, or where a value or an end comes.
-    /// At calls, at requests and at what comes of them nothing moves.
+    /// One move: the run turns to a part of an expression, of a statement or of a body, or to the body of a call inside the object,
+    /// or what comes is taken by the frame on top. At calls of other objects, at requests and at what comes of them nothing moves.
     pub fn advance(&mut self, unit: &FlatUnit)
-        requires { HasRoom 2 self.old.stack }
+        requires room { HasRoom 3 self.old.stack }
+        requires space { HasSpace self.old.stack }
         ensures { stands unit.now self.new ≡ stands unit.now self.old }
     {
         let point = self.point;

@@ -286,3 +286,26 @@ pub fn handlers_at(code: &Code, number: usize) -> Option<BranchNode>
         _ => None,
     }
 }
+
+/// A target of a call statement, and those behind it.
+#[derive(Clone, Copy)]
+pub struct TargetNode {
+    pub target: Target,
+    pub rest: usize,
+}
+
+/// The first of targets, if there is one.
+#[tactic(auto, unfolding(rv_flat::specs::Trees::as_targets))]
+pub fn targets_at(code: &Code, number: usize) -> Option<TargetNode>
+    ensures found { IfSome result (λ n. as_targets (tree_at (trees code.now) number) ≡ n.target ∷ as_targets (tree_at (trees code.now) n.rest)) }
+    ensures none { IsNone result → as_targets (tree_at (trees code.now) number) ≡ [] }
+{
+    let node = code.node(number)?;
+    match node.kind {
+        Kind::Targets(target) => Some(TargetNode {
+            target,
+            rest: node.first,
+        }),
+        _ => None,
+    }
+}

@@ -196,6 +196,8 @@ impl Stack {
         requires { HasSpace self.old }
         ensures frames { self.new.frames ≡ self.old.frames }
         ensures activations { set_aside self.new ≡ activation ∷ set_aside self.old }
+        ensures same { length self.new.frames.items.items ≡ length self.old.frames.items.items }
+        ensures capacity { self.new.frames.capacity ≡ self.old.frames.capacity }
     {
         self.activations.push(activation);
     }

@@ -4,16 +4,17 @@ ghost use Rattle.std.specs.Prelude.{◌≡◌, ◌∷◌, List, Ok, Err, pos};
 ghost use Rattle.rv_exec.specs.Statements.{exit_where};
 ghost use Rattle.rv_flat.specs.Tables.{trees};
 ghost use Rattle.rv_flat.specs.Trees.{tree_at, as_expressions};
-ghost use Rattle.rv_frames.specs.Frames.{Frame as Waiting, arguing, comes, valued, done};
+ghost use Rattle.rv_frames.specs.Frames.{Frame as Waiting, arguing, comes, valued, listed, done};
 ghost use Rattle.rv_frames.specs.Rests.{is_next};
 ghost use Rattle.rv_machine.specs.Points.{control, Leads};
-ghost use Rattle.rv_machine.specs.Stacks.{below, operand_frame, value_frame, HasRoom};
+ghost use Rattle.rv_machine.specs.Stacks.{below, operand_frame, value_frame, values_frame, HasRoom};
 
-use crate::frame::{Count, EndFrame, OperandFrame, ValueFrame};
+use crate::frame::{Count, EndFrame, OperandFrame, ValueFrame, ValuesFrame};
+use crate::copying::copy_back;
 use crate::point::Point;
 use crate::stack::Stack;
 use rv_event::entry::Exception;
-use rv_exec::activation::{Activation, join};
+use rv_exec::activation::{Activation, join, value_at};
 use rv_exec::end::{Cause, End};
 use rv_exec::operators::{is_true, prefix_of, result_of, within};
 use rv_exec::ranges::{Scheme, Values, fits, span};
@@ -240,5 +241,56 @@ pub fn part_comes(
     match value {
         Ok(value) => take_value(unit, stack, activation, frame, value),
         Err(cause) => fail_value(unit, activation, frame, cause),
+    }
+}
+
+/// The values of arguments come, or those that a call gives (6.4.1).
+pub fn give_values(
+    unit: &FlatUnit,
+    activation: &mut Activation,
+    frame: ValuesFrame,
+    values: Args,
+) -> Point
+    ensures { (fs : List Waiting) → Leads (comes (listed (Ok values) activation.old)) (values_frame (trees unit.now.code) frame ∷ fs) (control (trees unit.now.code) result activation.new) fs }
+{
+    match frame {
+        ValuesFrame::Passing(callee) => Point::Calls(callee, values),
+        ValuesFrame::Giving => Point::Valued(Ok(value_at(values, 0))),
+        ValuesFrame::Copying(targets) => {
+            Point::Done(copy_back(&unit.code, targets, values, activation))
+        }
+    }
+}
+
+/// An argument fails, or a call (11.4).
+pub fn fail_values(
+    unit: &FlatUnit,
+    activation: &Activation,
+    frame: ValuesFrame,
+    cause: Cause,
+) -> Point
+    ensures { (fs : List Waiting) → Leads (comes (listed (Err cause) activation.now)) (values_frame (trees unit.now.code) frame ∷ fs) (control (trees unit.now.code) result activation.now) fs }
+{
+    let _ = unit;
+    let _ = activation;
+    match frame {
+        ValuesFrame::Passing(_) => Point::Listed(Err(cause)),
+        ValuesFrame::Giving => Point::Valued(Err(cause)),
+        ValuesFrame::Copying(_) => Point::Done(End::Abandoned(cause)),
+    }
+}
+
+/// The values of arguments come, or those that a call gives, or the cause that one fails by.
+pub fn values_come_to(
+    unit: &FlatUnit,
+    activation: &mut Activation,
+    frame: ValuesFrame,
+    outcome: Result<Args, Cause>,
+) -> Point
+    ensures { (fs : List Waiting) → Leads (comes (listed outcome activation.old)) (values_frame (trees unit.now.code) frame ∷ fs) (control (trees unit.now.code) result activation.new) fs }
+{
+    match outcome {
+        Ok(values) => give_values(unit, activation, frame, values),
+        Err(cause) => fail_values(unit, activation, frame, cause),
     }
 }
