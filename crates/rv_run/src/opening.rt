@@ -3,72 +3,49 @@
 ghost use Rattle.std.specs.Prelude.{◌≡◌, Some, IfSome};
 ghost use Rattle.rv_history.specs.Legal.{empty};
 ghost use Rattle.rv_history.specs.Limits.{limits_with};
+ghost use Rattle.rv_fault.specs.Parts.{section_of};
 ghost use Rattle.rv_port.specs.Controls.{IsControlOf};
-ghost use Rattle.rv_run.specs.Preparing.{CarriesOut, CarriesOutAll, CarriesOutAs, Prepares};
+ghost use Rattle.rv_script.specs.Openings.{AreNumbered};
+ghost use Rattle.rv_run.specs.Preparing.{CarriesOutAll, CarriesOutAs, Prepares};
 
 use crate::devices::load_devices;
 use crate::loads::{list_section, load_section};
-use rv_fault::{Failure, What, refused};
+use rv_fault::{Failure, Part, Parts};
 use rv_port::control::Control;
-use rv_script::{Opening, opening_of};
+use rv_script::Opening;
 use rv_settings::Settings;
 use rv_staff::DeviceJob;
-use rv_text::{Section, Sections};
+use rv_text::Sections;
 use std::alloc::Global;
 use std::sync::Wait;
 
-// Carries out one section by what it opens.
-fn carry_out_as<R: Wait>(
-    rt: &R,
-    alloc: Global,
-    control: &mut Control,
-    section: &Section,
-    opening: Opening,
-) -> Result<(), Failure>
-    ensures { CarriesOutAs
-        (Some opening)
-        control.old
-        control.new
-        (record { line = section.now.line; opening = section.now.opening.now; text = section.now.text.now })
-        result }
-{
-    match opening {
-        Opening::UnitText => load_section(rt, alloc, control, section.line, section.text),
-        Opening::AccessList => list_section(rt, alloc, control, section.line, section.text),
-        _ => Err(refused(section.line, What::BadSection)),
-    }
-}
-
-// Carries out one section.
+// Carries out one part by what it opens.
 fn carry_out<R: Wait>(
     rt: &R,
     alloc: Global,
     control: &mut Control,
-    section: &Section,
+    part: &Part,
 ) -> Result<(), Failure>
-    ensures { CarriesOut
-        control.old
-        control.new
-        (record { line = section.now.line; opening = section.now.opening.now; text = section.now.text.now })
-        result }
+    ensures { CarriesOutAs part.now.opening control.old control.new (section_of part.now) result }
 {
-    match opening_of(section.opening) {
-        Some(opening) => carry_out_as(rt, alloc, control, section, opening),
-        None => Err(refused(section.line, What::BadSection)),
+    match part.opening {
+        Some(Opening::UnitText) => load_section(rt, alloc, control, part.line, part.text),
+        Some(Opening::AccessList) => list_section(rt, alloc, control, part.line, part.text),
+        _ => Err(part.not_taken()),
     }
 }
 
-// Carries out sections, in order, up to the first fault.
+// Carries out parts, in order, up to the first fault.
 fn carry_out_all<R: Wait>(
     rt: &R,
     alloc: Global,
     control: &mut Control,
-    mut sections: Sections<'_>,
+    mut parts: Parts<'_>,
 ) -> Result<(), Failure>
-    ensures { CarriesOutAll control.old control.new sections.entry result }
+    ensures { CarriesOutAll control.old control.new parts.entry result }
 {
-    'each: while let Some(section) = sections.next_section() {
-        match carry_out(rt, alloc, control, &section) {
+    'each: while let Some(part) = parts.next_part() {
+        match carry_out(rt, alloc, control, &part) {
             Ok(()) => {}
             Err(failure) => return Err(failure),
         }
@@ -76,7 +53,7 @@ fn carry_out_all<R: Wait>(
     Ok(())
 }
 
-/// Carries out sections, and then loads the devices of settings that open at a line, whose jobs are kept.
+/// Carries out the parts that sections are, and then loads the devices of settings that open at a line, whose jobs are kept.
 pub(crate) fn prepare<R: Wait>(
     rt: &R,
     alloc: Global,
@@ -86,9 +63,10 @@ pub(crate) fn prepare<R: Wait>(
     line: usize,
     settings: &Settings,
 ) -> Result<(), Failure>
+    requires { AreNumbered sections }
     ensures { Prepares control.old control.new sections.entry line settings.now.devices result }
 {
-    match carry_out_all(rt, alloc, control, sections) {
+    match carry_out_all(rt, alloc, control, Parts::of(sections)) {
         Ok(()) => load_devices(rt, alloc, control, jobs, line, settings.devices()),
         Err(failure) => Err(failure),
     }
