@@ -1,5 +1,5 @@
 -- A call inside the object.
-use Rattle.std.proofs.Common.{◌≡◌, refl, sym, ap, ◌∙◌, arith, ℕ, suc, ◌-◌, ℤ, pos, List, [], ◌∷◌, replicate, Bool, Option, Some, None, Result, Err}
+use Rattle.std.proofs.Common.{◌≡◌, sym, ap, ◌∙◌, ℕ, suc, ◌-◌, ℤ, pos, List, ◌∷◌, replicate, Bool, Option, Some, None, Err}
 use Rattle.std.specs.Prelude.{reverse}
 use Rattle.rv_event.specs.declared.entry.Exception.TheVariants.{ProgramError}
 use Rattle.rv_code.specs.declared.expression.Callee.TheVariants as callee
@@ -14,7 +14,7 @@ use Rattle.rv_event.specs.declared.entry.Request.{Request}
 use Rattle.rv_event.specs.declared.entry.Exit.{Exit}
 use Rattle.rv_flat.specs.declared.unit.FlatUnit.{FlatUnit}
 use Rattle.rv_flat.specs.FlatUnits.{flat_view}
-use Rattle.rv_frames.specs.Frames.{Frame, calls, comes, closes, listed, exited, ends_of, declares, opening, closing, resuming, completing, exiting, inner_setting, meant}
+use Rattle.rv_frames.specs.Frames.{Frame, calls, comes, closes, listed, exited, ends_of, declares, opening, closing, resuming, inner_setting, meant}
 use Rattle.rv_frames.proofs.Pushes.{calls_push}
 use Rattle.rv_frames.proofs.Arrivals.{calls_arrive}
 use Rattle.rv_frames.proofs.AtOnce.{calls_at_once}

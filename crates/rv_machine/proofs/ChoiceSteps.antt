@@ -1,5 +1,5 @@
 -- The first of choices and of handlers.
-use Rattle.std.proofs.Common.{◌≡◌, refl, sym, ap, ◌∙◌, arith, ◌<◌, ℤ, List, [], ◌∷◌, length, Bool, true, false, Option, Some, None}
+use Rattle.std.proofs.Common.{◌≡◌, refl, ap, ◌∙◌, arith, ◌<◌, ℤ, List, [], ◌∷◌, length, true, false, Some, None}
 use Rattle.rv_event.specs.declared.entry.Exception.{Exception}
 use Rattle.rv_code.specs.declared.body.ExceptionChoice.{ExceptionChoice}
 use Rattle.rv_code.specs.declared.statement.Choice.{Choice}

@@ -1,5 +1,5 @@
 -- Values go to targets, one after another.
-use Rattle.std.proofs.Common.{◌≡◌, refl, sym, ap, ◌∙◌, arith, ℕ, suc, ◌≤◌, ℤ, pos, List, [], ◌∷◌, length, Bool, true, false, get_or}
+use Rattle.std.proofs.Common.{◌≡◌, refl, sym, ap, ◌∙◌, arith, ℕ, suc, ◌≤◌, ℤ, pos, List, [], ◌∷◌, length, true, false}
 use Rattle.std.proofs.lemmas.List.{get_or_past}
 use Rattle.std.specs.Prelude.{slice_index_or}
 use Rattle.rv_code.specs.declared.statement.Target.{Target}

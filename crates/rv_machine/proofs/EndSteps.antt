@@ -1,9 +1,9 @@
 -- The end of statements or declarations comes to what waits for it.
-use Rattle.std.proofs.Common.{◌≡◌, refl, sym, ap, ◌∙◌, ℕ, ℤ, List, ◌∷◌, Bool, true, false, Option, Some, None}
+use Rattle.std.proofs.Common.{◌≡◌, refl, sym, ap, ◌∙◌, ℕ, ℤ, List, ◌∷◌, Bool, true, false, Some, None}
 use Rattle.rv_event.specs.declared.entry.Exception.{Exception}
 use Rattle.rv_code.specs.Expressions.{Expression}
 use Rattle.rv_code.specs.Statements.{Statements}
-use Rattle.rv_code.specs.Bodies.{Body, Handler, UnitBodies}
+use Rattle.rv_code.specs.Bodies.{Body, Handler}
 use Rattle.rv_exec.specs.declared.activation.Activation.{Activation}
 use Rattle.rv_exec.specs.declared.setting.Setting.{Setting}
 use Rattle.rv_exec.specs.declared.end.End.{End}

@@ -1,5 +1,5 @@
 -- One move in an expression, and in the arguments of a call.
-use Rattle.std.proofs.Common.{◌≡◌, refl, sym, ap, ◌∙◌, ℕ, ℤ, pos, List, [], ◌∷◌, true, false, Ok, Err}
+use Rattle.std.proofs.Common.{◌≡◌, refl, sym, ap, ◌∙◌, ℕ, ℤ, pos, List, [], ◌∷◌, true, false, Ok}
 use Rattle.std.specs.Prelude.{slice_index_or}
 use Rattle.rv_shape.specs.declared.kind.Range.{Range}
 use Rattle.rv_code.specs.declared.expression.Callee.{Callee}
@@ -8,9 +8,7 @@ use Rattle.rv_code.specs.declared.expression.Operator.{Operator}
 use Rattle.rv_code.specs.Expressions as code
 use Rattle.rv_code.specs.Expressions.{Expression, Expressions, Links}
 use Rattle.rv_exec.specs.declared.activation.Activation.{Activation}
-use Rattle.rv_exec.specs.declared.end.Cause.{Cause}
-use Rattle.rv_exec.specs.Operators.{decides, prefix_of, result_of, within}
-use Rattle.rv_exec.specs.Activations.{joined}
+use Rattle.rv_exec.specs.Operators.{decides}
 use Rattle.rv_frames.specs.Frames.{Frame, prefixing, linking, operating, bounding, arguing, passing, giving, evaluates, links, argues, comes, valued, listed, meant}
 use Rattle.rv_frames.proofs.Pushes.{expressions_push}
 use Rattle.rv_frames.proofs.Arrivals.{expressions_arrive}

@@ -11,7 +11,7 @@ use Rattle.rv_flat.specs.Tables.{trees}
 use Rattle.rv_flat.specs.Trees.{Tree, tree_at, as_expressions, as_handlers}
 use Rattle.rv_frames.specs.Frames as f
 use Rattle.rv_frames.specs.Frames.{Frame, Now, Control, comes, meant}
-use Rattle.rv_frames.specs.Passing.{comes_as, is_kind, one_value, all_values, an_end, a_body, a_call}
+use Rattle.rv_frames.specs.Passing.{comes_as, is_kind, one_value, all_values, an_end, a_body}
 use Rattle.rv_frames.proofs.Passing.{others_pass}
 use Rattle.rv_frames.proofs.Rests.{statements_rest}
 use Rattle.rv_machine.specs.declared.frame.Count.{Count}

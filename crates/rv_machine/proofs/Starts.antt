@@ -10,11 +10,8 @@ use Rattle.rv_exec.specs.Activations.{opened, bound}
 use Rattle.rv_exec.specs.Blocks.{operation_run_at}
 use Rattle.rv_exec.specs.Bodies.{task_of, operation_of}
 use Rattle.rv_exec.specs.Tasks.{task_run, task_meaning, task_setting}
-use Rattle.rv_flat.specs.declared.body.FlatBody.{FlatBody}
 use Rattle.rv_flat.specs.declared.unit.FlatUnit.{FlatUnit}
 use Rattle.rv_flat.specs.FlatUnits.{flat_view}
-use Rattle.rv_flat.specs.FlatView.{body_in}
-use Rattle.rv_flat.specs.Tables.{trees}
 use Rattle.rv_frames.specs.Frames.{Frame, declares, quits_of, comes, closes, opening, closing, exiting, quitting, quit, exit, body_setting, inner_setting, denoted, meant}
 use Rattle.rv_frames.proofs.Begins.{runs_begin}
 use Rattle.rv_frames.proofs.AtOnce.{calls_at_once}

@@ -1,5 +1,5 @@
 -- One move in a statement.
-use Rattle.std.proofs.Common.{◌≡◌, refl, sym, ap, ◌∙◌, ℕ, suc, ℤ, List, [], ◌∷◌, Bool, true, false, Option, Some, None}
+use Rattle.std.proofs.Common.{◌≡◌, refl, sym, ap, ◌∙◌, ℕ, suc, ℤ, List, [], ◌∷◌, Bool, true, false, Some, None}
 use Rattle.rv_shape.specs.declared.kind.Range.{Range}
 use Rattle.rv_event.specs.declared.entry.Exception.{Exception}
 use Rattle.rv_event.specs.declared.entry.Exception.TheVariants.{ConstraintError}
@@ -9,17 +9,16 @@ use Rattle.rv_code.specs.declared.statement.Target.{Target}
 use Rattle.rv_code.specs.Expressions.{Expression, Expressions}
 use Rattle.rv_code.specs.Statements as code
 use Rattle.rv_code.specs.Statements.{Statement, Statements, Branches, Alternatives}
-use Rattle.rv_code.specs.Bodies.{Declaration, UnitBodies}
+use Rattle.rv_code.specs.Bodies.{Declaration}
 use Rattle.rv_exec.specs.declared.activation.Activation.{Activation}
 use Rattle.rv_exec.specs.declared.setting.Setting.{Setting}
 use Rattle.rv_exec.specs.declared.end.Cause.{Cause}
 use Rattle.rv_exec.specs.declared.end.Cause.TheVariants as cause
-use Rattle.rv_exec.specs.declared.end.End.{End}
 use Rattle.rv_exec.specs.declared.end.End.TheVariants as ends
 use Rattle.rv_exec.specs.Activations.{stepped, steps_left, put_slot, value_before}
 use Rattle.rv_exec.specs.Choices.{covered}
 use Rattle.rv_exec.specs.Statements.{raised_again}
-use Rattle.rv_frames.specs.Frames.{Frame, Control, assigning, branching, selecting, testing, lowering, counting, leaving, returning, passing, copying, sequencing, declaring, evaluates, argues, runs, runs_all, tries, selects_of, turns_of, counts, declares, comes, done, meant}
+use Rattle.rv_frames.specs.Frames.{Frame, assigning, branching, selecting, testing, lowering, counting, leaving, returning, passing, copying, sequencing, declaring, evaluates, argues, runs, runs_all, tries, selects_of, turns_of, counts, declares, comes, done, meant}
 use Rattle.rv_frames.proofs.Pushes.{statements_push, calls_push}
 use Rattle.rv_frames.proofs.Arrivals.{statements_arrive}
 use Rattle.rv_frames.proofs.AtOnce.{statements_at_once}

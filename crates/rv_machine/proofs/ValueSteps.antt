@@ -1,5 +1,5 @@
 -- The value of an expression comes to what waits for it.
-use Rattle.std.proofs.Common.{◌≡◌, refl, sym, ap, ◌∙◌, ℕ, suc, ℤ, pos, int_lt, List, [], ◌∷◌, Bool, true, false, Option, Some, None, Result, Ok, Err}
+use Rattle.std.proofs.Common.{◌≡◌, sym, ap, ◌∙◌, ℕ, ℤ, pos, int_lt, List, ◌∷◌, Bool, true, false, Some, None, Result, Ok, Err}
 use Rattle.std.specs.Prelude.{slice_index_or}
 use Rattle.rv_shape.specs.declared.kind.Range.{Range}
 use Rattle.rv_code.specs.declared.expression.Callee.{Callee}
@@ -29,7 +29,6 @@ use Rattle.rv_machine.specs.declared.frame.OperandFrame.{OperandFrame}
 use Rattle.rv_machine.specs.declared.frame.OperandFrame.TheVariants as operand
 use Rattle.rv_machine.specs.declared.frame.ValueFrame.{ValueFrame}
 use Rattle.rv_machine.specs.declared.frame.ValueFrame.TheVariants as value
-use Rattle.rv_machine.proofs.Steps.{by_law}
 
 pub prefix_taken : (op : Prefix) (v : ℤ) (r : Result ℤ Cause) (a : Activation) (fs : List Frame)
     → r ≡ prefix_of op v → Leads (comes (valued (Ok v) a)) (prefixing op ∷ fs) (comes (valued r a)) fs

@@ -1,5 +1,5 @@
 -- The frames that stand on a machine's stack (own).
-use Rattle.std.specs.Prelude.{◌≡◌, ◌≤◌, ◌<◌, ◌+◌, ℕ, pos, List, [], ◌∷◌, reverse, length, replicate, false, Option, Some, None}
+use Rattle.std.specs.Prelude.{◌≤◌, ◌<◌, ◌+◌, ℕ, pos, List, [], ◌∷◌, reverse, length, replicate, false, Option, Some, None}
 use Rattle.rv_code.specs.Bodies.{Body}
 use Rattle.rv_exec.specs.declared.activation.Activation.{Activation}
 use Rattle.rv_exec.specs.Activations.{opened}

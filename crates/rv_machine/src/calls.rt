@@ -113,8 +113,10 @@ impl Machine {
                 );
             }
             Some(body) => {
-                self.stack.push_end(EndFrame::Closing(self.setting.object, number));
-                self.stack.push_end(EndFrame::Opening(body.statements, body.handlers));
+                self.stack
+                    .push_end(EndFrame::Closing(self.setting.object, number));
+                self.stack
+                    .push_end(EndFrame::Opening(body.statements, body.handlers));
                 self.activation = begun(
                     body,
                     values,

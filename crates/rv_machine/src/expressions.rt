@@ -17,12 +17,7 @@ use rv_flat::unit::FlatUnit;
 use rv_value::Args;
 
 /// An expression: its value, or its first operand before what waits for that (4.4).
-pub fn evaluate(
-    unit: &FlatUnit,
-    stack: &mut Stack,
-    activation: &Activation,
-    number: usize,
-) -> Point
+pub fn evaluate(unit: &FlatUnit, stack: &mut Stack, activation: &Activation, number: usize) -> Point
     requires { HasRoom 2 stack.old }
     ensures { Leads (evaluates (as_expression (tree_at (trees unit.now.code) number)) activation.now) (below unit.now stack.old) (control (trees unit.now.code) result activation.now) (below unit.now stack.new) }
 {

@@ -157,7 +157,13 @@ impl Machine {
     {
         match point {
             Point::Runs(number) => {
-                self.point = run(unit, &mut self.stack, &self.activation, &self.setting, number);
+                self.point = run(
+                    unit,
+                    &mut self.stack,
+                    &self.activation,
+                    &self.setting,
+                    number,
+                );
             }
             Point::RunsAll(statements) => {
                 self.point = run_all(unit, &mut self.stack, &mut self.activation, statements);

@@ -15,12 +15,7 @@ use rv_exec::end::{Cause, End};
 use rv_flat::unit::FlatUnit;
 
 /// The next alternative for a value: its statements where it covers the value (5.4).
-pub fn select(
-    unit: &FlatUnit,
-    activation: &Activation,
-    alternatives: usize,
-    value: i64,
-) -> Point
+pub fn select(unit: &FlatUnit, activation: &Activation, alternatives: usize, value: i64) -> Point
     ensures { (fs : List Waiting) → Leads (selects_of (as_alternatives (tree_at (trees unit.now.code) alternatives)) value activation.now) fs (control (trees unit.now.code) result activation.now) fs }
 {
     match alternatives_at(&unit.code, alternatives) {

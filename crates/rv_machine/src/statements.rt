@@ -10,7 +10,9 @@ ghost use Rattle.rv_machine.specs.Points.{control, Leads, LeadsIn};
 ghost use Rattle.rv_machine.specs.Stacks.{below, HasRoom};
 
 use crate::frame::{Count, EndFrame, ValueFrame, ValuesFrame};
-use crate::nodes::{StatementNode, alternatives_at, branches_at, declarations_at, statement_at, statements_at};
+use crate::nodes::{
+    StatementNode, alternatives_at, branches_at, declarations_at, statement_at, statements_at,
+};
 use crate::point::Point;
 use crate::stack::Stack;
 use rv_event::entry::Exception;
@@ -67,9 +69,7 @@ pub fn run(
             stack.push_value(ValueFrame::Returning);
             Point::Evaluates(value)
         }
-        StatementNode::Raise(exception) => {
-            Point::Done(End::Abandoned(Cause::Raised(exception)))
-        }
+        StatementNode::Raise(exception) => { Point::Done(End::Abandoned(Cause::Raised(exception))) }
         StatementNode::Reraise => Point::Done(End::Abandoned(raised_again(setting.handling))),
         StatementNode::Call(callee, given, targets) => {
             stack.push_values(ValuesFrame::Copying(targets));
@@ -115,11 +115,7 @@ pub fn try_branches(
     match branches_at(&unit.code, branches) {
         None => Point::RunsAll(otherwise),
         Some(branch) => {
-            stack.push_value(ValueFrame::Branching(
-                branch.statements,
-                branch.rest,
-                otherwise,
-            ));
+            stack.push_value(ValueFrame::Branching(branch.statements, branch.rest, otherwise));
             Point::Evaluates(branch.condition)
         }
     }
@@ -140,11 +136,7 @@ pub fn turn(
     if turns == 0 {
         return Point::Done(End::Abandoned(Cause::Overrun));
     }
-    stack.push_value(ValueFrame::Testing(
-        turns - 1,
-        condition,
-        statements,
-    ));
+    stack.push_value(ValueFrame::Testing(turns - 1, condition, statements));
     Point::Evaluates(condition)
 }
 
@@ -188,10 +180,7 @@ pub fn declare(
     match declarations_at(&unit.code, declarations) {
         None => Point::Done(End::Next),
         Some(declaration) => {
-            stack.push_value(ValueFrame::Declaring(
-                declaration.target,
-                declaration.rest,
-            ));
+            stack.push_value(ValueFrame::Declaring(declaration.target, declaration.rest));
             Point::Evaluates(declaration.initial)
         }
     }

@@ -9,8 +9,8 @@ ghost use Rattle.rv_frames.specs.Rests.{is_next};
 ghost use Rattle.rv_machine.specs.Points.{control, Leads};
 ghost use Rattle.rv_machine.specs.Stacks.{below, operand_frame, value_frame, values_frame, HasRoom};
 
-use crate::frame::{Count, EndFrame, OperandFrame, ValueFrame, ValuesFrame};
 use crate::copying::copy_back;
+use crate::frame::{Count, EndFrame, OperandFrame, ValueFrame, ValuesFrame};
 use crate::point::Point;
 use crate::stack::Stack;
 use rv_event::entry::Exception;
@@ -187,7 +187,12 @@ pub fn take_value(
 }
 
 /// The value that a statement or a declaration waits for fails: so does the statement (11.4).
-pub fn fail_value(unit: &FlatUnit, activation: &Activation, frame: ValueFrame, cause: Cause) -> Point
+pub fn fail_value(
+    unit: &FlatUnit,
+    activation: &Activation,
+    frame: ValueFrame,
+    cause: Cause,
+) -> Point
     ensures { (fs : List Waiting) → Leads (comes (valued (Err cause) activation.now)) (value_frame (trees unit.now.code) frame ∷ fs) (control (trees unit.now.code) result activation.now) fs }
 {
     let _ = unit;

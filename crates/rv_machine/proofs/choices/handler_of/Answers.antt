@@ -16,4 +16,3 @@ handlers-preserved c = sym (handler_on _ _ _ _ c.in-Some.ensures.found (sym c.na
 
 pub returns-clause-none : goal.returns-clause-none
 returns-clause-none c = λ is. sym c.handlers.invariant ∙ handler_none _ _ (c.in_default.ensures.none refl)
-

@@ -16,4 +16,3 @@ choices-preserved c = sym (names_on _ _ _ _ c.in-Some.ensures.found (sym c.names
 
 pub returns : goal.returns
 returns c = sym (sym c.choices.invariant ∙ names_none _ _ (c.in_default.ensures.none refl))
-

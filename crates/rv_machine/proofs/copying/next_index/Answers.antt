@@ -1,4 +1,4 @@
-use Rattle.std.proofs.Common.{rules, arith, ◌≤◌, suc, length, refl}
+use Rattle.std.proofs.Common.{arith, ◌≤◌, suc, length}
 use Rattle.rv_machine.proofs.CopySteps.{beyond}
 use Rattle.rv_machine.proofs.copying.next_index.Goals as goal
 

@@ -11,4 +11,3 @@ returns-in_default-handler_of c = unhandled _ _ _ _ _ _ (sym c.raised.ensures âˆ
 
 pub returns : goal.returns
 returns c = handled _ _ _ _ _ _ _ _ _ (sym c.raised.ensures âˆ™ c.in-Some.is) c.in-Some-handler_of.ensures.found (restoring_on c.args.unit.now c.args.stack.now c.push_restoring.new.self _ c.push_restoring.ensures.frames c.push_restoring.ensures.activations) refl
-

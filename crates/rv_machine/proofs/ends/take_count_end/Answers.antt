@@ -7,4 +7,3 @@ returns-then-is_next c = λ fs. count_goes _ _ _ _ _ _ _ _ fs (sym c.is_next.ens
 
 pub returns-else-is_next : goal.returns-else-is_next
 returns-else-is_next c = λ fs. count_stops _ _ _ _ _ _ _ _ _ fs (sym c.is_next.ensures ∙ c.if-is_next.false) c.left_by.ensures
-

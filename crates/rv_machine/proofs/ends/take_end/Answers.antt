@@ -26,4 +26,3 @@ returns-in-Closing c = at_end c.args.unit.now _ _ _ _ _ _ c.in-Closing.is (body_
 
 pub returns-in-Quitting : goal.returns-in-Quitting
 returns-in-Quitting c = at_end c.args.unit.now _ _ _ _ _ _ c.in-Quitting.is (task_quits _ _ _ _ _ c.task_outcome.ensures)
-

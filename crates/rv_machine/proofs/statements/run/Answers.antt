@@ -37,4 +37,3 @@ returns-in-Reraise c = reraises _ _ _ _ _ c.in-Reraise.ensures c.raised_again.en
 
 pub returns-in-Call : goal.returns-in-Call
 returns-in-Call c = calls_of _ _ _ _ _ _ _ _ _ _ c.in-Call.ensures c.new.ensures (values_on c.args.unit.now c.args.stack.now c.push_values.new.self _ c.push_values.ensures.frames c.push_values.ensures.activations) (values_on c.args.unit.now c.push_values.new.self c.push_values-in-Call.new.self _ c.push_values-in-Call.ensures.frames c.push_values-in-Call.ensures.activations)
-

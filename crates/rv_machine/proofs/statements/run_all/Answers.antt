@@ -11,4 +11,3 @@ returns-in-None c = no_statement _ _ _ (c.in-None.ensures.none refl)
 
 pub returns-else-not-step : goal.returns-else-not-step
 returns-else-not-step c = next_statement _ _ _ _ _ _ _ c.in-Some.ensures.found (c.if-not-step.ensures.yes refl) (end_on c.args.unit.now c.args.stack.now c.push_end.new.self _ c.push_end.ensures.frames c.push_end.ensures.activations)
-

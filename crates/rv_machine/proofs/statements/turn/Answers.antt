@@ -8,4 +8,3 @@ returns-then-turns-eq0 c = no_turn _ _ _ _ _ c.if-turns-eq0.true
 
 pub returns : goal.returns
 returns c = next_turn _ (c.args.turns - 1) _ _ _ _ _ (one_less _ c.if-turns-eq0.false) (value_on c.args.unit.now c.args.stack.now c.push_value.new.self _ c.push_value.ensures.frames c.push_value.ensures.activations)
-

@@ -3,4 +3,3 @@ use Rattle.rv_machine.proofs.values.fail_operand.Goals as goal
 
 pub returns : goal.returns
 returns c = λ fs. operand_fails_so _ _ _ _ fs
-

@@ -10,4 +10,3 @@ returns-in-Giving c = λ fs. at_values _ _ _ _ _ _ _ c.in-Giving.is (giving_fail
 
 pub returns-in-Copying : goal.returns-in-Copying
 returns-in-Copying c = λ fs. at_values _ _ _ _ _ _ _ c.in-Copying.is (copying_fails _ _ _ fs)
-

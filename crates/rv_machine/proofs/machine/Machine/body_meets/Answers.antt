@@ -14,4 +14,3 @@ returns-in-Exiting c = met_exiting c.args.unit.now c.args.self.now.stack c.args.
 
 pub returns-in_default : goal.returns-in_default
 returns-in_default c = c.pass.ensures.below (closes c.args.outcome c.args.components c.args.steps) (takes_no_body _ c.in_default.not-Resuming c.in_default.not-Completing c.in_default.not-Exiting)
-

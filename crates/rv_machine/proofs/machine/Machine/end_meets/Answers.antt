@@ -1,7 +1,7 @@
 use Rattle.std.proofs.Common.{◌∙◌, ap}
 use Rattle.rv_exec.specs.declared.activation.Activation.{Activation}
 use Rattle.rv_flat.specs.FlatUnits.{flat_view}
-use Rattle.rv_frames.specs.Frames.{comes, valued, done, meant}
+use Rattle.rv_frames.specs.Frames.{comes, done, meant}
 use Rattle.rv_machine.specs.Stacks.{below}
 use Rattle.rv_machine.proofs.Meetings.{across, met_end, met_count, met_handling, takes_no_end}
 use Rattle.rv_machine.proofs.machine.Machine.end_meets.Goals as goal
@@ -17,4 +17,3 @@ returns-in-Handling c = met_handling c.args.unit.now c.args.self.now.stack (reco
 
 pub returns-in_default : goal.returns-in_default
 returns-in_default c = ap (λ (x : Activation). meant (flat_view c.args.unit.now) (comes (done c.args.end x)) (below c.args.unit.now c.pass.new.self.stack) c.pass.new.self.setting) c.pass.ensures.same ∙ c.pass.ensures.below (done c.args.end c.args.self.now.activation) (takes_no_end _ c.in_default.not-End c.in_default.not-Counting c.in_default.not-Handling)
-

@@ -19,4 +19,3 @@ returns-in-Counts c = moved c.args.unit.now c.args.self.now (record c.args.self.
 
 pub returns-in-Declares : goal.returns-in-Declares
 returns-in-Declares c = moved c.args.unit.now c.args.self.now (record c.args.self.now { point = c.declare-self.result; stack = c.declare-self.new.stack }) _ _ c.in-Declares.is refl (in_each _ _ _ _ _ c.declare-self.ensures)
-

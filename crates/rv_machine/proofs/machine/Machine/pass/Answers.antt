@@ -15,4 +15,3 @@ returns-in-Completing-clause-below c = λ now is. pass_completing c.args.unit.no
 
 pub returns-in_default-clause-below : goal.returns-in_default-clause-below
 returns-in_default-clause-below c = λ now is. pass_plain c.args.unit.now c.args.self.now.stack now c.args.self.now.setting _ c.in_default.not-Restoring c.in_default.not-Resuming c.in_default.not-Answering c.in_default.not-Completing is
-

@@ -1,7 +1,7 @@
 use Rattle.std.proofs.Common.{◌∙◌, ap}
 use Rattle.rv_exec.specs.declared.activation.Activation.{Activation}
 use Rattle.rv_flat.specs.FlatUnits.{flat_view}
-use Rattle.rv_frames.specs.Frames.{comes, valued, done, meant}
+use Rattle.rv_frames.specs.Frames.{comes, valued, meant}
 use Rattle.rv_machine.specs.Stacks.{below}
 use Rattle.rv_machine.proofs.Meetings.{across, met_operand, met_argument, met_value, takes_no_value}
 use Rattle.rv_machine.proofs.machine.Machine.value_meets.Goals as goal
@@ -17,4 +17,3 @@ returns-in-Value c = met_value c.args.unit.now c.args.self.now.stack (record c.a
 
 pub returns-in_default : goal.returns-in_default
 returns-in_default c = ap (λ (x : Activation). meant (flat_view c.args.unit.now) (comes (valued c.args.value x)) (below c.args.unit.now c.pass.new.self.stack) c.pass.new.self.setting) c.pass.ensures.same ∙ c.pass.ensures.below (valued c.args.value c.args.self.now.activation) (takes_no_value _ c.in_default.not-Operand c.in_default.not-Arguing c.in_default.not-Value)
-

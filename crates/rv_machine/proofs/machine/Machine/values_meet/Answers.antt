@@ -11,4 +11,3 @@ returns-in-Values c = met_values c.args.unit.now c.args.self.now.stack (record c
 
 pub returns-in_default : goal.returns-in_default
 returns-in_default c = ap (λ (x : Activation). meant (flat_view c.args.unit.now) (comes (listed c.args.outcome x)) (below c.args.unit.now c.pass.new.self.stack) c.pass.new.self.setting) c.pass.ensures.same ∙ c.pass.ensures.below (listed c.args.outcome c.args.self.now.activation) (takes_no_values _ c.in_default.not-Values)
-
