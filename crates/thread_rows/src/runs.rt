@@ -53,7 +53,10 @@ where
         errors: Vec::new(alloc),
     };
     let outcome = run(rt, hires, alloc, &mut keyboard, &mut outputs);
-    if outputs.errors.len() > 0 {
+    let is_lost = outputs.errors.len() > 0;
+    // It borrows the terminal, which is taken apart below.
+    drop(outputs);
+    if is_lost {
         return Ok(format!(in alloc; "{name}: ports were lost")?);
     }
     let told = told(alloc, outcome)?;
