@@ -98,7 +98,7 @@ for n in range(2, 60002): print(n, "operator tick 1 -> accepted 0")' >"$folder/t
 
     printf '@list\nallow * * *\n@run\ntick 1\nquit\n' >"$folder/in"
     run run
-    due "a run" 0 <(printf 'accepted 0\nentries 2\n') "$told"
+    due "a run" 0 <(printf 'accepted 0\nentries 3\n') "$told"
     ended_by_signal
 }
 
@@ -115,7 +115,7 @@ ended_by_signal() {
     wait "$starter"
     status=$?
     exec 5>&-
-    due "a run that SIGTERM ends" 0 <(printf 'accepted 0\nentries 2\n') "$told"
+    due "a run that SIGTERM ends" 0 <(printf 'accepted 0\nentries 3\n') "$told"
 }
 
 # A kit that can keep no trial: its `rt doc` names no page.
