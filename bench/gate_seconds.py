@@ -1,7 +1,7 @@
 #!/usr/bin/env python3
 """Processor seconds of the gate by crate: runs `rt ci`, or another command, and looks each second at its processes.
 
-    bench/gate_seconds.py [--keep FILE] [COMMAND..]     runs the command, and prints the table; the samples go to a file
+    bench/gate_seconds.py [--keep FILE] [COMMAND..]     runs the command, and prints the table; the samples go to a file, each minute
     bench/gate_seconds.py --read FILE                   prints the table of samples that were kept
 
 A proof is what builds a library or checks a program; tests are a second check of a crate with them; edits are the checks that
@@ -70,13 +70,25 @@ def look_at(process: int, seen: dict[str, list]) -> None:
         seen[f"{process}.{fields[19]}"] = [seconds, crate_of(words, folder), kind_of(words)]
 
 
-def sample(command: list[str]) -> dict[str, list]:
-    """Runs a command, and gives what each of its processes took."""
+def write_kept(seen: dict[str, list], keep: str | None) -> None:
+    """Writes what was seen so far into a file, where one is named: whole, or not at all."""
+    if keep:
+        with open(f"{keep}.new", "w", encoding="utf-8") as file:
+            json.dump(seen, file)
+        os.replace(f"{keep}.new", keep)
+
+
+def sample(command: list[str], keep: str | None) -> dict[str, list]:
+    """Runs a command, and gives what each of its processes took. It is kept each minute, so that nothing is lost where this ends."""
     seen: dict[str, list] = {}
     started = subprocess.Popen(command)
+    looks = 0
     while started.poll() is None:
         for process in descendants(started.pid)[1:]:
             look_at(process, seen)
+        looks += 1
+        if looks % 60 == 0:
+            write_kept(seen, keep)
         time.sleep(1)
     spent = resource.getrusage(resource.RUSAGE_CHILDREN)
     seen["all"] = [spent.ru_utime + spent.ru_stime, None, "all"]
@@ -111,10 +123,8 @@ def main(words: list[str]) -> int:
     if words[:1] and words[0].startswith("-"):
         print(__doc__, file=sys.stderr)
         return 2
-    seen = sample(words or ["rt", "ci"])
-    if keep:
-        with open(keep, "w", encoding="utf-8") as file:
-            json.dump(seen, file)
+    seen = sample(words or ["rt", "ci"], keep)
+    write_kept(seen, keep)
     print_table(seen)
     return 0
 
