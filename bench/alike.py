@@ -6,11 +6,15 @@
 OLD and NEW are programs, proved or trials, as crates/ravenhost/out/ravenhost or crates/ravenhost/out/trial/ravenhost of two
 checkouts. Each script of crates/rv_rows/data is played, checked, and judged with the journal that stands beside it, plainly and
 explained; and so are N scripts (2,000) drawn from them: lines and sections left out, doubled, moved or changed in a character,
-journals too, and units of a journal given in another order than it loads them. Runs on threads aren't compared here: their
-journals differ from run to run. Statuses: 0 all alike, 1 some differ, 2 usage.
+journals too, and units of a journal given in another order than it loads them; a load between two steps of texts that run; a halt
+at any step, also while an object is unsettled, behind which each actor's text goes on to its stop. The journal of each drawn script
+that is played is judged too, explained. The last line says how many of them have a load behind a step, and how many an unsettled
+object at their halt. Runs on threads aren't compared here: their journals differ from run to run. Statuses: 0 all alike, 1 some
+differ, 2 usage.
 """
 import argparse
 import random
+import re
 import subprocess
 import sys
 import tempfile
@@ -48,7 +52,7 @@ def units_of(script: bytes) -> list[bytes]:
 
 
 def with_journal(parts: list[bytes], journal: bytes) -> bytes:
-    return b"".join(it if it.endswith(b"\n") else it + b"\n" for it in parts) + b"@journal\n" + journal
+    return with_lines(parts) + b"@journal\n" + journal
 
 
 def of_row(script_file: Path) -> Iterator[Case]:
@@ -106,6 +110,60 @@ def drawn(draw: random.Random, files: list[Path]) -> Case:
     return Case(name, draw.choice((("play", "--all"), ("play",), ("check", "--explain"), ("check", "--script"), ("audit", "--explain"))), text)
 
 
+def parted_steps(draw: random.Random, script: bytes) -> tuple[list[bytes], list[bytes], list[bytes], list[bytes]] | None:
+    """A script cut within a section of steps: the sections before it, its lines up to there, those behind, the sections behind it."""
+    parts = sections(script)
+    places = [n for n, part in enumerate(parts) if part.startswith(b"@steps") and part.count(b"\n") > 1]
+    if not places:
+        return None
+    place = draw.choice(places)
+    lines = parts[place].splitlines(keepends=True)
+    cut = draw.randint(1, len(lines))
+    return parts[:place], lines[:cut], lines[cut:], parts[place + 1:]
+
+
+def with_load(draw: random.Random, files: list[Path]) -> Case | None:
+    """A row whose texts run, with a load between two of its steps: of a unit of another row."""
+    file = draw.choice(files)
+    script = file.read_bytes()
+    parted = parted_steps(draw, script) if re.search(rb"(?m)^\S+ go\b", script) else None
+    loads = [it for it in sections(draw.choice(files).read_bytes()) if it.startswith((b"@unit", b"@shape"))]
+    if not parted or not loads:
+        return None
+    before, lines, rest, behind = parted
+    return Case(f"a load within {file.stem}", ("play", "--all"), with_lines(before + [b"".join(lines), draw.choice(loads), b"@steps\n" + b"".join(rest)] + behind))
+
+
+def with_halt(draw: random.Random, files: list[Path]) -> Case | None:
+    """A row with a halt at one of its steps, behind which each of its actors goes on, twice through."""
+    file = draw.choice(files)
+    parted = parted_steps(draw, file.read_bytes())
+    if not parted:
+        return None
+    before, lines, rest, _ = parted
+    actors = sorted({line.split()[0] for line in lines + rest if len(line.split()) > 1 and line[:1] not in b"@o"})
+    ends = [b"%s %s\n" % (actor, what) for what in (b"settle", b"go 20", b"go 20", b"finish") for actor in actors]
+    return Case(f"a halt within {file.stem}", ("play", "--all"), with_lines(before + [b"".join(lines), b"operator halt\n" + b"".join(ends)]))
+
+
+def with_lines(parts: list[bytes]) -> bytes:
+    """Parts of a script, each with its last line feed."""
+    return b"".join(it if not it or it.endswith(b"\n") else it + b"\n" for it in parts)
+
+
+def journal_of(case: Case, printed: bytes) -> Case | None:
+    """The audit of what a script's play printed: its recorded lines, over the script's units."""
+    recorded = b"".join(line for line in printed.splitlines(keepends=True) if line[:1].isdigit())
+    if case.words[0] != "play" or not recorded:
+        return None
+    return Case(f"the journal of {case.name}", ("audit", "--explain"), with_journal(units_of(case.script), recorded))
+
+
+def is_unsettled_at_halt(journal: bytes) -> bool:
+    """Whether an object was unsettled when the host was halted: an end that dropped a caller right before, or a settle behind."""
+    return bool(re.search(rb"(?m)dropped .*\n(?:.*\n)*?\d+ operator halt(?:.*\n)*?\d+ \S+ settle -> d", journal))
+
+
 def outcome(program: Path, case: Case) -> tuple[object, bytes, bytes]:
     """What a program prints, and its status."""
     try:
@@ -127,14 +185,22 @@ def main() -> int:
     files = sorted(ROWS.glob("*.raven"))
     draw = random.Random(given.seed)
     cases = [case for file in files for case in of_row(file)] + [drawn(draw, files) for _ in range(given.drawn)]
+    cases += [case for make in (with_load, with_halt) for _ in range(given.drawn // 2) if (case := make(draw, files))]
 
-    def compare(case: Case) -> tuple[Case, object, object]:
-        return case, outcome(old, case), outcome(new, case)
+    def compare(case: Case) -> list[tuple[Case, object, object]]:
+        found = [(case, outcome(old, case), outcome(new, case))]
+        judged = journal_of(case, found[0][1][1])
+        if judged:
+            found.append((judged, outcome(old, judged), outcome(new, judged)))
+        return found
 
     statuses: Counter[object] = Counter()
-    differ = 0
+    differ = compared = within = unsettled = 0
     with ThreadPoolExecutor(given.jobs) as pool:
-        for case, one, other in pool.map(compare, cases):
+        for case, one, other in (it for found in pool.map(compare, cases) for it in found):
+            compared += 1
+            within += bool(re.search(rb"(?m)^\d+ \S+ (?!load|operator).*\n(?:.*\n)*?\d+ operator load", case.script))
+            unsettled += is_unsettled_at_halt(case.script)
             statuses[one[0]] += 1
             if one != other:
                 differ += 1
@@ -142,7 +208,8 @@ def main() -> int:
                     with tempfile.NamedTemporaryFile(prefix="alike-", suffix=".raven", delete=False) as kept:
                         kept.write(case.script)
                     print(f"{case.name}: {' '.join(case.words)} < {kept.name}\n  old {one}\n  new {other}")
-    print(f"{len(cases)} cases, {differ} differ; statuses {dict(sorted(statuses.items(), key=str))}")
+    print(f"{compared} cases, {differ} differ; journals with a load behind a step {within}, halted while an object was unsettled {unsettled};"
+          f" statuses {dict(sorted(statuses.items(), key=str))}")
     return 1 if differ else 0
 
 
