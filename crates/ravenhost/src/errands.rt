@@ -35,7 +35,10 @@ pub fn run_errand<R: Wait + Files + Input + Print + Eprint>(rt: &R, errand: Erra
     match errand {
         Errand::Input(mut speaker) => speaker.read_all(rt, &mut rt.reader()),
         Errand::Pipe(speaker, name) => wait_for(rt, speaker, name.as_str()),
-        Errand::Output(drain) => drain.write_all(rt, &mut io::writer(rt)),
+        Errand::Output(mut drain) => {
+            // The run is told of a failure, by its end of the output.
+            let _ = drain.write_all(rt, &mut io::writer(rt));
+        }
     }
 }
 
