@@ -33,9 +33,12 @@ fn wait_for<R: Files + Eprint>(rt: &R, speaker: Speaker, name: &str) {
 /// Does what is done beside a run.
 pub fn run_errand<R: Wait + Files + Input + Print + Eprint>(rt: &R, errand: Errand) {
     match errand {
-        Errand::Input(speaker) => speaker.read_all(rt, &mut rt.reader()),
+        Errand::Input(mut speaker) => speaker.read_all(rt, &mut rt.reader()),
         Errand::Pipe(speaker, name) => wait_for(rt, speaker, name.as_str()),
-        Errand::Output(drain) => drain.write_all(rt, &mut io::writer(rt)),
+        Errand::Output(mut drain) => {
+            // The run is told of a failure, by its end of the output.
+            let _ = drain.write_all(rt, &mut io::writer(rt));
+        }
     }
 }
 

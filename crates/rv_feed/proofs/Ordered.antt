@@ -1,97 +1,100 @@
 -- Each step on the channel keeps the order of what was read, and what is read is handed on.
-use Rattle.std.proofs.Common.{◌≡◌, ℕ, zero, suc, List, [], ◌∷◌, ◌++◌, Bool, true, false, Option, Some, None, inl, inr, refl, sym, ap, ◌∙◌, subst, append_assoc, append-nil}
+use Rattle.std.proofs.Common.{◌≡◌, ℕ, ◌≤◌, zero, suc, List, [], ◌∷◌, ◌++◌, Bool, true, false, Option, Some, None, inl, inr, refl, sym, ap, ◌∙◌, subst, append_assoc, append-nil, arith, Vec, Global}
 use Rattle.std.specs.Prelude.{slice_set}
 use Rattle.std.specs.Io.KnownBytes.{Consumes}
 use mathlib.Core.Option.{some, none}
 use lib.ListN.{get_elem?}
 use Rattle.crossbeam_channel.specs.Fifo.{Pushes}
-use Rattle.rv_feed.specs.Hearing.{HandsOn, ReadsPiece, Says}
-use Rattle.rv_feed.specs.Order.{AreInOrder, all_bytes, bytes_known, bytes_of, grown}
+use Rattle.rv_input.specs.declared.fault.InputFault.{InputFault}
+use Rattle.rv_feed.specs.Hearing.{HandsOn, HandsOnBut, ReadsPiece, Says, most_of_piece}
+use Rattle.rv_feed.specs.Order.{AreInOrder, all_bytes, bytes_of, grown, pieces_known}
 use Rattle.rv_feed.specs.declared.piece.Piece.{Piece}
 use Rattle.rv_feed.specs.declared.piece.Piece.TheVariants as Pieces
 use Rattle.rv_feed.specs.declared.rule.Known.{Known}
 use Rattle.rv_feed.specs.declared.rule.Known.TheVariants.{Nothing, Said, Heard}
 
-same_said : (a b : List ℕ) → some (Said a) ≡ some (Said b) → a ≡ b
+same_said : (a b : List Piece) → some (Said a) ≡ some (Said b) → a ≡ b
 same_said a b e = cc e
 
-not_fresh : (s : List ℕ) → some Nothing ≡ some (Said s) → ⊥
+not_fresh : (s : List Piece) → some Nothing ≡ some (Said s) → ⊥
 not_fresh s e = cc e
 
-not_heard : (h s : List ℕ) → some (Heard h) ≡ some (Said s) → ⊥
+not_heard : (h s : List Piece) → some (Heard h) ≡ some (Said s) → ⊥
 not_heard h s e = cc e
 
-no_view : (s : List ℕ) → none ≡ some (Said s) → ⊥
+no_view : (s : List Piece) → none ≡ some (Said s) → ⊥
 no_view s e = cc e
 
 -- before the ends are parted nobody has said anything
-alone : (s : List ℕ) (pass : ℕ) → get_elem? (Nothing ∷ []) pass ≡ some (Said s) → ⊥
+alone : (s : List Piece) (pass : ℕ) → get_elem? (Nothing ∷ []) pass ≡ some (Said s) → ⊥
 alone s zero at = not_fresh s at
 alone s (suc n) at = no_view s at
 
 -- who says is the first of the ends
-is_first : (said heard s : List ℕ) (pass : ℕ) → get_elem? (Said said ∷ Heard heard ∷ []) pass ≡ some (Said s) → (pass ≡ 0) × (said ≡ s)
+is_first : (said heard s : List Piece) (pass : ℕ) → get_elem? (Said said ∷ Heard heard ∷ []) pass ≡ some (Said s) → (pass ≡ 0) × (said ≡ s)
 is_first said heard s zero at = (refl, same_said said s at)
 is_first said heard s (suc zero) at = absurd (not_heard heard s at)
 is_first said heard s (suc (suc n)) at = absurd (no_view s at)
 
-all_more : (pieces : List Piece) (piece : Piece) → all_bytes (pieces ++ piece ∷ []) ≡ all_bytes pieces ++ bytes_of piece
-all_more [] piece = append-nil (bytes_of piece)
-all_more (first ∷ pieces) piece =
-    ap (λ (l : List ℕ). bytes_of first ++ l) (all_more pieces piece) ∙ sym (append_assoc (bytes_of first) (all_bytes pieces) (bytes_of piece))
-
 -- what is under way grows by what is handed on
-grows : (s said heard : List ℕ) (pieces : List Piece) (piece : Piece) → said ≡ s → said ≡ heard ++ all_bytes pieces
-    → s ++ bytes_of piece ≡ heard ++ all_bytes (pieces ++ piece ∷ [])
-grows s said heard pieces piece same is =
-    ap (λ (l : List ℕ). l ++ bytes_of piece) (sym same ∙ is)
-    ∙ (append_assoc heard (all_bytes pieces) (bytes_of piece) ∙ ap (λ (l : List ℕ). heard ++ l) (sym (all_more pieces piece)))
+grows : (s said heard under_way : List Piece) (piece : Piece) → said ≡ s → said ≡ heard ++ under_way → s ++ piece ∷ [] ≡ heard ++ (under_way ++ piece ∷ [])
+grows s said heard under_way piece same is = ap (λ (l : List Piece). l ++ piece ∷ []) (sym same ∙ is) ∙ append_assoc heard under_way (piece ∷ [])
 
-first_set : (views : List Known) (pass : ℕ) (said heard s : List ℕ) → views ≡ Said said ∷ Heard heard ∷ [] → pass ≡ 0
+first_set : (views : List Known) (pass : ℕ) (said heard s : List Piece) → views ≡ Said said ∷ Heard heard ∷ [] → pass ≡ 0
     → slice_set views pass (Said s) ≡ Said s ∷ Heard heard ∷ []
 first_set views pass said heard s are first =
     ap (λ (vs : List Known). slice_set vs pass (Said s)) are ∙ ap (λ (n : ℕ). slice_set (Said said ∷ Heard heard ∷ []) n (Said s)) first
 
-says_more : (n pass : ℕ) (s : List ℕ) (piece : Piece) → Pushes AreInOrder n pass (Said s) piece (λ w. w ≡ Said (s ++ bytes_of piece))
+says_more : (n pass : ℕ) (s : List Piece) (piece : Piece) → Pushes AreInOrder n pass (Said s) piece (λ w. w ≡ Said (s ++ piece ∷ []))
 says_more n pass s piece items views less holds at = by_rule holds
   where
-    by_parted : (said heard : List ℕ) → views ≡ Said said ∷ Heard heard ∷ [] → said ≡ heard ++ all_bytes items
-        → (w : Known) × AreInOrder (items ++ piece ∷ []) (slice_set views pass w) × (w ≡ Said (s ++ bytes_of piece))
+    by_parted : (said heard : List Piece) → views ≡ Said said ∷ Heard heard ∷ [] → said ≡ heard ++ items
+        → (w : Known) × AreInOrder (items ++ piece ∷ []) (slice_set views pass w) × (w ≡ Said (s ++ piece ∷ []))
     by_parted said heard are is =
         let first = is_first said heard s pass (subst (λ (vs : List Known). get_elem? vs pass ≡ some (Said s)) are at) in (
-          Said (s ++ bytes_of piece),
-          inr (s ++ bytes_of piece, heard, first_set views pass said heard (s ++ bytes_of piece) are first.0, grows s said heard items piece first.1 is),
+          Said (s ++ piece ∷ []),
+          inr (s ++ piece ∷ [], heard, first_set views pass said heard (s ++ piece ∷ []) are first.0, grows s said heard items piece first.1 is),
           refl,
         )
 
-    by_rule : AreInOrder items views → (w : Known) × AreInOrder (items ++ piece ∷ []) (slice_set views pass w) × (w ≡ Said (s ++ bytes_of piece))
+    by_rule : AreInOrder items views → (w : Known) × AreInOrder (items ++ piece ∷ []) (slice_set views pass w) × (w ≡ Said (s ++ piece ∷ []))
     by_rule (inl fresh) = absurd (alone s pass (subst (λ (vs : List Known). get_elem? vs pass ≡ some (Said s)) fresh.1 at))
     by_rule (inr (said, heard, are, is)) = by_parted said heard are is
 
 -- a piece may be handed on by the end that says
-pub handed : (n pass : ℕ) (view : Known) (piece : Piece) → view ≡ Said (bytes_known view)
-    → Pushes AreInOrder n pass view piece (λ w. w ≡ grown view (bytes_of piece))
-handed n pass view piece says =
-    subst (λ (v : Known). Pushes AreInOrder n pass v piece (λ w. w ≡ grown v (bytes_of piece))) (sym says) (says_more n pass (bytes_known view) piece)
+pub handed : (n pass : ℕ) (view : Known) (piece : Piece) → view ≡ Said (pieces_known view) → Pushes AreInOrder n pass view piece (λ w. w ≡ grown view piece)
+handed n pass view piece says = subst (λ (v : Known). Pushes AreInOrder n pass v piece (λ w. w ≡ grown v piece)) (sym says) (says_more n pass (pieces_known view) piece)
+
+-- What is read is handed on
+
+none_lost : 0 ≤ most_of_piece
+none_lost = omega arith
 
 -- nothing was read
-pub hands_nothing : (before : List ℕ) (old new : Option (List ℕ)) (read : Option Piece) → read ≡ None → ReadsPiece old new read → HandsOn before before old new
-hands_nothing before old new read over reads =
-    ([], [], sym (append-nil before), subst (λ (r : Option Piece). ReadsPiece old new r) over reads)
+pub hands_nothing : (before : List Piece) (old new : Option (List ℕ)) → ReadsPiece old new None → HandsOn before before old new
+hands_nothing before old new reads = ([], none_lost, ([], sym (append-nil before), reads))
 
-hands_so : (before after : List ℕ) (old new : Option (List ℕ)) (piece : Piece) (is_said : Bool) → ReadsPiece old new (Some piece) → Says before after piece is_said
-    → HandsOn before after old new
-hands_so before after old new (Pieces.Bytes bytes) true reads says =
-    (bytes.items, [], says, subst (λ (l : List ℕ). Consumes old new l) (sym (append-nil bytes.items)) reads)
-hands_so before after old new (Pieces.Bytes bytes) false reads says = ([], bytes.items, says ∙ sym (append-nil before), reads)
-hands_so before after old new (Pieces.Failed fault) true reads says = ([], reads.0, says, reads.1)
-hands_so before after old new (Pieces.Failed fault) false reads says = ([], reads.0, says ∙ sym (append-nil before), reads.1)
+-- bytes were read, and handed on
+pub hands_bytes : (before after : List Piece) (old new : Option (List ℕ)) (bytes : Vec ℕ Global) → ReadsPiece old new (Some (Pieces.Bytes bytes))
+    → Says before after (Pieces.Bytes bytes) true → HandsOnBut [] before after old new
+hands_bytes before after old new bytes reads says =
+    (Pieces.Bytes bytes ∷ [], says, subst (λ (l : List ℕ). Consumes old new l) (sym (append-nil (bytes.items ++ []) ∙ append-nil bytes.items)) reads.0)
 
--- a piece was read, and handed on unless nobody waits for it
-pub hands_piece : (before after : List ℕ) (old new : Option (List ℕ)) (read : Option Piece) (piece : Piece) (is_said : Bool) → read ≡ Some piece
-    → ReadsPiece old new read → Says before after piece is_said → HandsOn before after old new
-hands_piece before after old new read piece is_said is reads says =
-    hands_so before after old new piece is_said (subst (λ (r : Option Piece). ReadsPiece old new r) is reads) says
+-- unless nobody waits for them
+pub hands_read : (before after : List Piece) (old new : Option (List ℕ)) (bytes : Vec ℕ Global) (is_said : Bool) → ReadsPiece old new (Some (Pieces.Bytes bytes))
+    → Says before after (Pieces.Bytes bytes) is_said → HandsOn before after old new
+hands_read before after old new bytes true reads says = ([], none_lost, hands_bytes before after old new bytes reads says)
+hands_read before after old new bytes false reads says = (bytes.items, reads.1, ([], says ∙ sym (append-nil before), reads.0))
+
+-- a read failed
+pub hands_fault : (before after : List Piece) (old new : Option (List ℕ)) (fault : InputFault) (is_said : Bool) → ReadsPiece old new (Some (Pieces.Failed fault))
+    → Says before after (Pieces.Failed fault) is_said → HandsOn before after old new
+hands_fault before after old new fault true (lost, few, reads) says = (lost, few, (Pieces.Failed fault ∷ [], says, reads))
+hands_fault before after old new fault false (lost, few, reads) says = (lost, few, ([], says ∙ sym (append-nil before), reads))
+
+bytes_both : (xs ys : List Piece) → all_bytes (xs ++ ys) ≡ all_bytes xs ++ all_bytes ys
+bytes_both [] ys = refl
+bytes_both (x ∷ xs) ys = ap (λ (l : List ℕ). bytes_of x ++ l) (bytes_both xs ys) ∙ sym (append_assoc (bytes_of x) (all_bytes xs) (all_bytes ys))
 
 consumed_both : (a b c : Option (List ℕ)) (xs ys : List ℕ) → Consumes a b xs → Consumes b c ys → Consumes a c (xs ++ ys)
 consumed_both None b c xs ys p q = tt
@@ -99,8 +102,26 @@ consumed_both (Some x) None c xs ys p q = absurd p
 consumed_both (Some x) (Some y) None xs ys p q = absurd q
 consumed_both (Some x) (Some y) (Some z) xs ys p q = p ∙ (ap (λ (l : List ℕ). xs ++ l) q ∙ sym (append_assoc xs ys z))
 
--- what was read, and then more of it
-pub read_more : (first mid last : Option (List ℕ)) (bytes before after : List ℕ) → Consumes first mid bytes → HandsOn before after mid last
-    → (all : List ℕ) × Consumes first last all
-read_more first mid last bytes before after consumed (handed, lost, says, more) =
-    (bytes ++ (handed ++ lost), consumed_both first mid last bytes (handed ++ lost) consumed more)
+-- nothing yet
+pub hands_none : (before : List Piece) (left : Option (List ℕ)) → HandsOnBut [] before before left left
+hands_none before None = ([], sym (append-nil before), tt)
+hands_none before (Some left) = ([], sym (append-nil before), refl)
+
+-- what was handed on whole, and then more
+pub hands_more : (first mid last : Option (List ℕ)) (before between after : List Piece) (lost : List ℕ) → HandsOnBut [] before between first mid
+    → HandsOnBut lost between after mid last → HandsOnBut lost before after first last
+hands_more first mid last before between after lost (xs, says, reads) (ys, says_more, more) = (
+  xs ++ ys,
+  says_more ∙ (ap (λ (l : List Piece). l ++ ys) says ∙ append_assoc before xs ys),
+  subst (λ (l : List ℕ). Consumes first last l) whole (consumed_both first mid last (all_bytes xs ++ []) (all_bytes ys ++ lost) reads more),
+)
+  where
+    whole : (all_bytes xs ++ []) ++ (all_bytes ys ++ lost) ≡ all_bytes (xs ++ ys) ++ lost
+    whole =
+        ap (λ (l : List ℕ). l ++ (all_bytes ys ++ lost)) (append-nil (all_bytes xs))
+        ∙ (sym (append_assoc (all_bytes xs) (all_bytes ys) lost) ∙ ap (λ (l : List ℕ). l ++ lost) (sym (bytes_both xs ys)))
+
+-- and then the last
+pub hands_last : (first mid last : Option (List ℕ)) (before between after : List Piece) → HandsOnBut [] before between first mid → HandsOn between after mid last
+    → HandsOn before after first last
+hands_last first mid last before between after hands (lost, few, more) = (lost, few, hands_more first mid last before between after lost hands more)

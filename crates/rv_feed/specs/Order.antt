@@ -15,20 +15,20 @@ abbrev pub all_bytes : List Piece → List ℕ
 all_bytes [] = []
 all_bytes (piece ∷ pieces) = bytes_of piece ++ all_bytes pieces
 
--- the bytes that an end handed on or took
-abbrev pub bytes_known : Known → List ℕ
-bytes_known Nothing = []
-bytes_known (Said bytes) = bytes
-bytes_known (Heard bytes) = bytes
+-- the pieces that an end handed on or took
+abbrev pub pieces_known : Known → List Piece
+pieces_known Nothing = []
+pieces_known (Said pieces) = pieces
+pieces_known (Heard pieces) = pieces
 
--- what an end knows when it handed on or took more
-abbrev pub grown : Known → List ℕ → Known
-grown Nothing more = Nothing
-grown (Said bytes) more = Said (bytes ++ more)
-grown (Heard bytes) more = Heard (bytes ++ more)
+-- what an end knows when it handed on or took one more
+abbrev pub grown : Known → Piece → Known
+grown Nothing piece = Nothing
+grown (Said pieces) piece = Said (pieces ++ piece ∷ [])
+grown (Heard pieces) piece = Heard (pieces ++ piece ∷ [])
 
 -- The ends aren't parted, and nothing is under way; or what was taken, and behind it what is under way, is what was handed on.
 abbrev pub AreInOrder : List Piece → List Known → Type 0
-AreInOrder pieces ends =
-    ((pieces ≡ []) × (ends ≡ Nothing ∷ []))
-    ⊎ ((said : List ℕ) × (heard : List ℕ) × (ends ≡ Said said ∷ Heard heard ∷ []) × (said ≡ heard ++ all_bytes pieces))
+AreInOrder under_way ends =
+    ((under_way ≡ []) × (ends ≡ Nothing ∷ []))
+    ⊎ ((said : List Piece) × (heard : List Piece) × (ends ≡ Said said ∷ Heard heard ∷ []) × (said ≡ heard ++ under_way))

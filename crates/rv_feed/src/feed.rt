@@ -1,17 +1,18 @@
 //! The end that waits for an input.
 
-ghost use Rattle.std.specs.Prelude.{◌≡◌, IfOk};
-ghost use Rattle.rv_feed.specs.Hearing.{GivesOf, Hands, Hears, ReadsInTime, Takes, heard};
+ghost use Rattle.std.specs.Prelude.{◌≡◌};
+ghost use Rattle.rv_feed.specs.Hearing.{Hears, IsErrorOf, ReadsInTime, Takes, heard};
 
 use crate::pair::Feed;
 use crate::piece::Piece;
+use crate::rest::Rest;
 use crate::rule::Goes;
 use crossbeam_channel::TryRecvError;
 use rv_input::{Input, InputFault};
+use std::io;
 use std::io::ErrorKind;
 use std::sync::Wait;
 use std::time::{Clock, Duration};
-use std::{io, mem};
 
 /// What was found of an input.
 #[derive(Clone, Copy, Debug, PartialEq, Eq, Drop)]
@@ -22,6 +23,16 @@ pub enum Came {
     Nothing,
     /// The input is over.
     Over,
+}
+
+// The error that tells of a fault.
+fn error_of(fault: InputFault) -> io::Error
+    ensures { IsErrorOf fault result }
+{
+    match fault {
+        InputFault::Memory => io::Error::from(ErrorKind::OutOfMemory),
+        InputFault::Io(e) => e,
+    }
 }
 
 impl Feed {
@@ -77,59 +88,27 @@ impl Feed {
         matches!(self.bell.try_recv(rt), Err(TryRecvError::Disconnected))
     }
 
-    // Gives bytes, as many as a buffer holds, and keeps the others.
-    fn give(&mut self, bytes: &[u8], buf: &mut [u8]) -> io::Result<usize>
-        ensures gives { IfOk result (λ count. Hands bytes.now buf.new self.new.rest.items count) }
-        ensures heard { heard self.new ≡ heard self.old }
-    {
-        let count = bytes.len().min(buf.len());
-        let (first, others) = bytes.split_at(count);
-        buf[..count].copy_from_slice(first);
-        self.rest.clear();
-        match self.rest.extend_from_slice(others) {
-            Ok(()) => Ok(count),
-            Err(_) => Err(io::Error::from(ErrorKind::OutOfMemory)),
-        }
-    }
-
-    // Gives what came of a piece.
-    fn give_piece(&mut self, piece: Piece, buf: &mut [u8]) -> io::Result<usize>
-        ensures gives { IfOk result (GivesOf piece buf.new self.new.rest.items) }
-        ensures heard { heard self.new ≡ heard self.old }
-    {
-        match piece {
-            Piece::Bytes(bytes) => self.give(bytes.as_slice(), buf),
-            Piece::Failed(InputFault::Io(e)) => Err(e),
-            Piece::Failed(InputFault::Memory) => Err(io::Error::from(ErrorKind::OutOfMemory)),
-        }
-    }
-
-    // Reads what a piece left.
-    fn read_rest(&mut self, buf: &mut [u8]) -> io::Result<usize>
-        ensures gives { IfOk result (λ count. Hands self.old.rest.items buf.new self.new.rest.items count) }
-        ensures heard { heard self.new ≡ heard self.old }
-    {
-        let rest = mem::replace(&mut self.rest, Vec::new(self.alloc));
-        self.give(rest.as_slice(), buf)
-    }
-
     /// Reads the next bytes, for which it waits at most a while: 0 at the end, and none where nothing came.
     ///
     /// # Errors
-    /// As the read that failed, or for want of memory.
+    /// As the read that failed.
     pub(crate) fn read<R: Wait + Clock>(
         &mut self,
         rt: &R,
         most: Duration,
         buf: &mut [u8],
     ) -> io::Result<Option<usize>>
-        ensures { IfOk result (ReadsInTime (heard self.old) (heard self.new) self.old.rest.items buf.new self.new.rest.items) }
+        ensures { ReadsInTime (heard self.old) (heard self.new) self.old.rest buf.new self.new.rest result }
     {
-        if self.rest.len() > 0 {
-            return Ok(Some(self.read_rest(buf)?));
+        if !self.rest.is_empty() {
+            return Ok(Some(self.rest.give(buf)));
         }
         match self.next(rt, most) {
-            Ok(piece) => Ok(Some(self.give_piece(piece, buf)?)),
+            Ok(Piece::Bytes(bytes)) => {
+                self.rest = Rest::all_of(bytes);
+                Ok(Some(self.rest.give(buf)))
+            }
+            Ok(Piece::Failed(fault)) => Err(error_of(fault)),
             Err(TryRecvError::Disconnected) => Ok(Some(0)),
             Err(TryRecvError::Empty) => Ok(None),
         }

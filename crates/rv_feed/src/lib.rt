@@ -6,6 +6,7 @@ mod feed;
 mod listening;
 mod pair;
 mod piece;
+mod rest;
 mod rule;
 mod speaker;
 

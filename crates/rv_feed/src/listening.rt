@@ -1,7 +1,9 @@
 //! A feed as a reader, which waits for what comes, and a pipe beside it that ends it.
 
-ghost use Rattle.std.specs.Prelude.{◌≡◌, ◌≤◌, None, false, IfOk, length};
-ghost use Rattle.rv_feed.specs.Hearing.{Hears, Reads, heard};
+ghost use Rattle.std.specs.Prelude.{◌≡◌, None, false};
+ghost use Rattle.std.specs.Io.{ReadsAtMost};
+ghost use Rattle.std.specs.Io.KnownBytes.{ReadConsumes};
+ghost use Rattle.rv_feed.specs.Hearing.{Hears, ReadsUnlessStopped, heard};
 
 use crate::feed::Came;
 use crate::pair::Feed;
@@ -52,8 +54,7 @@ impl<R: Wait + Clock> Listening<'_, R> {
     /// # Errors
     /// As the read that failed, or for want of memory.
     pub fn read_next(&mut self, buf: &mut [u8]) -> io::Result<usize>
-        ensures bound { IfOk result (λ count. count ≤ length buf.new) }
-        ensures reads { IfOk result (Reads (heard self.old.feed) (heard self.new.feed) self.old.feed.rest.items buf.new self.new.feed.rest.items) }
+        ensures { ReadsUnlessStopped self.old.stop (heard self.old.feed) (heard self.new.feed) self.old.feed.rest buf.new self.new.feed.rest result }
     {
         for _ in self.rt.forever() {
             if self.is_stopped() {
@@ -70,7 +71,11 @@ impl<R: Wait + Clock> Listening<'_, R> {
 }
 
 impl<R: Wait + Clock> Read for Listening<'_, R> {
-    fn read(&mut self, buf: &mut [u8]) -> io::Result<usize> {
+    fn read(&mut self, buf: &mut [u8]) -> io::Result<usize>
+        ensures bound { ReadsAtMost result buf.new }
+        ensures bytes { ReadConsumes None None result buf.new }
+        ensures reads { ReadsUnlessStopped self.old.stop (heard self.old.feed) (heard self.new.feed) self.old.feed.rest buf.new self.new.feed.rest result }
+    {
         self.read_next(buf)
     }
 }

@@ -3,10 +3,11 @@
 ghost use Rattle.std.specs.Prelude.{◌≡◌, [], IfOk};
 ghost use Rattle.crossbeam_channel.specs.Claims.{view, IsSeatAt};
 ghost use Rattle.crossbeam_channel.specs.Ends.{receives_on, sends_on};
-ghost use Rattle.rv_feed.specs.Order.{bytes_known};
+ghost use Rattle.rv_feed.specs.Order.{pieces_known};
 ghost use Rattle.rv_feed.specs.declared.rule.Known.TheVariants.{Said, Heard};
 
 use crate::piece::Piece;
+use crate::rest::Rest;
 use crate::rule::{InOrder, Known, Parts};
 use crossbeam_channel::{
     Pass, Receiver, RuledReceiver, RuledSender, Sender, bounded, bounded_with,
@@ -25,7 +26,7 @@ pub struct Speaker {
     // Rings behind each piece. It is let go behind the pieces: who hears that it is gone finds that they are.
     pub(crate) bell: Sender<u8>,
     pub ghost at: { IsSeatAt (sends_on pieces) pass },
-    pub ghost says: { view pass ≡ Said (bytes_known (view pass)) },
+    pub ghost says: { view pass ≡ Said (pieces_known (view pass)) },
 }
 
 /// The end that waits for it.
@@ -36,19 +37,20 @@ pub struct Feed {
     pub(crate) pass: Pass<Piece, Known>,
     pub(crate) bell: Receiver<u8>,
     // What a read into a short buffer left of a piece.
-    pub(crate) rest: Vec<u8>,
+    pub(crate) rest: Rest,
     pub ghost at: { IsSeatAt (receives_on pieces) pass },
-    pub ghost hears: { view pass ≡ Heard (bytes_known (view pass)) },
+    pub ghost hears: { view pass ≡ Heard (pieces_known (view pass)) },
 }
 
-/// The two ends. Nothing was read yet.
+/// The two ends of one channel. Nothing was read yet.
 ///
 /// # Errors
 /// Where memory is refused.
 pub fn ends(alloc: Global) -> Result<(Speaker, Feed), AllocError>
-    ensures said { IfOk result (λ ends. bytes_known (view ends.0.pass) ≡ []) }
-    ensures heard { IfOk result (λ ends. bytes_known (view ends.1.pass) ≡ []) }
-    ensures rest { IfOk result (λ ends. ends.1.rest.items ≡ []) }
+    ensures one { IfOk result (λ ends. receives_on ends.1.pieces ≡ sends_on ends.0.pieces) }
+    ensures said { IfOk result (λ ends. pieces_known (view ends.0.pass) ≡ []) }
+    ensures heard { IfOk result (λ ends. pieces_known (view ends.1.pass) ≡ []) }
+    ensures rest { IfOk result (λ ends. ends.1.rest ≡ []) }
 {
     let (bell, rings) = bounded(alloc, 1)?;
     let (sender, receiver, mut pass): (
@@ -68,7 +70,7 @@ pub fn ends(alloc: Global) -> Result<(Speaker, Feed), AllocError>
         pieces: receiver,
         pass: other,
         bell: rings,
-        rest: Vec::new(alloc),
+        rest: Rest::none(alloc),
     };
     Ok((speaker, feed))
 }

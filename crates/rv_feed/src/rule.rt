@@ -8,13 +8,13 @@ use std::collections::LinkedList;
 pub enum Known {
     /// Nothing was handed on yet, and the ends aren't parted.
     Nothing,
-    /// The bytes that the end that reads handed on so far.
-    Said(LinkedList<u8>),
-    /// The bytes that the end that waits took so far.
-    Heard(LinkedList<u8>),
+    /// The pieces that the end that reads handed on so far.
+    Said(LinkedList<Piece>),
+    /// The pieces that the end that waits took so far.
+    Heard(LinkedList<Piece>),
 }
 
-/// Each byte that is handed on is taken once, in order.
+/// Each piece that is handed on is taken once, in order.
 pub struct InOrder;
 
 impl Protocol<Piece, Known> for InOrder {
@@ -43,9 +43,9 @@ pub struct Goes;
 
 impl Outcome<Piece, Known> for Goes {
     ghost use Rattle.std.specs.Prelude.{◌≡◌};
-    ghost use Rattle.rv_feed.specs.Order.{bytes_of, grown};
+    ghost use Rattle.rv_feed.specs.Order.{grown};
 
-    ghost then = { λ v piece w. w ≡ grown v (bytes_of piece) };
+    ghost then = { λ v piece w. w ≡ grown v piece };
 }
 
 impl Lesson<Piece, Known> for Goes {

@@ -1,8 +1,8 @@
 //! The end that reads an input.
 
-ghost use Rattle.std.specs.Prelude.{◌≤◌, ℕ, List, length};
+ghost use Rattle.std.specs.Prelude.{◌≡◌, ◌≤◌, ℕ, List, [], length, true};
 ghost use Rattle.std.specs.Io.KnownBytes.{Consumes};
-ghost use Rattle.rv_feed.specs.Hearing.{HandsOn, IsCopy, ReadsPiece, Says, said};
+ghost use Rattle.rv_feed.specs.Hearing.{HandsOn, HandsOnBut, IsCopy, ReadsPiece, Says, said};
 
 use crate::pair::Speaker;
 use crate::piece::Piece;
@@ -53,20 +53,24 @@ impl Speaker {
     }
 
     // Reads once, and hands on what comes. False at the end, behind a failure, and where nobody waits any more.
-    #[tactic(auto, using(crate::proofs::Ordered::hands_nothing, crate::proofs::Ordered::hands_piece))]
+    #[tactic(auto, using(crate::proofs::Ordered::hands_nothing, crate::proofs::Ordered::hands_bytes, crate::proofs::Ordered::hands_read, crate::proofs::Ordered::hands_fault))]
     fn read_on<R: Wait, I: Read>(&mut self, rt: &R, reader: &mut I) -> bool
-        ensures { HandsOn (said self.old) (said self.new) (I.remaining reader.old) (I.remaining reader.new) }
+        ensures hands { HandsOn (said self.old) (said self.new) (I.remaining reader.old) (I.remaining reader.new) }
+        ensures whole { result ≡ true → HandsOnBut [] (said self.old) (said self.new) (I.remaining reader.old) (I.remaining reader.new) }
     {
-        let Some(piece) = self.piece(reader) else {
-            return false;
-        };
-        let is_last = matches!(piece, Piece::Failed(_));
-        self.say(rt, piece) && !is_last
+        match self.piece(reader) {
+            None => false,
+            Some(Piece::Bytes(bytes)) => self.say(rt, Piece::Bytes(bytes)),
+            Some(Piece::Failed(fault)) => {
+                self.say(rt, Piece::Failed(fault));
+                false
+            }
+        }
     }
 
     /// Reads an input to its end, or until nobody waits for it, and hands on what comes.
-    pub fn read_all<R: Wait, I: Read>(mut self, rt: &R, reader: &mut I)
-        ensures { (bytes : List ℕ) × Consumes (I.remaining reader.old) (I.remaining reader.new) bytes }
+    pub fn read_all<R: Wait, I: Read>(&mut self, rt: &R, reader: &mut I)
+        ensures { HandsOn (said self.old) (said self.new) (I.remaining reader.old) (I.remaining reader.new) }
     {
         for _ in rt.forever() {
             if !self.read_on(rt, reader) {

@@ -1,2 +1,2 @@
-mod Handing
+pub mod Ordered
 pub mod Written

@@ -1,2 +1,3 @@
-pub mod Queueing
+pub mod Order
+pub mod Telling
 pub mod Writing

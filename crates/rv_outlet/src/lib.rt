@@ -1,9 +1,12 @@
-//! An output that a thread of its own writes, so that whoever writes to it never waits for a reader.
+//! An output that a thread of its own writes, so that whoever writes to it never waits for a reader. Each byte that is put there is
+//! taken once, in order, and written.
 #![tactic(auto)]
 
-pub mod laws;
+mod drain;
 mod outlet;
-mod queue;
+mod pair;
+mod rule;
+mod told;
 
-pub use outlet::{Drain, Outlet, ends};
-pub use queue::{MOST_BYTES, is_unread};
+pub use pair::{Drain, Outlet, ends};
+pub use told::{MOST_BYTES, is_unread};

@@ -1,16 +1,23 @@
+use Rattle.std.proofs.Common.{[], rules}
 use Rattle.rv_feed.specs.Hearing.{said}
-use Rattle.rv_feed.proofs.Ordered.{read_more}
+use Rattle.rv_feed.proofs.Ordered.{hands_last, hands_more, hands_none}
 use Rattle.rv_feed.proofs.pair.Speaker.read_all.Goals as goal
+
+pub loop-init : goal.loop-init
+loop-init g c = record {
+  goes = (tt, tt);
+  whole = hands_none (said c.args.self.now) (g.I.Read.remaining c.args.reader.now);
+}
 
 pub returns-then-not-read_on : goal.returns-then-not-read_on
 returns-then-not-read_on g c =
-    read_more (g.I.Read.remaining c.args.reader.now) (g.I.Read.remaining c.loop.reader) (g.I.Read.remaining c.read_on.new.reader)
-    c.loop.invariant.read.0 (said c.loop.self) (said c.read_on.new.self) c.loop.invariant.read.1 c.read_on.ensures
+    hands_last (g.I.Read.remaining c.args.reader.now) (g.I.Read.remaining c.loop.reader) (g.I.Read.remaining c.read_on.new.reader) (said c.args.self.now) (said c.loop.self)
+    (said c.read_on.new.self) c.loop.invariant.whole c.read_on.ensures.hands
 
 pub loop-preserved : goal.loop-preserved
 loop-preserved g c = record {
   goes = (tt, tt);
-  read =
-      read_more (g.I.Read.remaining c.args.reader.now) (g.I.Read.remaining c.loop.reader) (g.I.Read.remaining c.read_on.new.reader)
-      c.loop.invariant.read.0 (said c.loop.self) (said c.read_on.new.self) c.loop.invariant.read.1 c.read_on.ensures;
+  whole =
+      hands_more (g.I.Read.remaining c.args.reader.now) (g.I.Read.remaining c.loop.reader) (g.I.Read.remaining c.read_on.new.reader) (said c.args.self.now) (said c.loop.self)
+      (said c.read_on.new.self) [] c.loop.invariant.whole (c.read_on.ensures.whole (search rules));
 }
