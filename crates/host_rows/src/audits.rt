@@ -17,8 +17,7 @@ use crate::audits::script::{Script, script_of};
 use row_files::neighbours::Neighbours;
 use row_files::{bytes_of, names_before};
 use rv_audit::audit::Audit;
-use rv_audit::lines::judge_lines;
-use rv_audit::observer::Nobody;
+use rv_audit::journal::judge_text;
 use rv_audit::verdict::Verdict;
 use rv_event::text::text_of_answer;
 use rv_reading::entry::read_entry;
@@ -50,30 +49,12 @@ fn entries_read(alloc: Global, audit: &Audit, journal: &str) -> usize {
     entries
 }
 
-// The verdict on a journal over the units of a script. No read of a text fails.
-fn judged(alloc: Global, audit: &mut Audit, script: &Script<'_>, journal: &str) -> Verdict {
-    let mut bytes = journal.as_bytes();
-    let judged = judge_lines(
-        alloc,
-        audit,
-        script.units.as_slice(),
-        &mut bytes,
-        false,
-        &mut Nobody {},
-        &mut Nobody {},
-    );
-    match judged {
-        Ok((verdict, _)) => verdict,
-        Err(_) => Verdict::NoMemory,
-    }
-}
-
 // What is found of the journal of a script.
 fn found(alloc: Global, script: &Script<'_>) -> io::Result<String> {
     let Ok(mut audit) = Audit::new(alloc, script.capacity, script.limit) else {
         return String::from_str(alloc, "no audit\n").map_err(|e| io::Error::from(e));
     };
-    let verdict = judged(alloc, &mut audit, script, script.journal);
+    let verdict = judge_text(alloc, &mut audit, script.units.as_slice(), script.journal);
     if let Verdict::Legal(entries) = verdict {
         let read = entries_read(alloc, &audit, script.journal);
         if read != entries {
@@ -88,7 +69,7 @@ fn verdict_on(alloc: Global, script: &Script<'_>, journal: &str) -> io::Result<S
     let Ok(mut audit) = Audit::new(alloc, script.capacity, script.limit) else {
         return String::from_str(alloc, "no audit\n").map_err(|e| io::Error::from(e));
     };
-    let verdict = judged(alloc, &mut audit, script, journal);
+    let verdict = judge_text(alloc, &mut audit, script.units.as_slice(), journal);
     said(alloc, &audit, &verdict)
 }
 
