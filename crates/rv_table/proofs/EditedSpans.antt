@@ -1,6 +1,5 @@
 -- The spans of a list after an edit.
-use Rattle.std.proofs.Common.{◌≡◌, ℕ, ◌-◌, List, [], ◌∷◌, ◌++◌, true, Option, Some, None, take, drop, refl, ap, sym, ◌∙◌, subst}
-use Rattle.std.specs.List.{All}
+use Rattle.std.proofs.Common.{◌≡◌, ℕ, ◌-◌, List, ◌∷◌, true, Option, None, take, drop, ap, sym, subst}
 use Rattle.std.proofs.lemmas.List.Elements.{All-append, All-push, All-cons, All-take, All-drop}
 use Rattle.rv_access.specs.Words.{WindowWords, Words}
 use Rattle.rv_access.specs.Windows.{is_open}

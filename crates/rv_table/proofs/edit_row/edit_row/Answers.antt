@@ -1,8 +1,8 @@
-use Rattle.std.proofs.Common.{◌≡◌, ℕ, ◌-◌, ◌<◌, ◌≤◌, ◌∙◌, List, length, arith, ap, sym, subst}
+use Rattle.std.proofs.Common.{◌≡◌, ℕ, ◌-◌, ◌<◌, ◌≤◌, ◌∙◌, length, arith, ap, sym, subst}
 use Rattle.rv_table.specs.declared.edit.Edit.{Edit}
-use Rattle.rv_table.specs.declared.edit.Edit.TheVariants.{Append, Remove, Replace}
+use Rattle.rv_table.specs.declared.edit.Edit.TheVariants.{Append, Replace}
 use Rattle.rv_table.specs.Edits.{Brings, CanEdit, HasLine, edited}
-use Rattle.rv_table.specs.Rows.{IsRow, has, one, with_first, without}
+use Rattle.rv_table.specs.Rows.{IsRow, has, with_first, without}
 use Rattle.rv_table.proofs.Edited.{AreMarks, appended_row, removed_row, replaced_row}
 use Rattle.rv_table.proofs.edit_row.edit_row.Goals as goal
 

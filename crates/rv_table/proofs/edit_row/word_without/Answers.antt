@@ -1,4 +1,4 @@
-use Rattle.std.proofs.Common.{◌≡◌, ◌/◌, ap, sym, ◌∙◌}
+use Rattle.std.proofs.Common.{ap, ◌∙◌}
 use Rattle.std.specs.Int.{bit_at}
 use Rattle.rv_table.proofs.Bits.{word_less}
 use Rattle.rv_table.proofs.edit_row.word_without.Goals as goal

@@ -1,6 +1,4 @@
-use Rattle.std.proofs.Common.{◌≡◌, ◌<◌, ◌∙◌, ℕ, [], List, Option, Some, None, length, get_or, sym, subst, arith}
-use Rattle.std.specs.Prelude.{slice_get}
-use Rattle.std.specs.Option.{option_copied}
+use Rattle.std.proofs.Common.{◌∙◌, [], arith}
 use Rattle.rv_table.specs.Edits.{edited}
 use Rattle.rv_table.specs.Tables.{IsCaller, callers}
 use Rattle.rv_table.proofs.Halves.{half_none, half_step, half_all}

@@ -1,6 +1,5 @@
-use Rattle.std.proofs.Common.{◌≡◌, ◌<◌, ◌+◌, ◌-◌, ◌∙◌, ℕ, List, length, ap, sym, arith}
-use Rattle.std.specs.Prelude.{slice_get}
-use Rattle.rv_shape.specs.Catalogue.{all_objects, numbered}
+use Rattle.std.proofs.Common.{◌∙◌, arith}
+use Rattle.rv_shape.specs.Catalogue.{all_objects}
 use Rattle.rv_table.specs.Edits.{edited}
 use Rattle.rv_table.specs.Tables.{AreSites}
 use Rattle.rv_table.proofs.Callers.{numbered_next}

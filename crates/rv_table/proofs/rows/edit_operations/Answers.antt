@@ -1,4 +1,4 @@
-use Rattle.std.proofs.Common.{◌≡◌, ◌<◌, ◌∙◌, ℕ, [], List, length, arith, ap, sym, subst}
+use Rattle.std.proofs.Common.{◌∙◌, ℕ, [], List, arith, subst}
 use Rattle.rv_access.specs.Lines.{fits}
 use Rattle.rv_access.specs.Words.{Words}
 use Rattle.rv_shape.specs.Catalogue.{dotted}

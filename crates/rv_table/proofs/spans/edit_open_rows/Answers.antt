@@ -1,5 +1,5 @@
-use Rattle.std.proofs.Common.{◌≡◌, ◌<◌, ℕ, [], List, true, Option, None, length, arith, refl, ap, sym, ◌∙◌}
-use Rattle.rv_table.specs.Edits.{Brings, CanEdit, edited}
+use Rattle.std.proofs.Common.{[], arith}
+use Rattle.rv_table.specs.Edits.{edited}
 use Rattle.rv_table.specs.Rows.{is_open_at}
 use Rattle.rv_table.specs.Spans.{IsOpenRow}
 use Rattle.rv_table.proofs.EditedSpans.{always_open}

@@ -1,13 +1,11 @@
-use Rattle.std.proofs.Common.{◌≡◌, ◌≤◌, ◌∙◌, [], ℕ, List, length, ap, subst, sym, arith}
+use Rattle.std.proofs.Common.{◌≡◌, ◌≤◌, ◌∙◌, ℕ, List, length, ap, subst, sym, arith}
 use Rattle.std.specs.List.{AllZip}
 use Rattle.std.specs.Vec.{with_items}
 use Rattle.std.proofs.lemmas.List.{with_items_is}
-use Rattle.rv_access.specs.Words.{Words}
 use Rattle.rv_shape.specs.Catalogue.{all_objects}
 use Rattle.rv_shape.specs.Shape.{Shape}
 use Rattle.rv_table.specs.Edits.{CanEdit, edited, lines_after}
-use Rattle.rv_table.specs.Rows.{IsRow, is_allowing}
-use Rattle.rv_table.specs.Spans.{IsSpans}
+use Rattle.rv_table.specs.Rows.{is_allowing}
 use Rattle.rv_table.specs.Tables.{AreSites, IsCaller, IsTable, callers}
 use Rattle.rv_table.proofs.Edited.{edited_few, edited_long}
 use Rattle.rv_table.proofs.table.Table.edit.Goals as goal
