@@ -6,3 +6,8 @@ mod Grown
 mod Shared
 mod Reached
 mod Ends
+mod Bits
+mod Callers
+mod Edited
+mod EditedSpans
+mod Halves

@@ -1,3 +1,4 @@
+pub mod Edits
 pub mod Rows
 pub mod Spans
 pub mod Tables

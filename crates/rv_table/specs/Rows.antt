@@ -1,5 +1,5 @@
 -- Rows of marks: a bit for each line of a list, the last line first (own).
-use Rattle.std.specs.Prelude.{ℕ, ◌≡◌, ◌<◌, ◌≤◌, ◌-◌, Bool, true, false, ◌&&◌, length, List, ◌/◌, ◌%◌, slice_index_or, bit_and}
+use Rattle.std.specs.Prelude.{ℕ, ◌≡◌, ◌<◌, ◌≤◌, ◌+◌, ◌-◌, ◌*◌, ◌==◌, nat_lt, if◌then◌else◌, Bool, true, false, ◌&&◌, length, List, ◌/◌, ◌%◌, slice_index_or, bit_and}
 use Rattle.std.specs.Int.{bit_at}
 use Rattle.rv_access.specs.Words.{Words}
 use Rattle.rv_access.specs.Windows.{is_open}
@@ -25,6 +25,18 @@ one false = 0
 pub record IsRow (passes : Words → Bool) (list : List Words) (words : List ℕ) : Type 0 where
   pub lines : (d : Words) (i : ℕ) → i < length list → has words (length list - 1 - i) ≡ one (passes (slice_index_or list i d))
   pub behind : (j : ℕ) → length list ≤ j → has words j ≡ 0
+
+-- the marks with one before them
+abbrev pub with_first : Bool → List ℕ → ℕ → ℕ
+with_first is_marked words place = if place == 0 then one is_marked else has words (place - 1)
+
+-- the marks without that of a place: those behind it move up to it
+abbrev pub without : ℕ → List ℕ → ℕ → ℕ
+without gone words place = if nat_lt place gone then has words place else has words (place + 1)
+
+-- the bits of a word of these marks
+abbrev pub IsWord : (ℕ → ℕ) → ℕ → ℕ → Type 0
+IsWord marks w word = (bit : ℕ) → bit < 64 → bit_at word bit ≡ marks (64 * w + bit)
 
 -- a line is of a caller
 abbrev pub of_caller : List ℕ → Words → Bool

@@ -16,8 +16,8 @@ pub(crate) const WORDS: usize = MOST_LINES / 64;
 /// The marks of the lines of a list.
 pub(crate) type Row = [u64; WORDS];
 
-// Sets one mark.
-fn mark(words: &mut Row, place: usize)
+/// Sets one mark.
+pub(crate) fn mark(words: &mut Row, place: usize)
     requires { place < most_lines }
     ensures here { has words.new place ≡ 1 }
     ensures others { (other : ℕ) → other ≢ place → has words.new other ≡ has words.old other }

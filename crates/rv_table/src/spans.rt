@@ -5,9 +5,12 @@ ghost use Rattle.std.specs.List.{All, AllZip};
 ghost use Rattle.std.specs.List.Sorted.{IsNonDecreasing};
 ghost use Rattle.rv_access.specs.Limits.{most_lines};
 ghost use Rattle.rv_access.specs.Words.{Words};
+ghost use Rattle.rv_table.specs.Edits.{CanEdit, edited};
 ghost use Rattle.rv_table.specs.Rows.{IsRow, is_open_at, passes_both};
 ghost use Rattle.rv_table.specs.Spans.{AreEnds, HasEnds, IsOpenRow, IsSpan, IsSpans};
 
+use crate::edit::Edit;
+use crate::edit_row::edit_row;
 use crate::row::{Row, open_row, shared};
 use crate::rows::copy_rows;
 use rv_access::{AccessList, Line};
@@ -74,6 +77,18 @@ fn rows_of(alloc: Global, list: &AccessList, ends: &[u64]) -> Result<Vec<Row>, A
     Ok(rows)
 }
 
+// Makes rows of the lines that are open, of a list of so many, those of the list after an edit. The line that the edit
+// brings is always open, since it has no window.
+fn edit_open_rows(rows: &mut [Row], edit: Edit<'_>, lines: usize)
+    requires { CanEdit edit lines }
+    ensures { (list : List Words) (ticks : List ℕ) → lines ≡ length list → AllZip (IsOpenRow list) ticks rows.old
+        → AllZip (IsOpenRow (edited edit.entry list)) ticks rows.new }
+{
+    for i in 0..rows.len() {
+        edit_row(&mut rows[i], edit, lines, true);
+    }
+}
+
 // How many of the ends a tick has reached: at most 11 of 1,024 are looked at.
 fn span_of(ends: &[u64], tick: u64) -> usize
     requires { IsNonDecreasing ends.now }
@@ -102,12 +117,22 @@ impl Spans {
         Ok(Spans { ends, rows })
     }
 
+    /// Makes the spans of a list of so many lines those of the list after an edit. The ends of the window of a line that it
+    /// takes stay.
+    pub fn edit(&mut self, edit: Edit<'_>, lines: usize)
+        requires { CanEdit edit lines }
+        ensures { (list : List Words) → lines ≡ length list → IsSpans list self.old → IsSpans (edited edit.entry list) self.new }
+    {
+        edit_open_rows(&mut self.rows, edit, lines);
+    }
+
     // The lines that are open at a tick.
     fn row(&self, tick: u64) -> &Row
         ensures { (list : List Words) → IsSpans list self.now → IsRow (is_open_at tick) list result.now }
     {
         &self.rows[span_of(&self.ends, tick)]
     }
+
     /// Those of the lines of a row that are open at a tick. Where no line has a window, they are all.
     pub fn open_of(&self, ours: &Row, tick: u64) -> Row
         ensures { (list : List Words) (first : Words → Bool) → length list ≤ most_lines → IsSpans list self.now

@@ -6,10 +6,15 @@ ghost use Rattle.rv_access.specs.Limits.{most_lines};
 ghost use Rattle.rv_access.specs.Words.{Words};
 ghost use Rattle.rv_shape.specs.Catalogue.{target};
 ghost use Rattle.rv_shape.specs.Shape.{Shape};
+ghost use Rattle.rv_table.specs.Edits.{CanEdit, edited};
 ghost use Rattle.rv_table.specs.Tables.{IsCaller, IsTable, allowed, decided, decided_at, granted, granted_at, row_of};
 
+use crate::edit::Edit;
+use crate::edit_row::edit_row;
 use crate::row::{Row, allowing_row, caller_row, deciding, is_marked};
-use crate::rows::{ObjectRows, caller_rows, callers_with, object_rows, objects_with};
+use crate::rows::{
+    ObjectRows, caller_rows, callers_with, edit_callers, edit_objects, object_rows, objects_with,
+};
 use crate::spans::Spans;
 use rv_access::{AccessList, MOST_LINES};
 use rv_shape::catalogue::Catalogue;
@@ -93,6 +98,22 @@ impl Table {
             spans: self.spans.copy(alloc)?,
             lines: self.lines,
         })
+    }
+
+    /// Makes it the table of the list after an edit of one of its lines: a bit a row. There must be a line of the number that
+    /// the edit names, or room for one more, and the line that it brings must have no window. The catalogue must be that of
+    /// the table.
+    pub fn edit(&mut self, edit: Edit<'_>, catalogue: &Catalogue)
+        requires { CanEdit edit self.old.lines }
+        ensures { (list : List Words) → IsTable list catalogue.now self.old → IsTable (edited edit.entry list) catalogue.now self.new }
+    {
+        let lines = self.lines;
+        edit_callers(&mut self.callers, edit, lines, catalogue.shapes());
+        edit_objects(&mut self.objects, edit, lines, catalogue);
+        edit_row(&mut self.nameless, edit, lines, edit.is_of_caller(""));
+        edit_row(&mut self.allowing, edit, lines, edit.allows());
+        self.spans.edit(edit, lines);
+        self.lines = edit.lines_after(lines);
     }
 
     // The row of a unit, or of `Interrupts`.
