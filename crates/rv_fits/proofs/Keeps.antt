@@ -9,7 +9,7 @@ use Rattle.rv_code.specs.declared.expression.Callee.{Callee}
 use Rattle.rv_code.specs.declared.expression.Callee.TheVariants as callee
 use Rattle.rv_code.specs.Expressions.{Expression, literal, variable, component, prefixed, chain, within, call, Expressions, no_expressions, and_expression, Links, no_links, and_link}
 use Rattle.rv_code.specs.Statements.{Statement, null_statement, assign, choice, selection, while_loop, for_loop, exit_when, returns, returns_value, raises, reraises, calls, Statements, no_statements, and_statement, Branches, no_branches, and_branch, Alternatives, no_alternatives, and_alternative}
-use Rattle.rv_code.specs.Bodies.{Declaration, Handler, Body, UnitBodies, without_bodies}
+use Rattle.rv_code.specs.Bodies.{Body, UnitBodies, without_bodies}
 use Rattle.rv_fits.specs.Calls.{expression_calls, expressions_call, links_call, statement_calls, statements_call, branches_call, alternatives_call, declaration_calls, handler_calls, body_calls, object_calls, task_calls, every_call}
 use Rattle.rv_fits.specs.Fits.{calls_function, calls_procedure, calls_entry, is_suspension, callee_fits, calls_fit}
 use Rattle.rv_fits.proofs.Both.{first_of_both, second_of_both, both_hold}

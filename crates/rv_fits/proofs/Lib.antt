@@ -1,3 +1,4 @@
 pub mod Both
 pub mod Parts
 pub mod Keeps
+mod Behind

@@ -9,25 +9,25 @@ ghost use Rattle.rv_fits.specs.Fits.{callee_fits, calls_fit};
 
 use crate::expression::expression_fits;
 use crate::statement::statements_fit;
+use crate::units::Units;
 use rv_code::{Body, Declaration, Handler, ObjectBodies, UnitBodies};
-use rv_shape::catalogue::Catalogue;
 
 // A part of a unit's bodies.
 trait Part {
     // Whether each callee that it names is such a one.
     ghost calls: { (Callee → Bool) → Self → Bool };
 
-    // Whether its calls fit the catalogue.
-    fn fits(&self, catalogue: &Catalogue) -> bool
-        ensures { result ≡ calls (callee_fits catalogue.now) self.now };
+    // Whether its calls fit these units.
+    fn fits(&self, units: &Units<'_>) -> bool
+        ensures { result ≡ calls (callee_fits units.now) self.now };
 }
 
-// Whether the calls of all of these fit the catalogue.
-fn all_fit<T: Part>(parts: &[T], catalogue: &Catalogue) -> bool
-    ensures { result ≡ list_all (T.calls (callee_fits catalogue.now)) parts.now }
+// Whether the calls of all of these fit these units.
+fn all_fit<T: Part>(parts: &[T], units: &Units<'_>) -> bool
+    ensures { result ≡ list_all (T.calls (callee_fits units.now)) parts.now }
 {
     for part in parts {
-        if !part.fits(catalogue) {
+        if !part.fits(units) {
             return false;
         }
     }
@@ -37,16 +37,16 @@ fn all_fit<T: Part>(parts: &[T], catalogue: &Catalogue) -> bool
 impl Part for Declaration {
     ghost calls = { λ such d. declaration_calls such (declaration_view d) };
 
-    fn fits(&self, catalogue: &Catalogue) -> bool {
-        expression_fits(&self.initial, catalogue)
+    fn fits(&self, units: &Units<'_>) -> bool {
+        expression_fits(&self.initial, units)
     }
 }
 
 impl Part for Handler {
     ghost calls = { λ such h. handler_calls such (handler_view h) };
 
-    fn fits(&self, catalogue: &Catalogue) -> bool {
-        statements_fit(&self.statements, catalogue)
+    fn fits(&self, units: &Units<'_>) -> bool {
+        statements_fit(&self.statements, units)
     }
 }
 
@@ -54,9 +54,9 @@ impl Part for Body {
     ghost calls = { λ such b. body_calls such (body_view b) };
 
     #[tactic(auto, using(crate::proofs::Parts::mapped))]
-    fn fits(&self, catalogue: &Catalogue) -> bool {
-        all_fit(&self.declarations, catalogue)
-            && (statements_fit(&self.statements, catalogue) && all_fit(&self.handlers, catalogue))
+    fn fits(&self, units: &Units<'_>) -> bool {
+        all_fit(&self.declarations, units)
+            && (statements_fit(&self.statements, units) && all_fit(&self.handlers, units))
     }
 }
 
@@ -64,26 +64,26 @@ impl Part for ObjectBodies {
     ghost calls = { λ such o. object_calls such (object_view o) };
 
     #[tactic(auto, using(crate::proofs::Parts::mapped))]
-    fn fits(&self, catalogue: &Catalogue) -> bool {
-        all_fit(&self.operations, catalogue)
+    fn fits(&self, units: &Units<'_>) -> bool {
+        all_fit(&self.operations, units)
     }
 }
 
 impl Part for Option<Body> {
     ghost calls = { λ such o. task_calls such (maybe_body_view o) };
 
-    fn fits(&self, catalogue: &Catalogue) -> bool {
+    fn fits(&self, units: &Units<'_>) -> bool {
         match self {
-            Some(body) => body.fits(catalogue),
+            Some(body) => body.fits(units),
             None => true,
         }
     }
 }
 
-/// Whether the calls of a unit's bodies fit the catalogue: each names there what it is called for.
+/// Whether the calls of a unit's bodies fit these units: each names there what it is called for.
 #[tactic(auto, using(crate::proofs::Parts::mapped))]
-pub fn calls_fit(bodies: &UnitBodies, catalogue: &Catalogue) -> bool
-    ensures { result ≡ calls_fit catalogue.now (unit_view bodies.now) }
+pub(crate) fn calls_fit(bodies: &UnitBodies, units: &Units<'_>) -> bool
+    ensures { result ≡ calls_fit units.now (unit_view bodies.now) }
 {
-    all_fit(&bodies.objects, catalogue) && all_fit(&bodies.tasks, catalogue)
+    all_fit(&bodies.objects, units) && all_fit(&bodies.tasks, units)
 }

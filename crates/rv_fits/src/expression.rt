@@ -6,36 +6,36 @@ ghost use Rattle.rv_fits.specs.Calls.{expression_calls, expressions_call, links_
 ghost use Rattle.rv_fits.specs.Fits.{callee_fits};
 
 use crate::callee::callee_fits;
+use crate::units::Units;
 use rv_code::{Expression, Link};
-use rv_shape::catalogue::Catalogue;
 
 /// Whether the calls of an expression fit.
 #[cycle(expression)]
-pub(crate) fn expression_fits(e: &Expression, catalogue: &Catalogue) -> bool
-    ensures { result ≡ expression_calls (callee_fits catalogue.now) (expression_view e.now) }
+pub(crate) fn expression_fits(e: &Expression, units: &Units<'_>) -> bool
+    ensures { result ≡ expression_calls (callee_fits units.now) (expression_view e.now) }
 {
     match e {
         Expression::Value(_) => true,
         Expression::Variable(_) => true,
         Expression::Component(_) => true,
-        Expression::Prefixed(_, operand) => expression_fits(operand, catalogue),
+        Expression::Prefixed(_, operand) => expression_fits(operand, units),
         Expression::Chain(first, links) => {
-            expression_fits(first, catalogue) && links_fit(links, catalogue)
+            expression_fits(first, units) && links_fit(links, units)
         }
-        Expression::Within(_, operand) => expression_fits(operand, catalogue),
+        Expression::Within(_, operand) => expression_fits(operand, units),
         Expression::Call(callee, given) => {
-            callee_fits(callee, catalogue) && expressions_fit(given, catalogue)
+            callee_fits(callee, units) && expressions_fit(given, units)
         }
     }
 }
 
 /// Whether the calls of arguments fit.
 #[cycle(expression)]
-pub(crate) fn expressions_fit(es: &Vec<Expression>, catalogue: &Catalogue) -> bool
-    ensures { result ≡ expressions_call (callee_fits catalogue.now) (expressions_view es.now.items) }
+pub(crate) fn expressions_fit(es: &Vec<Expression>, units: &Units<'_>) -> bool
+    ensures { result ≡ expressions_call (callee_fits units.now) (expressions_view es.now.items) }
 {
     for e in es {
-        if !expression_fits(e, catalogue) {
+        if !expression_fits(e, units) {
             return false;
         }
     }
@@ -44,18 +44,18 @@ pub(crate) fn expressions_fit(es: &Vec<Expression>, catalogue: &Catalogue) -> bo
 
 #[cycle(expression)]
 #[tactic(auto, using(crate::proofs::Parts::link_calls))]
-fn link_fits(link: &Link, catalogue: &Catalogue) -> bool
-    ensures { result ≡ expression_calls (callee_fits catalogue.now) (link_view link.now).operand }
+fn link_fits(link: &Link, units: &Units<'_>) -> bool
+    ensures { result ≡ expression_calls (callee_fits units.now) (link_view link.now).operand }
 {
-    expression_fits(&link.operand, catalogue)
+    expression_fits(&link.operand, units)
 }
 
 #[cycle(expression)]
-fn links_fit(links: &Vec<Link>, catalogue: &Catalogue) -> bool
-    ensures { result ≡ links_call (callee_fits catalogue.now) (links_view links.now.items) }
+fn links_fit(links: &Vec<Link>, units: &Units<'_>) -> bool
+    ensures { result ≡ links_call (callee_fits units.now) (links_view links.now.items) }
 {
     for link in links {
-        if !link_fits(link, catalogue) {
+        if !link_fits(link, units) {
             return false;
         }
     }

@@ -9,5 +9,4 @@ pub mod laws;
 mod statement;
 mod units;
 
-pub use body::calls_fit;
 pub use units::{may_load, with_unit};

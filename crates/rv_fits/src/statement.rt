@@ -8,32 +8,32 @@ ghost use Rattle.rv_fits.specs.Fits.{callee_fits};
 
 use crate::callee::callee_fits;
 use crate::expression::{expression_fits, expressions_fit};
+use crate::units::Units;
 use rv_code::{Alternative, Branch, Expression, Statement};
-use rv_shape::catalogue::Catalogue;
 
 // The calls of a loop's bounds (5.5).
-fn bounds_fit(low: &Expression, high: &Expression, catalogue: &Catalogue) -> bool
-    ensures { result ≡ (expression_calls (callee_fits catalogue.now) (expression_view low.now)
-        && expression_calls (callee_fits catalogue.now) (expression_view high.now)) }
+fn bounds_fit(low: &Expression, high: &Expression, units: &Units<'_>) -> bool
+    ensures { result ≡ (expression_calls (callee_fits units.now) (expression_view low.now)
+        && expression_calls (callee_fits units.now) (expression_view high.now)) }
 {
-    expression_fits(low, catalogue) && expression_fits(high, catalogue)
+    expression_fits(low, units) && expression_fits(high, units)
 }
 
 #[cycle(statement)]
-fn statement_fits(s: &Statement, catalogue: &Catalogue) -> bool
-    ensures { result ≡ statement_calls (callee_fits catalogue.now) (statement_view s.now) }
+fn statement_fits(s: &Statement, units: &Units<'_>) -> bool
+    ensures { result ≡ statement_calls (callee_fits units.now) (statement_view s.now) }
 {
     match s {
         Statement::Null => true,
-        Statement::Assign(_, e) => expression_fits(e, catalogue),
+        Statement::Assign(_, e) => expression_fits(e, units),
         Statement::If(branches, otherwise) => {
-            branches_fit(branches, catalogue) && statements_fit(otherwise, catalogue)
+            branches_fit(branches, units) && statements_fit(otherwise, units)
         }
         Statement::Case(selector, alternatives) => {
-            expression_fits(selector, catalogue) && alternatives_fit(alternatives, catalogue)
+            expression_fits(selector, units) && alternatives_fit(alternatives, units)
         }
         Statement::While(condition, statements) => {
-            expression_fits(condition, catalogue) && statements_fit(statements, catalogue)
+            expression_fits(condition, units) && statements_fit(statements, units)
         }
         Statement::For {
             parameter: _,
@@ -42,25 +42,25 @@ fn statement_fits(s: &Statement, catalogue: &Catalogue) -> bool
             low,
             high,
             statements,
-        } => { bounds_fit(low, high, catalogue) && statements_fit(statements, catalogue) }
-        Statement::ExitWhen(condition) => expression_fits(condition, catalogue),
+        } => { bounds_fit(low, high, units) && statements_fit(statements, units) }
+        Statement::ExitWhen(condition) => expression_fits(condition, units),
         Statement::Return => true,
-        Statement::ReturnValue(e) => expression_fits(e, catalogue),
+        Statement::ReturnValue(e) => expression_fits(e, units),
         Statement::Raise(_) => true,
         Statement::Reraise => true,
         Statement::Call(callee, given, _) => {
-            callee_fits(callee, catalogue) && expressions_fit(given, catalogue)
+            callee_fits(callee, units) && expressions_fit(given, units)
         }
     }
 }
 
 /// Whether the calls of statements fit.
 #[cycle(statement)]
-pub(crate) fn statements_fit(statements: &Vec<Statement>, catalogue: &Catalogue) -> bool
-    ensures { result ≡ statements_call (callee_fits catalogue.now) (statements_view statements.now.items) }
+pub(crate) fn statements_fit(statements: &Vec<Statement>, units: &Units<'_>) -> bool
+    ensures { result ≡ statements_call (callee_fits units.now) (statements_view statements.now.items) }
 {
     for s in statements {
-        if !statement_fits(s, catalogue) {
+        if !statement_fits(s, units) {
             return false;
         }
     }
@@ -69,19 +69,19 @@ pub(crate) fn statements_fit(statements: &Vec<Statement>, catalogue: &Catalogue)
 
 #[cycle(statement)]
 #[tactic(auto, using(crate::proofs::Parts::branch_calls))]
-fn branch_fits(branch: &Branch, catalogue: &Catalogue) -> bool
-    ensures { result ≡ (expression_calls (callee_fits catalogue.now) (branch_view branch.now).condition
-        && statements_call (callee_fits catalogue.now) (branch_view branch.now).statements) }
+fn branch_fits(branch: &Branch, units: &Units<'_>) -> bool
+    ensures { result ≡ (expression_calls (callee_fits units.now) (branch_view branch.now).condition
+        && statements_call (callee_fits units.now) (branch_view branch.now).statements) }
 {
-    expression_fits(&branch.condition, catalogue) && statements_fit(&branch.statements, catalogue)
+    expression_fits(&branch.condition, units) && statements_fit(&branch.statements, units)
 }
 
 #[cycle(statement)]
-fn branches_fit(branches: &Vec<Branch>, catalogue: &Catalogue) -> bool
-    ensures { result ≡ branches_call (callee_fits catalogue.now) (branches_view branches.now.items) }
+fn branches_fit(branches: &Vec<Branch>, units: &Units<'_>) -> bool
+    ensures { result ≡ branches_call (callee_fits units.now) (branches_view branches.now.items) }
 {
     for branch in branches {
-        if !branch_fits(branch, catalogue) {
+        if !branch_fits(branch, units) {
             return false;
         }
     }
@@ -89,11 +89,11 @@ fn branches_fit(branches: &Vec<Branch>, catalogue: &Catalogue) -> bool
 }
 
 #[cycle(statement)]
-fn alternatives_fit(alternatives: &Vec<Alternative>, catalogue: &Catalogue) -> bool
-    ensures { result ≡ alternatives_call (callee_fits catalogue.now) (alternatives_view alternatives.now.items) }
+fn alternatives_fit(alternatives: &Vec<Alternative>, units: &Units<'_>) -> bool
+    ensures { result ≡ alternatives_call (callee_fits units.now) (alternatives_view alternatives.now.items) }
 {
     for alternative in alternatives {
-        if !statements_fit(&alternative.statements, catalogue) {
+        if !statements_fit(&alternative.statements, units) {
             return false;
         }
     }

@@ -1,6 +1,6 @@
 -- The barrier of an object that was found by an operation of it.
 use Rattle.std.proofs.Common.{◌≡◌, ℕ, List, ap, sym}
-use Rattle.std.specs.Prelude.{ℤ, Option, Some}
+use Rattle.std.specs.Prelude.{ℤ, Option}
 use Rattle.rv_history.specs.Exclusion.{barrier_at, opens_on}
 use Rattle.rv_present.proofs.Sites.{object_found}
 use Rattle.rv_shape.specs.Catalogue.{OnProtected, Site, UnitObject, barrier, place, target}

@@ -5,5 +5,5 @@ use Rattle.rv_fits.proofs.body.all_fit.Given as goal
 
 abbrev pub invariant-loop-part : goal.invariant-loop-part
 invariant-loop-part g l =
-    list_all (g.T.Part.calls (callee_fits l.catalogue)) (drop l.part-index l.parts)
-    ≡ list_all (g.T.Part.calls (callee_fits l.catalogue)) l.parts
+    list_all (g.T.Part.calls (callee_fits l.units)) (drop l.part-index l.parts)
+    ≡ list_all (g.T.Part.calls (callee_fits l.units)) l.parts

@@ -6,10 +6,10 @@ use Rattle.rv_fits.proofs.expression.+expression.Given as goal
 
 abbrev pub invariant-expressions_fit-loop-e : goal.invariant-expressions_fit-loop-e
 invariant-expressions_fit-loop-e l =
-    expressions_call (callee_fits l.catalogue) (expressions_view (drop l.e-index l.e-items))
-    ≡ expressions_call (callee_fits l.catalogue) (expressions_view l.e-items)
+    expressions_call (callee_fits l.units) (expressions_view (drop l.e-index l.e-items))
+    ≡ expressions_call (callee_fits l.units) (expressions_view l.e-items)
 
 abbrev pub invariant-links_fit-loop-link : goal.invariant-links_fit-loop-link
 invariant-links_fit-loop-link l =
-    links_call (callee_fits l.catalogue) (links_view (drop l.link-index l.link-items))
-    ≡ links_call (callee_fits l.catalogue) (links_view l.link-items)
+    links_call (callee_fits l.units) (links_view (drop l.link-index l.link-items))
+    ≡ links_call (callee_fits l.units) (links_view l.link-items)

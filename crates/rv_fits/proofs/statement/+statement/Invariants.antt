@@ -6,15 +6,15 @@ use Rattle.rv_fits.proofs.statement.+statement.Given as goal
 
 abbrev pub invariant-statements_fit-loop-s : goal.invariant-statements_fit-loop-s
 invariant-statements_fit-loop-s l =
-    statements_call (callee_fits l.catalogue) (statements_view (drop l.s-index l.s-items))
-    ≡ statements_call (callee_fits l.catalogue) (statements_view l.s-items)
+    statements_call (callee_fits l.units) (statements_view (drop l.s-index l.s-items))
+    ≡ statements_call (callee_fits l.units) (statements_view l.s-items)
 
 abbrev pub invariant-branches_fit-loop-branch : goal.invariant-branches_fit-loop-branch
 invariant-branches_fit-loop-branch l =
-    branches_call (callee_fits l.catalogue) (branches_view (drop l.branch-index l.branch-items))
-    ≡ branches_call (callee_fits l.catalogue) (branches_view l.branch-items)
+    branches_call (callee_fits l.units) (branches_view (drop l.branch-index l.branch-items))
+    ≡ branches_call (callee_fits l.units) (branches_view l.branch-items)
 
 abbrev pub invariant-alternatives_fit-loop-alternative : goal.invariant-alternatives_fit-loop-alternative
 invariant-alternatives_fit-loop-alternative l =
-    alternatives_call (callee_fits l.catalogue) (alternatives_view (drop l.alternative-index l.alternative-items))
-    ≡ alternatives_call (callee_fits l.catalogue) (alternatives_view l.alternative-items)
+    alternatives_call (callee_fits l.units) (alternatives_view (drop l.alternative-index l.alternative-items))
+    ≡ alternatives_call (callee_fits l.units) (alternatives_view l.alternative-items)
