@@ -9,3 +9,4 @@ pub mod Whole
 pub mod Longest
 pub mod Standing
 pub mod Written
+pub mod Sections

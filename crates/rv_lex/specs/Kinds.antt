@@ -1,5 +1,5 @@
 -- How the reserved words and the delimiters are spelled.
-use Rattle.std.specs.Prelude.{ℕ, List, [], ◌∷◌, map, Option, None, Some, if◌then◌else◌, codes}
+use Rattle.std.specs.Prelude.{ℕ, ◌==◌, List, [], ◌∷◌, map, Option, None, Some, if◌then◌else◌, codes}
 use Rattle.std.specs.Str.{str_eq_ignore_ascii_case}
 use Rattle.rv_lex.specs.declared.kind.Kind.{Kind}
 use Rattle.rv_lex.specs.declared.kind.Kind.TheVariants as k
@@ -134,6 +134,15 @@ abbrev pub kind_in : List (Text × Kind) → Text → Option Kind
 kind_in [] text = None
 kind_in (entry ∷ entries) text =
     if str_eq_ignore_ascii_case text entry.0 then Some entry.1 else kind_in entries text
+
+-- the same, of the entries in the first section of a letter
+abbrev pub kind_by_letter : List (ℕ × List (Text × Kind)) → ℕ → Text → Option Kind
+kind_by_letter [] letter text = None
+kind_by_letter (section ∷ sections) letter text =
+    if section.0 == letter then kind_in section.1 text else kind_by_letter sections letter text
+
+unfoldable pub kind_in_section : List (ℕ × List (Text × Kind)) → ℕ → Text → Option Kind
+kind_in_section sections letter text = kind_by_letter sections letter text
 
 -- the kind among these that is spelled so
 unfoldable pub kind_spelled : List Kind → Text → Option Kind

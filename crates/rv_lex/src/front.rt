@@ -3,7 +3,7 @@
 ghost use Rattle.std.specs.Prelude.{◌≡◌, ◌<◌, ◌≤◌, length, map, take, slice_index, IfOk, IfSome, true, ◌==◌, if◌then◌else◌};
 ghost use Rattle.std.specs.Str.{str_eq_ignore_ascii_case};
 ghost use Rattle.rv_lex.specs.Characters as spec;
-ghost use Rattle.rv_lex.specs.Kinds.{kind_in, kind_spelled, reserved, compound, simple};
+ghost use Rattle.rv_lex.specs.Kinds.{kind_in, kind_in_section, kind_spelled, reserved, compound, simple};
 ghost use Rattle.rv_lex.specs.Front as front;
 
 use crate::fault::WordFault;
@@ -79,11 +79,25 @@ fn same_word(a: &[u8], b: &[u8]) -> bool
     a.eq_ignore_ascii_case(b)
 }
 
-#[tactic(auto, unfolding(crate::specs::Kinds::kind_spelled, crate::specs::Kinds::reserved, crate::specs::Kinds::spelling))]
+// The kind that the section of a letter has for the word.
+#[tactic(auto, unfolding(crate::specs::Kinds::kind_in_section))]
+fn lookup_section(mut sections: &[(u8, &[(&[u8], Kind)])], letter: u8, word: &[u8]) -> Option<Kind>
+    ensures { result ≡ kind_in_section (map (λ s. (s.0, map (λ e. (e.0.now, e.1)) s.1.now)) sections.entry.now) letter word.now }
+{
+    while let [section, rest @ ..] = sections {
+        if section.0 == letter {
+            return lookup(section.1, word);
+        }
+        sections = rest;
+    }
+    None
+}
+
+// The words that begin with another letter aren't looked at.
 fn reserved_kind(word: &[u8]) -> Option<Kind>
     ensures { result ≡ kind_spelled reserved word.now }
 {
-    lookup(&RESERVED, word)
+    lookup_section(&RESERVED, byte(word, 0).to_ascii_lowercase(), word)
 }
 
 #[tactic(auto, unfolding(crate::specs::Kinds::kind_spelled, crate::specs::Kinds::compound, crate::specs::Kinds::spelling))]

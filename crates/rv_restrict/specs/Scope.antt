@@ -114,6 +114,13 @@ is_among_before at n names = list_any (λ i. nat_lt i.at at && is_same_name i.te
 abbrev pub is_among_locals : ℕ → List ℕ → List Local → Bool
 is_among_locals at n locals = list_any (λ one. is_among_before at n (local_names one)) locals
 
+-- it is a protected type
+abbrev pub is_type : Local → Bool
+is_type (an_object names is_constant mark range value) = false
+is_type (local_pragma p) = false
+is_type (local_protected_unit u) = u.is_type
+is_type (local_task t) = false
+
 -- it is a protected type of this name, before a place
 abbrev pub is_local_type : ℕ → List ℕ → Local → Bool
 is_local_type at n (an_object names is_constant mark range value) = false

@@ -1,11 +1,12 @@
 //! Which marks of a block's declarations name protected types.
 
 ghost use Rattle.std.specs.Prelude.{◌≡◌, ◌∷◌, [], map};
+ghost use Rattle.std.specs.List.{list_any};
 ghost use Rattle.rv_tree.specs.NameView.{identifier_view, identifiers_view, name_view};
 ghost use Rattle.rv_tree.specs.DeclarationView.{parameter_view};
 ghost use Rattle.rv_tree.specs.BodyView.{local_view};
 ghost use Rattle.rv_tree.specs.UnitView.{unit_view};
-ghost use Rattle.rv_restrict.specs.Scope.{declared, unit_of, is_among_before, is_among_locals, is_local_type, is_among_local_types, is_type_before, type_named, names_protected_type};
+ghost use Rattle.rv_restrict.specs.Scope.{declared, unit_of, is_among_before, is_among_locals, is_type, is_local_type, is_among_local_types, is_type_before, type_named, names_protected_type};
 
 use crate::declared::{is_hidden, is_package_name, protected_unit};
 use rv_text::is_same_name;
@@ -47,6 +48,40 @@ fn is_among_local_types(at: usize, name: &str, locals: &Vec<Local>) -> bool
     locals.iter().any(|one| is_local_type(at, name, one))
 }
 
+// Whether it is a protected type.
+fn is_type(local: &Local) -> bool
+    ensures { result ≡ is_type (local_view local.now) }
+{
+    match local {
+        Local::Protected(unit) => unit.is_type,
+        _ => false,
+    }
+}
+
+/// Whether a protected type is among the declarations of a block.
+pub(crate) fn has_types(locals: &Vec<Local>) -> bool
+    ensures { result ≡ list_any is_type (map local_view locals.now.items) }
+{
+    for one in locals {
+        if is_type(one) {
+            return true;
+        }
+    }
+    false
+}
+
+// Whether a block declares a protected type of this name, before a place; whether any protected type is among its declarations,
+// without which they aren't searched.
+fn declares_type(at: usize, name: &str, locals: &Vec<Local>, types: bool) -> bool
+    requires { types ≡ list_any is_type (map local_view locals.now.items) }
+    ensures { result ≡ is_among_local_types at name.now (map local_view locals.now.items) }
+{
+    if !types {
+        return false;
+    }
+    is_among_local_types(at, name, locals)
+}
+
 // Whether the package declares a protected type by this name, before a place.
 fn is_type_before(tree: &UnitTree, at: usize, name: &str) -> bool
     ensures { result ≡ is_type_before at (unit_of (declared (unit_view tree.now) name.now)) }
@@ -63,13 +98,15 @@ fn is_simple_type(
     unit: &str,
     parameters: &[Parameter],
     locals: &Vec<Local>,
+    types: bool,
     mark: &Name,
 ) -> bool
+    requires { types ≡ list_any is_type (map local_view locals.now.items) }
     ensures { result ≡ type_named (unit_view tree.now) unit.now (map parameter_view parameters.now) (map local_view locals.now.items) (name_view mark.now) [] }
 {
     let at = mark.first.at;
     let name = mark.first.text.as_str();
-    if is_among_local_types(at, name, locals) {
+    if declares_type(at, name, locals, types) {
         return true;
     }
     is_type_before(tree, at, name)
@@ -97,19 +134,21 @@ fn is_expanded_type(
 }
 
 // Whether a mark names a protected type of the package or of its block, in the body of an operation with these parameters
-// of the protected unit of this name, or of the task of this name.
+// of the protected unit of this name, or of the task of this name; whether the block declares any.
 #[tactic(auto, unfolding(crate::specs::Scope::names_protected_type))]
 pub(crate) fn names_protected_type(
     tree: &UnitTree,
     unit: &str,
     parameters: &[Parameter],
     locals: &Vec<Local>,
+    types: bool,
     mark: &Name,
 ) -> bool
+    requires { types ≡ list_any is_type (map local_view locals.now.items) }
     ensures { result ≡ names_protected_type (unit_view tree.now) unit.now (map parameter_view parameters.now) (map local_view locals.now.items) (name_view mark.now) }
 {
     match mark.more.as_slice() {
-        [] => is_simple_type(tree, unit, parameters, locals, mark),
+        [] => is_simple_type(tree, unit, parameters, locals, types, mark),
         [inner] => is_expanded_type(tree, unit, parameters, locals, mark, inner),
         _ => false,
     }

@@ -1,6 +1,7 @@
 //! Violations in blocks, bodies and whole units.
 
 ghost use Rattle.std.specs.Prelude.{◌≡◌, ◌↔◌, not, map, None, IfSome};
+ghost use Rattle.std.specs.List.{list_any};
 ghost use Rattle.rv_tree.specs.Bodies as bodies;
 ghost use Rattle.rv_tree.specs.Units as units;
 ghost use Rattle.rv_tree.specs.NameView.{name_view, names_view};
@@ -10,14 +11,14 @@ ghost use Rattle.rv_tree.specs.BodyView.{local_view, block_view, operation_body_
 ghost use Rattle.rv_tree.specs.UnitView.{body_item_view, unit_view, context_item_view};
 ghost use Rattle.rv_restrict.specs.Conforms.{violations, Conforms, IsFirst};
 ghost use Rattle.rv_restrict.specs.Found.{earlier, broken_unless, first_of, each_noted};
-ghost use Rattle.rv_restrict.specs.Scope.{names_protected_type as protected_type_is_named};
+ghost use Rattle.rv_restrict.specs.Scope.{is_type, names_protected_type as protected_type_is_named};
 ghost use Rattle.rv_restrict.specs.declared.violation.Restriction.TheVariants.{NoLocalProtectedObjects};
 ghost use Rattle.rv_restrict.specs.UnitWalk.{local_noted, block_noted, barrier_noted, with_noted, operation_body_noted, protected_body_noted, item_noted, unit_noted, handler_noted, context_noted};
 
 use crate::barrier::is_simple_barrier;
 use crate::dependence::{is_dynamic_priorities, is_excluded};
 use crate::first::{First, Judged};
-use crate::mark::names_protected_type;
+use crate::mark::{has_types, names_protected_type};
 use crate::statement::statements;
 use crate::violation::{Restriction, Violation};
 use rv_tree::{
@@ -32,10 +33,12 @@ fn local_mark(
     unit: &str,
     parameters: &[Parameter],
     locals: &Vec<Local>,
+    types: bool,
     place: usize,
     mark: &Name,
     first: &mut First,
 )
+    requires { types ≡ list_any is_type (map local_view locals.now.items) }
     ensures { first.new ≡ broken_unless earlier
         (not (protected_type_is_named (unit_view tree.now) unit.now (map parameter_view parameters.now) (map local_view locals.now.items) (name_view mark.now)))
         NoLocalProtectedObjects place first.old }
@@ -44,19 +47,21 @@ fn local_mark(
     if first.precedes(Violation { restriction, place }) {
         return;
     }
-    let keeps = !names_protected_type(tree, unit, parameters, locals, mark);
+    let keeps = !names_protected_type(tree, unit, parameters, locals, types, mark);
     first.note_unless(keeps, restriction, place);
 }
 
-// A declaration of a block with these declarations.
+// A declaration of a block with these declarations; whether a protected type is among them.
 fn local(
     tree: &UnitTree,
     unit: &str,
     parameters: &[Parameter],
     locals: &Vec<Local>,
+    types: bool,
     local: &Local,
     first: &mut First,
 )
+    requires { types ≡ list_any is_type (map local_view locals.now.items) }
     ensures { first.new ≡ local_noted earlier (unit_view tree.now) unit.now (map parameter_view parameters.now) (map local_view locals.now.items) (local_view local.now) first.old }
 {
     match local {
@@ -66,7 +71,8 @@ fn local(
             value,
             ..
         } => {
-            local_mark(tree, unit, parameters, locals, local.place(), mark, first);
+            let place = local.place();
+            local_mark(tree, unit, parameters, locals, types, place, mark, first);
             first.maybe(range);
             first.maybe(value);
         }
@@ -95,8 +101,9 @@ fn locals(
 )
     ensures { first.new ≡ each_noted (local_noted earlier (unit_view tree.now) unit.now (map parameter_view parameters.now) (map local_view list.now.items)) (map local_view list.now.items) first.old }
 {
+    let types = has_types(list);
     for one in list {
-        local(tree, unit, parameters, list, one, first);
+        local(tree, unit, parameters, list, types, one, first);
     }
 }
 

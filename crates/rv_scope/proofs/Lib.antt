@@ -1,2 +1,3 @@
 pub mod Scopes
 pub mod BodyRegions
+pub mod Regions

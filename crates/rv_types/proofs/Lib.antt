@@ -2,3 +2,4 @@ pub mod Pushed
 pub mod Ended
 pub mod Chains
 pub mod Covered
+pub mod Found

@@ -1,4 +1,5 @@
 pub mod Points
+pub mod Rising
 pub mod StaticForm
 pub mod Typed
 pub mod TypedView

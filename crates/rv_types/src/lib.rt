@@ -14,6 +14,7 @@ mod coverage;
 mod covers;
 pub mod denoted;
 mod expression;
+mod locals;
 mod names;
 mod operators;
 pub mod point;

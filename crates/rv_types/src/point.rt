@@ -8,9 +8,10 @@ ghost use Rattle.rv_scope.specs.Visible.{visible};
 ghost use Rattle.rv_types.specs.Blocks.{hidden, revealed};
 ghost use Rattle.rv_types.specs.BodiesOf.{point_in};
 ghost use Rattle.rv_types.specs.Selectors.{constant_range, constant_subtype, declared_range};
-ghost use Rattle.rv_types.specs.Points.{PointView, static_meaning, point_meaning, denotes, denoted_by, profile, profile_of, shows_times, local_at, known_in, noting, taking_slot, has_slot, has_constant_slot, taking_constant, has_object_slot, taking_object, behind_parameters, in_bounds as inside_bounds, with_loop_parameter};
+ghost use Rattle.rv_types.specs.Points.{PointView, static_meaning, point_meaning, denotes, denoted_by, profile, profile_of, shows_times, known_in, noting, taking_slot, has_slot, has_constant_slot, taking_constant, has_object_slot, taking_object, behind_parameters, in_bounds as inside_bounds, with_loop_parameter};
 
 use crate::denoted::Denoted;
+use crate::locals::Locals;
 use crate::names::{denoted_by as denoted_declaration, profile_of as profile_of_declaration};
 use crate::refused::Refused;
 use crate::setting::Setting;
@@ -55,7 +56,7 @@ pub struct Point<'a> {
     pub scope: Scope<'a>,
     catalogue: &'a Catalogue,
     outline: &'a Outline,
-    locals: Vec<Local>,
+    locals: Locals,
     // Whether the operators of Ada.Real_Time are visible.
     times: bool,
     // The number of the protected object whose body it is in.
@@ -83,7 +84,7 @@ impl<'a> Model for Point<'a> {
     ghost view = { λ p. record {
       scope = p.scope;
       known = p.outline.now.known;
-      locals = p.locals.items;
+      locals = p.locals;
       units = p.outline.now.units;
       shapes = p.catalogue.now;
       times = p.times;
@@ -120,7 +121,7 @@ impl<'a> Point<'a> {
             scope,
             catalogue: setting.catalogue,
             outline: setting.outline,
-            locals: Vec::new(alloc),
+            locals: Locals::new(alloc),
             times: setting.times,
             object,
             slots: 0,
@@ -149,18 +150,6 @@ impl<'a> Point<'a> {
         scope
     }
 
-    // What is known of a declaration of the body.
-    fn local(&self, at: usize) -> Option<Known>
-        ensures { result ≡ local_at at self.now.locals }
-    {
-        for one in &self.locals {
-            if one.at == at {
-                return Some(one.known);
-            }
-        }
-        None
-    }
-
     /// What is known of a declaration, of the package or of the body.
     pub(crate) fn known(&self, at: usize) -> Option<Known>
         ensures { result ≡ known_in self.now at }
@@ -168,7 +157,7 @@ impl<'a> Point<'a> {
         if let Some(known) = self.outline.known().find(at) {
             return Some(known);
         }
-        self.local(at)
+        self.locals.find(at)
     }
 
     // What a declaration means in a static expression.
@@ -413,7 +402,7 @@ impl<'a> Point<'a> {
             self.old ≡ with_loop_parameter i range (inside_bounds i p) → self.new ≡ p }
     {
         self.scope.leave();
-        let _last = self.locals.pop();
+        self.locals.pop();
         self.slots = self.slots.saturating_sub(1);
     }
 }
