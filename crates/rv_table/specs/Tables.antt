@@ -1,5 +1,5 @@
 -- The table that an access list is compiled to, over the units that are loaded (own).
-use Rattle.std.specs.Prelude.{ℕ, ◌≡◌, ◌≤◌, Bool, false, ◌==◌, ◌-◌, if◌then◌else◌, length, List, [], ◌∷◌, map, codes, slice_get, Some, None, Option}
+use Rattle.std.specs.Prelude.{ℕ, ◌≡◌, ◌≤◌, Bool, false, length, List, [], ◌∷◌, map, codes, slice_get, Some, None, Option}
 use Rattle.std.specs.List.{AllZip}
 use Rattle.rv_access.specs.Limits.{most_lines}
 use Rattle.rv_access.specs.Words.{Words}
