@@ -1,10 +1,10 @@
 -- A list without windows decides the same at all ticks.
-use Rattle.std.proofs.Common.{◌≡◌, ℕ, ◌+◌, ◌-◌, List, [], ◌∷◌, Bool, false, refl, ap, sym, ◌∙◌, Option, None}
-use Rattle.std.specs.Prelude.{◌==◌, ◌&&◌, if◌then◌else◌, slice_get}
+use Rattle.std.proofs.Common.{◌≡◌, ℕ, ◌+◌, List, [], ◌∷◌, Bool, refl, ap, sym, ◌∙◌, Option, None}
+use Rattle.std.specs.Prelude.{◌==◌, ◌&&◌, if◌then◌else◌}
 use Rattle.std.proofs.lemmas.List.Elements.{All-head, All-tail}
 use Rattle.rv_access.specs.Words.{WindowWords, Words}
 use Rattle.rv_access.specs.Windows.{is_open}
-use Rattle.rv_access.specs.Lines.{allows, decides, fits, grants, matches}
+use Rattle.rv_access.specs.Lines.{allows, decides, fits, grants, line_at, matches}
 use Rattle.rv_access.specs.Timeless.{IsTimeless}
 
 matches_always : (line : Words) (unit object operation : List ℕ) (one other : ℕ) → line.window ≡ None → matches line unit object operation one ≡ matches line unit object operation other
@@ -21,4 +21,4 @@ same_line (line ∷ lines) unit object operation one other h =
 
 pub same_grant : (lines : List Words) (unit object operation : List ℕ) (one other : ℕ) → IsTimeless lines → grants lines unit object operation one ≡ grants lines unit object operation other
 same_grant lines unit object operation one other h =
-    ap (λ (n : ℕ). if n == 0 then false else allows (slice_get lines (n - 1))) (same_line lines unit object operation one other h)
+    ap (λ (n : ℕ). allows (line_at lines n)) (same_line lines unit object operation one other h)

@@ -32,6 +32,4 @@ line_at lines number = if number == 0 then None else slice_get lines (number - 1
 
 -- a call of the operation is granted to the unit at a tick
 abbrev pub grants : List Words → List ℕ → List ℕ → List ℕ → ℕ → Bool
-grants lines unit object operation tick =
-    let number = decides lines unit object operation tick in
-    if number == 0 then false else allows (slice_get lines (number - 1))
+grants lines unit object operation tick = allows (line_at lines (decides lines unit object operation tick))

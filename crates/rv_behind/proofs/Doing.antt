@@ -20,7 +20,7 @@ use Rattle.rv_history.specs.Due.{out, gate, within, nothing_more}
 use Rattle.rv_history.specs.Owed.{has_room}
 use Rattle.rv_history.specs.Legal as legal
 use Rattle.rv_history.specs.Legal.{Legal, out_load, after_load}
-use Rattle.rv_history.specs.Lists.{changed}
+use Rattle.rv_access.specs.Changes.{changed}
 use Rattle.rv_history.specs.Steps.{MayLackMemory, due_change, after_change}
 use Rattle.std.specs.Arc.{arc_value}
 use Rattle.std.specs.Prelude.{IfSome}

@@ -12,7 +12,7 @@ use Rattle.rv_history.specs.declared.limits.Limits.{Limits}
 use Rattle.rv_history.specs.History.{History, force}
 use Rattle.rv_history.specs.Due.{out}
 use Rattle.rv_history.specs.Legal.{Legal, out_load}
-use Rattle.rv_history.specs.Lists.{changed}
+use Rattle.rv_access.specs.Changes.{changed}
 use Rattle.rv_history.specs.Steps.{MayLackMemory, due_change}
 use Rattle.rv_host.specs.Pages.{page}
 use Rattle.rv_view.specs.Views.{shown}

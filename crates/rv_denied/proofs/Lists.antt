@@ -1,10 +1,10 @@
 -- A list that denies a unit everything grants it nothing.
-use Rattle.std.proofs.Common.{◌≡◌, ◌∙◌, ◌+◌, ◌-◌, ◌==◌, ◌&&◌, ◌||◌, ℕ, Bool, true, false, if◌then◌else◌, List, [], ◌∷◌, ◌++◌, ap, sym, refl, arith, codes, slice_get, true≢false, ◌⊎◌, inl, inr, add-one}
+use Rattle.std.proofs.Common.{◌≡◌, ◌∙◌, ◌+◌, ◌-◌, ◌==◌, ◌&&◌, ◌||◌, ℕ, Bool, true, false, if◌then◌else◌, List, [], ◌∷◌, ◌++◌, ap, sym, refl, arith, codes, slice_get, true≢false, ◌⊎◌, inl, inr, add-one, None}
 use Rattle.std.proofs.lemmas.Bool.Decides.{nat_tests}
 use Rattle.std.specs.List.{list_any}
 use Rattle.std.specs.Str.{bytes_eq}
 use Rattle.rv_shape.proofs.NumberingLemmas.{same_laws}
-use Rattle.rv_access.specs.Lines.{allows, decides, fits, grants, matches}
+use Rattle.rv_access.specs.Lines.{allows, decides, fits, grants, line_at, matches}
 use Rattle.rv_access.specs.Windows.{is_open}
 use Rattle.rv_access.specs.Words.{Words}
 use Rattle.rv_denied.specs.Denied.{DeniesAll, IsDenial, LastDenialStands, denial, may_grant}
@@ -107,8 +107,8 @@ not_granted : (lines : List Words) (unit object operation : List ℕ) (tick : �
 not_granted lines unit object operation tick d =
     let some : (d.place + 1 == 0) ≡ false = grind (arith, nat_tests) in
     let back : d.place + 1 - 1 ≡ d.place = omega arith in
-    ap (λ (n : ℕ). if n == 0 then false else allows (slice_get lines (n - 1))) d.is
-    ∙ ap (λ (t : Bool). if t then false else allows (slice_get lines (d.place + 1 - 1))) some
+    ap (λ (n : ℕ). allows (line_at lines n)) d.is
+    ∙ ap (λ (t : Bool). allows (if t then None else slice_get lines (d.place + 1 - 1))) some
     ∙ ap (λ (n : ℕ). allows (slice_get lines n)) back ∙ d.denies
 
 pub denied_grants : (list : List Words) (unit : List ℕ) → DeniesAll list unit → (object operation : List ℕ) (tick : ℕ)

@@ -16,7 +16,7 @@ use Rattle.rv_event.specs.declared.entry.Entry.TheVariants.{Load, ListChange}
 use Rattle.rv_history.specs.declared.command.Command.{Command}
 use Rattle.rv_history.specs.declared.command.Command.TheVariants as Commands
 use Rattle.rv_history.specs.History.{History, force}
-use Rattle.rv_history.specs.Lists.{changed}
+use Rattle.rv_access.specs.Changes.{changed}
 use Rattle.rv_history.specs.Due.{out, gate, within, nothing_more}
 use Rattle.rv_history.specs.Legal.{Legal, after_load, entered, line_limit, listed, out_list, out_load}
 use Rattle.rv_history.specs.Owed.{has_room}

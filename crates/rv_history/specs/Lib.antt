@@ -6,7 +6,6 @@ pub mod Rules
 pub mod Owed
 pub mod Fitting
 pub mod Due
-pub mod Lists
 pub mod Legal
 pub mod Steps
 pub mod Spelled

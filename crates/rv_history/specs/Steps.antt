@@ -6,7 +6,7 @@ use Rattle.rv_event.specs.declared.entry.Answer.TheVariants.{OutOfMemory}
 use Rattle.rv_history.specs.declared.command.Command.{Command}
 use Rattle.rv_history.specs.declared.command.Command.TheVariants as Commands
 use Rattle.rv_history.specs.History.{History, force}
-use Rattle.rv_history.specs.Lists.{changed}
+use Rattle.rv_access.specs.Changes.{changed}
 use Rattle.rv_history.specs.Due.{out, nothing_more}
 use Rattle.rv_history.specs.Legal.{after, out_load, after_load, out_list, after_list}
 

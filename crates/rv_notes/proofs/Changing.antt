@@ -7,7 +7,7 @@ use Rattle.rv_access.specs.Words.{Words}
 use Rattle.rv_shape.specs.Shape.{Shape}
 use Rattle.std.specs.Prelude.{IfOk, Option, Some, Result, Ok, Err}
 use Rattle.rv_access.specs.declared.change.Change.{Change}
-use Rattle.rv_notes.specs.Changes.{AreChangeNotes, AreNew, AreNewOf, IsNew, changed, line_changed}
+use Rattle.rv_notes.specs.Changes.{AreChangeNotes, AreNew, AreNewOf, IsNew, line_changed, made}
 use Rattle.rv_notes.specs.Notes.{AreNotes, Due, number_of, told}
 use Rattle.rv_notes.specs.declared.note.Note.{Note}
 
@@ -67,12 +67,12 @@ all_new shapes before after number found notes are so_far = record {
 }
 
 -- of the list that a change makes
-told_of : (shapes : List Shape) (before : List Words) (change : Change) (made : Option (List Words)) (after : List Words) (notes : List Note) → Some after ≡ made
-    → AreNew shapes before after (line_changed after change) notes → AreNewOf shapes before change made notes
-told_of shapes before change made after notes is are = subst (λ (o : Option (List Words)). AreNewOf shapes before change o notes) is are
+told_of : (shapes : List Shape) (before : List Words) (change : Change) (list : Option (List Words)) (after : List Words) (notes : List Note) → Some after ≡ list
+    → AreNew shapes before after (line_changed after change) notes → AreNewOf shapes before change list notes
+told_of shapes before change list after notes is are = subst (λ (o : Option (List Words)). AreNewOf shapes before change o notes) is are
 
-pub change_told : {X E : Type 0} (shapes : List Shape) (before : List Words) (change : Change) (after : List Words) (items : X → List Note) (number : ℕ) → Some after ≡ changed before change
+pub change_told : {X E : Type 0} (shapes : List Shape) (before : List Words) (change : Change) (after : List Words) (items : X → List Note) (number : ℕ) → Some after ≡ made before change
     → number ≡ line_changed after change → (result : Result X E) → IfOk result (λ x. AreNew shapes before after number (items x)) → IfOk result (λ x. AreChangeNotes shapes before change (items x))
-change_told shapes before change after items number made is (Ok x) are =
-    told_of shapes before change (changed before change) after (items x) made (subst (λ (n : ℕ). AreNew shapes before after n (items x)) is are)
-change_told shapes before change after items number made is (Err e) are = are
+change_told shapes before change after items number same is (Ok x) are =
+    told_of shapes before change (made before change) after (items x) same (subst (λ (n : ℕ). AreNew shapes before after n (items x)) is are)
+change_told shapes before change after items number same is (Err e) are = are

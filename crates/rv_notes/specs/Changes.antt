@@ -1,7 +1,7 @@
 -- What is told of a change of one line of a list: the notes on that line, and those that weren't due before. (own)
-use Rattle.std.specs.Prelude.{◌≡◌, ◌⊎◌, ℕ, ◌&&◌, nat_le, nat_lt, if◌then◌else◌, List, [], length, Option, Some, None}
+use Rattle.std.specs.Prelude.{◌≡◌, ◌⊎◌, ℕ, nat_lt, if◌then◌else◌, List, [], length, Option, Some, None}
 use Rattle.std.specs.List.{All, Contains}
-use Rattle.rv_access.specs.Changes.{appended, replaced}
+use Rattle.rv_access.specs.Changes.{changed}
 use Rattle.rv_access.specs.Limits.{most_lines}
 use Rattle.rv_access.specs.Words.{Words}
 use Rattle.rv_access.specs.declared.change.Change.{Change}
@@ -10,12 +10,11 @@ use Rattle.rv_shape.specs.Shape.{Shape}
 use Rattle.rv_notes.specs.Notes.{Due, number_of}
 use Rattle.rv_notes.specs.declared.note.Note.{Note}
 
--- the list that one line more, or another line in place of one, makes of a list, if it does
-abbrev pub changed : List Words → Change → Option (List Words)
-changed list (Append line) = if nat_lt (length list) most_lines then Some (appended list line) else None
-changed list (Replace number line) =
-    if nat_lt 0 number && nat_le number (length list) then Some (replaced list number line) else None
-changed list change = None
+-- the list that one line more, of which there is room, or another line in place of one makes of a list, if it does
+abbrev pub made : List Words → Change → Option (List Words)
+made list (Append line) = if nat_lt (length list) most_lines then changed list (Append line) else None
+made list (Replace number line) = changed list (Replace number line)
+made list change = None
 
 -- the number of that line in it
 abbrev pub line_changed : List Words → Change → ℕ
@@ -38,4 +37,4 @@ AreNewOf shapes before change None notes = notes ≡ []
 AreNewOf shapes before change (Some after) notes = AreNew shapes before after (line_changed after change) notes
 
 abbrev pub AreChangeNotes : List Shape → List Words → Change → List Note → Type 0
-AreChangeNotes shapes before change notes = AreNewOf shapes before change (changed before change) notes
+AreChangeNotes shapes before change notes = AreNewOf shapes before change (made before change) notes

@@ -6,7 +6,7 @@ use Rattle.rv_access.specs.Lines.{line_at}
 use Rattle.rv_access.specs.Words.{Words}
 use Rattle.rv_access.specs.declared.change.Change.{Change}
 use Rattle.rv_shape.specs.Shape.{Shape}
-use Rattle.rv_notes.specs.Changes.{AreChangeNotes, changed}
+use Rattle.rv_notes.specs.Changes.{AreChangeNotes, made}
 use Rattle.rv_notes.specs.Notes.{number_of}
 use Rattle.rv_notes.specs.declared.note.Note.{Note}
 use Rattle.rv_notes.specs.declared.note.Note.TheVariants.{Caller, Home, Object, Operation, Covered}
@@ -46,4 +46,4 @@ TellsNotes list (note ∷ notes) text =
 -- what is told of a change of one line: the notes on the list that it makes; nothing where it makes none
 abbrev pub TellsChange : List Shape → List Words → Change → List ℕ → Type 0
 TellsChange shapes before change text =
-    (notes : List Note) × AreChangeNotes shapes before change notes × TellsNotes (unwrap_or (changed before change) []) notes text
+    (notes : List Note) × AreChangeNotes shapes before change notes × TellsNotes (unwrap_or (made before change) []) notes text

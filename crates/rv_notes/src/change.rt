@@ -2,7 +2,7 @@
 
 ghost use Rattle.std.specs.Prelude.{◌≡◌, true, false, IfOk, List, string_bytes};
 ghost use Rattle.std.specs.List.{Contains};
-ghost use Rattle.rv_notes.specs.Changes.{AreChangeNotes, AreNew, IsNew, changed, line_changed};
+ghost use Rattle.rv_notes.specs.Changes.{AreChangeNotes, AreNew, IsNew, line_changed, made};
 ghost use Rattle.rv_notes.specs.Notes.{AreNotes};
 ghost use Rattle.rv_notes.specs.Telling.{TellsChange};
 ghost use Rattle.rv_shape.specs.Shape.{Shape};
@@ -57,7 +57,7 @@ pub fn new_ones(
 
 /// The list that one line more, or another line in place of one, makes, if it does. Err where memory was refused.
 pub fn changed(before: &AccessList, change: &Change) -> Result<Option<AccessList>, AllocError>
-    ensures { IfOk result (λ list. list ≡ changed before.now change.now) }
+    ensures { IfOk result (λ list. list ≡ made before.now change.now) }
 {
     match change {
         Change::Append(line) if before.len() < MOST_LINES => Ok(Some(before.appended(line)?)),

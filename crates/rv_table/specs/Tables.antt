@@ -1,9 +1,9 @@
 -- The table that an access list is compiled to, over the units that are loaded (own).
-use Rattle.std.specs.Prelude.{ℕ, ◌≡◌, ◌≤◌, Bool, false, ◌==◌, ◌-◌, if◌then◌else◌, length, List, [], ◌∷◌, map, codes, slice_get, Some, None, Option}
+use Rattle.std.specs.Prelude.{ℕ, ◌≡◌, ◌≤◌, Bool, false, length, List, [], ◌∷◌, map, codes, slice_get, Some, None, Option}
 use Rattle.std.specs.List.{AllZip}
 use Rattle.rv_access.specs.Limits.{most_lines}
 use Rattle.rv_access.specs.Words.{Words}
-use Rattle.rv_access.specs.Lines.{decides, grants, allows}
+use Rattle.rv_access.specs.Lines.{decides, grants, allows, line_at}
 use Rattle.rv_shape.specs.Catalogue.{UnitObject, Target, all_objects, by_names, dotted, numbered, target}
 use Rattle.rv_shape.specs.Fits.{object_name}
 use Rattle.rv_shape.specs.Names.{operation_names}
@@ -67,7 +67,7 @@ row_of objects object operation = row_in (numbered objects object) operation
 
 -- whether the line of a number allows; 0 is of none
 abbrev pub allowed : List Words → ℕ → Bool
-allowed list number = if number == 0 then false else allows (slice_get list (number - 1))
+allowed list number = allows (line_at list number)
 
 -- the table of a list over the units that are loaded
 pub record IsTable (list : List Words) (shapes : List Shape) (t : Marks) : Type 0 where
