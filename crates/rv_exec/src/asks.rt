@@ -30,7 +30,8 @@ fn is_protected(callee: Callee) -> bool
     }
 }
 
-fn is_past(held: u32, callee: Callee) -> bool
+/// Whether a call of a protected operation finds the actor holding all that it may: it may hold so many more objects.
+pub fn is_past(held: u32, callee: Callee) -> bool
     ensures { result ≡ is_past held callee }
 {
     if held == 0 {
@@ -40,7 +41,9 @@ fn is_past(held: u32, callee: Callee) -> bool
     }
 }
 
-fn request_of(callee: Callee, values: Args) -> Request
+/// The request that asks a call, a delay or Clock of the host. The operations of a suspension object have the numbers 1 to 4
+/// (D.10).
+pub fn request_of(callee: Callee, values: Args) -> Request
     ensures { result ≡ request_of callee values }
 {
     match callee {
@@ -211,7 +214,9 @@ fn accepted(callee: Callee, value: i64) -> Reply
     }
 }
 
-fn replied(callee: Callee, answer: Answer) -> Reply
+/// What the first answer to a call, a delay or Clock comes to. From one that the host doesn't give to such a request nothing
+/// goes on.
+pub fn replied(callee: Callee, answer: Answer) -> Reply
     ensures { result ≡ replied callee answer }
 {
     match answer {
@@ -253,7 +258,8 @@ fn dropped(callee: Callee, rule: Rule) -> Asked
     }
 }
 
-fn resumed(callee: Callee, answer: Answer) -> Asked
+/// What the answer to the resume of a call or a delay that waits comes to.
+pub fn resumed(callee: Callee, answer: Answer) -> Asked
     ensures { result ≡ resumed callee answer }
 {
     match answer {
@@ -309,7 +315,8 @@ fn seen(outcome: Result<Args, Cause>) -> Result<Args, Cause>
     }
 }
 
-fn completed(outcome: Result<Args, Cause>, answer: Answer) -> Result<Args, Cause>
+/// What the answer to the end of a body comes to, for the caller of the body, which has come to this.
+pub fn completed(outcome: Result<Args, Cause>, answer: Answer) -> Result<Args, Cause>
     ensures { result ≡ completed outcome answer }
 {
     match answer {

@@ -91,6 +91,13 @@ impl Bodies {
         })
     }
 
+    /// The bodies of each unit, in the order of their loads.
+    pub fn units(&self) -> &[SharedUnit]
+        ensures { all_of (map shared_view result.now) ≡ bodies_view self.now }
+    {
+        self.units.as_slice()
+    }
+
     // The bodies of an object's operations.
     fn object(&self, number: usize) -> Option<&ObjectBodies>
         ensures found { IfSome result (λ object. numbered (bodies_view self.now).objects number ≡ Some (object_view object.now)) }

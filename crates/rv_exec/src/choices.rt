@@ -8,7 +8,8 @@ ghost use Rattle.rv_exec.specs.Choices.{covers, covered, alternative_of, names, 
 use rv_code::{Alternative, Choice, ExceptionChoice, Handler, Statement};
 use rv_event::entry::Exception;
 
-fn covers(choice: Choice, value: i64) -> bool
+/// Whether a choice covers the value (3.8.1).
+pub fn covers(choice: Choice, value: i64) -> bool
     ensures { result ≡ covers choice value }
 {
     match choice {
@@ -41,7 +42,8 @@ pub fn alternative_of(alternatives: &Vec<Alternative>, value: i64) -> Option<&Ve
     None
 }
 
-fn names(choice: ExceptionChoice, exception: Exception) -> bool
+/// Whether a choice of a handler names the exception (11.2).
+pub fn names(choice: ExceptionChoice, exception: Exception) -> bool
     ensures { result ≡ names choice exception }
 {
     match choice {

@@ -80,8 +80,8 @@ fn room(held: usize) -> u32
     if held < most { (most - held) as u32 } else { 0 }
 }
 
-// The statements of an operation's body, whose actor holds so many objects, its own with them.
-fn of_operation(held: usize, object: usize) -> Setting
+/// What an operation's body runs in, whose actor holds so many objects, its own with them.
+pub fn of_operation(held: usize, object: usize) -> Setting
     ensures { result ≡ operation_setting held object }
 {
     Setting {
@@ -156,8 +156,8 @@ fn quit<R, O: Outward<R>>(runtime: &R, outcome: Result<Args, Cause>, outward: &m
     exit
 }
 
-// The statements of a task's own body.
-fn of_task() -> Setting
+/// What a task's own body runs in.
+pub fn of_task() -> Setting
     ensures { result ≡ task_setting }
 {
     Setting {

@@ -3,15 +3,17 @@
 ghost use Rattle.std.specs.Prelude.{◌≡◌};
 ghost use Rattle.rv_code.specs.BodyView.{body_view};
 ghost use Rattle.rv_exec.specs.Blocks.{outcome_of, function_outcome, procedure_outcome, raised};
-ghost use Rattle.rv_exec.specs.Statements.{raised_again};
+ghost use Rattle.rv_exec.specs.Statements.{exit_where, raised_again};
 
 use crate::activation::Activation;
 use crate::end::{Cause, End};
+use crate::operators::is_true;
 use rv_code::Body;
 use rv_event::entry::Exception;
 use rv_value::Args;
 
-fn function_outcome(end: End) -> Result<Args, Cause>
+/// What a function's body comes to: its value. Falling off the end raises Program_Error (6.5).
+pub fn function_outcome(end: End) -> Result<Args, Cause>
     ensures { result ≡ function_outcome end }
 {
     match end {
@@ -21,7 +23,8 @@ fn function_outcome(end: End) -> Result<Args, Cause>
     }
 }
 
-fn procedure_outcome(end: End, values: Args) -> Result<Args, Cause>
+/// What another body comes to, with the values of its `out` and `in out` parameters (6.4.1).
+pub fn procedure_outcome(end: End, values: Args) -> Result<Args, Cause>
     ensures { result ≡ procedure_outcome end values }
 {
     match end {
@@ -59,4 +62,11 @@ pub fn raised_again(handling: Option<Exception>) -> Cause
         Some(exception) => Cause::Raised(exception),
         None => Cause::Raised(Exception::ProgramError),
     }
+}
+
+/// How `exit when` ends, whose condition has this value (5.7).
+pub fn exit_where(value: i64) -> End
+    ensures { result ≡ exit_where value }
+{
+    if is_true(value) { End::Exit } else { End::Next }
 }

@@ -8,12 +8,11 @@ ghost use Rattle.rv_exec.specs.Asking.{Ran};
 ghost use Rattle.rv_exec.specs.Blocks.{world};
 ghost use Rattle.rv_exec.specs.Bodies.{bodies_view};
 ghost use Rattle.rv_exec.specs.Sizes.{most_size};
-ghost use Rattle.rv_exec.specs.Statements.{exit_where, meaning, meanings};
+ghost use Rattle.rv_exec.specs.Statements.{meaning, meanings};
 
 use crate::activation::Activation;
 use crate::end::{Cause, End};
-use crate::operators::is_true;
-use crate::outcome::raised_again;
+use crate::outcome::{exit_where, raised_again};
 use crate::outward::Outward;
 use crate::ranges::Scheme;
 use crate::run::call::called;
@@ -22,13 +21,6 @@ use crate::run::turns::{run_for, run_while};
 use crate::run::value::{arguments, value_of};
 use crate::surroundings::Surroundings;
 use rv_code::Statement;
-
-// How `exit when` ends (5.7).
-fn exit_where(value: i64) -> End
-    ensures { result ≡ exit_where value }
-{
-    if is_true(value) { End::Exit } else { End::Next }
-}
 
 /// Statements in their order, each of which takes a step (5.1).
 #[cycle(run)]
