@@ -79,21 +79,27 @@ fn printed<R: Print + Eprint>(rt: &R, error: &Error) -> Result<(), Stop> {
     }
 }
 
+// Prints on standard output the help that words ask for.
+fn print_asked<'a, R: Print + Eprint>(
+    rt: &R,
+    alloc: Global,
+    words: &'a [&'a str],
+) -> Result<(), Stop> {
+    match chosen(alloc, words) {
+        Err(Unchosen::Usage(e)) => printed(rt, &e),
+        Err(Unchosen::NoMemory) => Err(Stop::Failed(Failure::Memory)),
+        _ => Err(Stop::Usage),
+    }
+}
+
 /// Prints the help of the program, or of a subcommand, on standard output.
 pub fn print_manual<R: Print + Eprint>(
     rt: &R,
     alloc: Global,
     subject: Option<&str>,
 ) -> Result<(), Stop> {
-    let all = ["ravenhost", "help", subject.unwrap_or("")];
-    let words = if subject.is_some() {
-        &all[..]
-    } else {
-        &all[..2]
-    };
-    match chosen(alloc, words) {
-        Err(Unchosen::Usage(e)) => printed(rt, &e),
-        Err(Unchosen::NoMemory) => Err(Stop::Failed(Failure::Memory)),
-        _ => Err(Stop::Usage),
+    match subject {
+        Some(name) => print_asked(rt, alloc, &["ravenhost", "help", name]),
+        None => print_asked(rt, alloc, &["ravenhost", "help"]),
     }
 }

@@ -66,7 +66,7 @@ fn with_commands(alloc: Global, mut bytes: Vec<u8>) -> Result<Given, Stop> {
 }
 
 /// What a script is read from, by the file that is named; what stands against that is said.
-pub fn given<R: Files + Eprint>(
+pub fn source_of<R: Files + Eprint>(
     rt: &R,
     alloc: Global,
     name: Option<&str>,
