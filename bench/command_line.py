@@ -48,7 +48,9 @@ class Asked:
     """The program, a folder to work in, and what was seen that isn't due."""
 
     def __init__(self, program: Path, folder: Path) -> None:
-        self.program, self.folder, self.parts, self.faults = program, folder, 0, 0
+        # (help has the name by which the program is started)
+        self.program, self.folder, self.parts, self.faults = folder / "ravenhost", folder, 0, 0
+        self.program.symlink_to(program)
 
     def start(self, *words: str, given: bytes = b"") -> Told:
         done = subprocess.run([str(self.program), *words], input=given, capture_output=True, cwd=self.folder, timeout=SECONDS, check=False)
@@ -128,7 +130,10 @@ def runs(asked: Asked) -> None:
     asked.file("loads", PLANT + b"load\npackage P is\n")
     for flags in ((), ("--tick", "3600000"), ("--notes", "always"), ("--console",), ("--explain",)):
         def is_as(name: str, file: str, given: bytes, whole: bytes) -> None:
-            asked.due(f"run {flags} {name}", asked.start("run", *flags, file, given=given), asked.start("run", *flags, given=whole))
+            seen, due = asked.start("run", *flags, file, given=given), asked.start("run", *flags, given=whole)
+            # (which notes of the room are told is a matter of time)
+            parts = slice(2 if "--notes" in flags else 3)
+            asked.due(f"run {flags} {name}", seen[parts], due[parts])
         is_as("commands of standard input", "to-run", b"tick 3\nquit\n", PLANT + b"tick 3\nquit\n")
         is_as("the same without quit", "to-run", b"tick 3\n", PLANT + b"tick 3\n")
         is_as("no command", "to-run", b"", PLANT)
