@@ -23,7 +23,7 @@ pub enum Unchosen<'a> {
     Usage(Error),
     /// There is no subcommand of this name.
     NoCommand,
-    /// A flag is given wrongly, the first in the order that `wrong` of the contracts has.
+    /// A flag is given wrongly: the first of `--sync`, `--tick`, `--halt-below`, `--quota`, `--notes` and `--color`, or of `--torn` and `--color`.
     Misused(Misuse<'a>),
     /// Memory was refused.
     NoMemory,
