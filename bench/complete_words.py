@@ -46,7 +46,7 @@ ONE, ALL = "\t", "\x14"
 
 # What is typed, the key, and the line that is due; the words that ALL inserts are sorted before they are compared.
 ROWS = [
-    ("{} ", ALL, "{} audit check help play run"),
+    ("{} ", ALL, "{} audit check help manual play run"),
     ("{} pl", ONE, "{} play "),
     ("{} play --", ALL, "{} play --all --color --explain --help --notes --warnings-are-errors "),
     ("{} play --a", ONE, "{} play --all "),
@@ -69,7 +69,16 @@ ROWS = [
     ("{} play >>z", ONE, "{} play >>z.raven "),
     ("{} play 2>z", ONE, "{} play 2>z.raven "),
     ("{} < z.raven pl", ONE, "{} < z.raven play "),
-    ("{} help ", ALL, "{} help audit check play run"),
+    ("{} play z", ONE, "{} play z.raven "),
+    ("{} check --script z", ONE, "{} check --script z.raven "),
+    ("{} run --tick 100 z", ONE, "{} run --tick 100 z.raven "),
+    ("{} audit --journal x-one.journal z", ONE, "{} audit --journal x-one.journal z.raven "),
+    ("{} audit z.raven --t", ONE, "{} audit z.raven --torn "),
+    ("{} play z.raven z", ONE, "{} play z.raven z"),
+    ("{} manual ", ALL, "{} manual audit check manual play run"),
+    ("{} manual ru", ONE, "{} manual run "),
+    ("{} manual --", ONE, "{} manual --help "),
+    ("{} help ", ALL, "{} help audit check manual play run"),
     ("{} help ru", ONE, "{} help run "),
     ("{} help run ", ALL, "{} help run "),
     ("{} --help ", ALL, "{} --help "),

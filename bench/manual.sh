@@ -51,12 +51,13 @@ flags_named() {
     [ "$missing:$((count > 8))" = 0:1 ]
 }
 
-# What clap is told in the source stands in the stored help. bench/first_look.sh --proved compares it with the program's own.
+# What clap is told in the source stands in the stored help. bench/command_line.py compares it with the program's own.
 stored_help() {
     python3 - <<'END'
 import glob, re
 pages = " ".join(" ".join(open(page).read() for page in sorted(glob.glob("crates/ravenhost/usage/help*"))).split())
-source = "".join(open(file).read() for file in sorted(glob.glob("crates/rv_choice/src/*.rt")))
+# (misuse.rt has what is told of flags that are given wrongly)
+source = "".join(open(file).read() for file in sorted(glob.glob("crates/rv_choice/src/*.rt")) if not file.endswith("/misuse.rt"))
 source = re.sub(r"^\s*(//|ghost ).*$", "", source, flags=re.M)
 told = [words for words in re.findall(r'"([^"\n]*)"', source) if " " in words]
 assert len(told) > 8, told

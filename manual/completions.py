@@ -15,8 +15,9 @@ PAGES = "crates/ravenhost/usage"
 # The flags that stand alone.
 HELP, VERSION = ("-h", "--help"), ("-V", "--version")
 
-# What completes a value of no listed words, by the name that the help gives it.
-FILES, FOLDERS = "files", "folders"
+# What completes a value of no listed words, or a word that is no flag, by the name that the help gives it.
+FILES, FOLDERS, COMMANDS = "files", "folders", "commands"
+WORDS = {"FILE": FILES, "COMMAND": COMMANDS}
 # Of numbers, some that are usual.
 VALUES = {"FILE": FILES, "PIPE": FILES, "PREFIX": FOLDERS, "WHEN": ("auto", "always", "never"), "HOW": ("each", "second", "never"),
           "MS": ("1000", "100", "10"), "N": ("100", "1000", "10000")}
@@ -36,10 +37,10 @@ class Flag:
 
 
 class Command:
-    """A subcommand, or the program itself: its flags, and those that the launcher adds."""
+    """A subcommand, or the program itself: its flags, those that the launcher adds, and the name of its word that is no flag."""
 
     def __init__(self, about):
-        self.about, self.flags, self.launcher = about, [], []
+        self.about, self.flags, self.launcher, self.word = about, [], [], None
 
 
 def page(name):
@@ -75,6 +76,16 @@ def flags(text):
     return found
 
 
+def word(text):
+    """The name of the word that a help page takes beside its flags, or None."""
+    if "\nArguments:\n" not in text:
+        return None
+    found = [re.fullmatch(r"\[(\w+)\]", left) for left, _ in rows(text, "Arguments:")]
+    if len(found) != 1 or not found[0] or found[0][1] not in WORDS:
+        sys.exit("manual/completions.py: what completes a word beside the flags?")
+    return found[0][1]
+
+
 def described():
     """The program, below the name "", and its subcommands, in the order of the help."""
     help_page = page("help")
@@ -84,7 +95,8 @@ def described():
     commands[""].flags = flags(help_page)
     for name, command in commands.items():
         if name not in ("", "help"):
-            command.flags = flags(page(f"help-{name}"))
+            text = page(f"help-{name}")
+            command.flags, command.word = flags(text), word(text)
     for left, about in rows(page("launcher"), "Of the script ./ravenhost:"):
         # (a word of the launcher's own is no flag, and isn't completed)
         if re.fullmatch(r"[a-z]+ FOLDER", left):
@@ -134,6 +146,13 @@ _ravenhost_value() {
     esac
 }
 
+# What a word of a subcommand is that is no flag; nothing where it takes none.
+_ravenhost_word() {
+    case $1 in
+@words@
+    esac
+}
+
 # Whether nothing stands beside a flag.
 _ravenhost_is_alone() {
     case $1 in @alone@) ;; *) return 1 ;; esac
@@ -164,9 +183,10 @@ def bash(commands, kept):
     values = list(dict.fromkeys((" | ".join(flag.spellings), flag.value if isinstance(flag.value, str) else " ".join(flag.value))
                                 for flag in of_all if flag.value))
     alone = [*HELP, *VERSION, *(spelling for command in commands.values() for flag in command.launcher for spelling in flag.spellings)]
+    worded = [(name, WORDS[command.word]) for name, command in commands.items() if command.word]
     text = BASH
     for mark, words in (("subcommands", bash_rows(subcommands)), ("flags", bash_rows(flagged)),
-                        ("launcher", bash_rows(launched)), ("values", bash_rows(values)), ("alone", " | ".join(alone))):
+                        ("launcher", bash_rows(launched)), ("values", bash_rows(values)), ("words", bash_rows(worded)), ("alone", " | ".join(alone))):
         text = text.replace(f"@{mark}@", words)
     return text + by_hand(kept)
 
@@ -229,7 +249,7 @@ def quoted(text):
     return "'" + text.replace("'", "'\\''") + "'"
 
 
-ZSH_VALUES = {FILES: "_files", FOLDERS: "_path_files -/"}
+ZSH_VALUES = {FILES: "_files", FOLDERS: "_path_files -/", COMMANDS: "_ravenhost_subjects"}
 
 
 def zsh_flag(flag, alone):
@@ -268,6 +288,8 @@ def zsh_case(name, command):
         lines += ["                )", "            fi"]
     lines.append("            _arguments \\")
     lines += [f"                {zsh_flag(flag, is_alone(flag))} \\" for flag in command.flags]
+    if command.word:
+        lines.append(f"                {quoted(f'1:{command.word}:{ZSH_VALUES[WORDS[command.word]]}')} \\")
     if command.launcher:
         lines.append("                $launcher_of \\")
     lines[-1] = lines[-1][:-2] + " && ret=0"

@@ -4,8 +4,8 @@
 # The subcommands, or what help is given of.
 _ravenhost_subcommands() {
     case $1 in
-        "") echo "play check run audit help" ;;
-        help) echo "play check run audit" ;;
+        "") echo "play check run audit manual help" ;;
+        help) echo "play check run audit manual" ;;
     esac
 }
 
@@ -17,6 +17,7 @@ _ravenhost_flags() {
         check) echo "--explain --script --notes --warnings-are-errors --color -h --help" ;;
         run) echo "--journal --sync --explain --halt-below --quota --tick --stop-by --console --notes --warnings-are-errors --color -h --help" ;;
         audit) echo "--journal --torn --explain --color -h --help" ;;
+        manual) echo "-h --help" ;;
     esac
 }
 
@@ -40,6 +41,17 @@ _ravenhost_value() {
         --quota) echo "100 1000 10000" ;;
         --tick) echo "1000 100 10" ;;
         --stop-by) echo "files" ;;
+    esac
+}
+
+# What a word of a subcommand is that is no flag; nothing where it takes none.
+_ravenhost_word() {
+    case $1 in
+        play) echo "files" ;;
+        check) echo "files" ;;
+        run) echo "files" ;;
+        audit) echo "files" ;;
+        manual) echo "commands" ;;
     esac
 }
 
@@ -75,7 +87,7 @@ _ravenhost_names() {
 }
 
 _ravenhost() {
-    local current=${COMP_WORDS[COMP_CWORD]} previous=${COMP_WORDS[COMP_CWORD - 1]} front="" word command="" given=" " flags n
+    local current=${COMP_WORDS[COMP_CWORD]} previous=${COMP_WORDS[COMP_CWORD - 1]} front="" word command="" named="" given=" " flags n
     COMPREPLY=()
     # A flag, = and its value are three words, or one where = breaks no words.
     case $current in
@@ -107,13 +119,25 @@ _ravenhost() {
                     n=$((n + 1))
                 fi
                 ;;
-            *) if [ -z "$command" ]; then command=$word; else given+="$word "; fi ;;
+            *) if [ -z "$command" ]; then command=$word; else named=$word given+="$word "; fi ;;
         esac
     done
     if [ "$command" = help ]; then
         if [ "$given" = " " ]; then _ravenhost_offer "$(_ravenhost_subcommands help)" ""; fi
         return 0
     fi
+
+    # A word that is no flag: of those that a subcommand takes, the first.
+    case $current in
+        -*) ;;
+        *)
+            case $(_ravenhost_word "$command") in
+                files) [ -n "$named" ] || _ravenhost_names -f "" ;;
+                commands) [ -n "$named" ] || _ravenhost_offer "$(_ravenhost_subcommands help)" "" ;;
+            esac
+            if [ -n "$(_ravenhost_word "$command")" ]; then return 0; fi
+            ;;
+    esac
 
     flags=$(_ravenhost_flags "$command")
     if _ravenhost_is_launcher "${COMP_WORDS[0]}"; then flags+=" $(_ravenhost_launcher_flags "$command")"; fi

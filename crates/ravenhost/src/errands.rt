@@ -68,6 +68,14 @@ pub fn input_of<R: Eprint>(rt: &R, alloc: Global, aides: &Aides) -> Result<Feed,
     Ok(feed)
 }
 
+/// The input of a run that reads none: it is over.
+pub fn no_input(alloc: Global) -> Result<Feed, Stop> {
+    match rv_feed::ends(alloc) {
+        Ok((_, feed)) => Ok(feed),
+        Err(_) => Err(Stop::Failed(Failure::Memory)),
+    }
+}
+
 /// The pipe whose end ends a run, where one is named: what stands against it is said.
 pub fn stop_of<R: Files + Eprint>(
     rt: &R,

@@ -10,6 +10,9 @@ use std::alloc::Global;
 use std::rt::Env;
 use std::{env, io};
 
+// What stands below what is wrong with a command line, as clap has it.
+const HINT: &str = "\n\nFor more information, try '--help'.\n";
+
 // What is told of a line that chooses no subcommand: the version on standard output, and usage or help
 // on standard error.
 fn told<R: Print + Eprint>(rt: &R, error: &Error) -> Stop {
@@ -54,11 +57,49 @@ pub fn choice<'a, R: Print + Eprint>(
         Ok(chosen) => Ok(chosen),
         Err(Unchosen::NoMemory) => Err(Stop::Failed(Failure::Memory)),
         Err(Unchosen::Usage(e)) => Err(told(rt, &e)),
-        Err(Unchosen::Unknown) => {
-            let _ = eprintln!(rt;
-                "ravenhost: no such command, another word than a flag takes (--notes, --color, --sync; --tick: 1 to 3600000; --quota, --halt-below: 1 to 1048576), or --torn or --sync without --journal; --help lists them"
-            );
+        Err(Unchosen::NoCommand) => {
+            let _ = eprint!(rt; "error: no such command{HINT}");
             Err(Stop::Usage)
         }
+        Err(Unchosen::Misused(misuse)) => {
+            let _ = eprint!(rt; "error: {misuse}{HINT}");
+            Err(Stop::Usage)
+        }
+    }
+}
+
+// Prints help on standard output.
+fn printed<R: Print + Eprint>(rt: &R, error: &Error) -> Result<(), Stop> {
+    if error.kind() != ErrorKind::DisplayHelp {
+        return Err(told(rt, error));
+    }
+    match print!(rt; "{error}") {
+        Ok(()) => Ok(()),
+        Err(e) => Err(Stop::Failed(Failure::Io(e))),
+    }
+}
+
+// Prints on standard output the help that words ask for.
+fn print_asked<'a, R: Print + Eprint>(
+    rt: &R,
+    alloc: Global,
+    words: &'a [&'a str],
+) -> Result<(), Stop> {
+    match chosen(alloc, words) {
+        Err(Unchosen::Usage(e)) => printed(rt, &e),
+        Err(Unchosen::NoMemory) => Err(Stop::Failed(Failure::Memory)),
+        _ => Err(Stop::Usage),
+    }
+}
+
+/// Prints the help of the program, or of a subcommand, on standard output.
+pub fn print_manual<R: Print + Eprint>(
+    rt: &R,
+    alloc: Global,
+    subject: Option<&str>,
+) -> Result<(), Stop> {
+    match subject {
+        Some(name) => print_asked(rt, alloc, &["ravenhost", "help", name]),
+        None => print_asked(rt, alloc, &["ravenhost", "help"]),
     }
 }

@@ -1,11 +1,11 @@
 //! The subcommand `run`: alone, or with what is done beside its commands.
 
 use crate::attending::{attend, drained, unless_unkept};
-use crate::errands::{input_of, outlet_of, stop_of};
+use crate::errands::{input_of, no_input, outlet_of, stop_of};
 use crate::errors::StandardError;
 use crate::keeping::{journal_file, syncing_of};
 use crate::means::{Means, Terminals};
-use crate::reading::read_before;
+use crate::reading::{Given, read_before};
 use crate::status::Stop;
 use crate::telling::{Telling, ended, warn};
 use rv_attend::{Attention, Follower, Typing};
@@ -79,12 +79,14 @@ pub fn run_script<R: Threads + Wait + Eprint, H: Hires, I: Read, W: Write + Drop
     ended(rt, alloc, telling, script, done)
 }
 
-// Puts what was read of a run's input where the run begins.
-fn put_back(input: &mut Input, before: &Before) -> Result<(), Stop> {
-    if input.put(before.sections.as_slice()).is_err() {
+// Puts what was read of a run's input where the run begins, and behind it what its file still has.
+fn put_back(input: &mut Input, before: &Before, bytes: &[u8]) -> Result<(), Stop> {
+    if input.put(before.sections.as_slice()).is_err()
+        || input.put(before.rest.as_slice()).is_err()
+    {
         return Err(Stop::Failed(Failure::Memory));
     }
-    match input.put(before.rest.as_slice()) {
+    match input.put(bytes) {
         Ok(()) => Ok(()),
         Err(_) => Err(Stop::Failed(Failure::Memory)),
     }
@@ -114,6 +116,7 @@ fn run_with<R, H, F>(
     means: Means<'_, H>,
     telling: Telling,
     words: RunWords<'_>,
+    given: &Given,
     keeper: Keeper<F>,
 ) -> Result<(), Stop>
 where
@@ -123,9 +126,14 @@ where
 {
     let alloc = means.alloc;
     let stop = stop_of(rt, alloc, means.aides, words.stop_by)?;
-    let feed = input_of(rt, alloc, means.aides)?;
+    let feed = if given.goes_on {
+        input_of(rt, alloc, means.aides)?
+    } else {
+        no_input(alloc)?
+    };
     let mut source = Listening { rt, feed, stop };
-    let before = told_before(rt, alloc, telling, &mut source)?;
+    let mut bytes = given.bytes.as_slice();
+    let before = told_before(rt, alloc, telling, &mut (&mut bytes).chain(&mut source))?;
     let mut follower = Follower::new(
         alloc,
         source,
@@ -133,7 +141,7 @@ where
         attention_of(&words, telling, means.terminals),
     );
     let mut input = Input::new(alloc);
-    put_back(&mut input, &before)?;
+    put_back(&mut input, &before, bytes)?;
     let mut outlet = outlet_of(rt, alloc, means.aides)?;
     let (done, flushed) = attend(
         rt,
@@ -162,16 +170,17 @@ pub fn run_attended<R: Threads + Wait + Files + Clock + Eprint, H: Hires>(
     means: Means<'_, H>,
     telling: Telling,
     words: RunWords<'_>,
+    given: &Given,
 ) -> Result<(), Stop> {
     match words.kept {
         Some(kept) => {
             let file = journal_file(rt, kept.name)?;
             let keeper = Keeper::new(means.alloc, file, syncing_of(kept.sync));
-            run_with(rt, means, telling, words, keeper)
+            run_with(rt, means, telling, words, given, keeper)
         }
         None => {
             let keeper = Keeper::new(means.alloc, io::sink(), Syncing::Never);
-            run_with(rt, means, telling, words, keeper)
+            run_with(rt, means, telling, words, given, keeper)
         }
     }
 }

@@ -1,15 +1,14 @@
 -- What `clap` finds of a command line, as a choice.
-use Rattle.std.proofs.Common.{◌≡◌, ◌∷◌, inl, inr, ℕ, List, Option, Some, None, Bool, true, false, true≢false, codes, slice_index, ap, sym, ◌∙◌, refl, subst}
-use Rattle.std.specs.Prelude.{◌==◌, ◌⊎◌, is_some, option_map, unwrap_or}
+use Rattle.std.proofs.Common.{◌≡◌, ◌∷◌, List, Option, Some, None, Bool, true, false, true≢false, codes, slice_index, ap, ap₂, sym, ◌∙◌, refl, subst}
+use Rattle.std.specs.Prelude.{◌==◌, IfOk, Result, Ok, Err, is_some, option_map, unwrap_or}
 use Rattle.clap.specs.Words.{is_simple, subcommand_of, takes}
 use Rattle.clap.specs.Walk.{Row, Text, first_of, one_of}
 use Rattle.clap.proofs.OnLiterals.{clap_on_literals}
+use Rattle.rv_choice.specs.declared.misuse.Misuse.{Misuse}
 use Rattle.rv_choice.specs.declared.selection.Choice.{Choice}
-use Rattle.rv_choice.specs.declared.selection.Choice.TheVariants.{Play, Check, Run, Audit, AuditFile}
-use Rattle.rv_choice.specs.declared.selection.When.{When}
-use Rattle.rv_choice.specs.declared.selection.When.TheVariants.{Auto}
-use Rattle.rv_choice.specs.declared.selection.Sync.TheVariants.{Second}
-use Rattle.rv_choice.specs.Choices.{HasNoColor, HasNoFile, HasNoRun, HasNoWord, IsFlag, IsJournal, IsNoted, IsRunning, LacksFile, Names, NamesNone, audit_of, line_of, longest_period, most_entries, no_run, number_of, program, sync_of, when_of}
+use Rattle.rv_choice.specs.declared.selection.Choice.TheVariants.{Play, Check, Run, Audit, AuditFile, Manual}
+use Rattle.rv_choice.specs.declared.selection.Selection.{Selection}
+use Rattle.rv_choice.specs.Choices.{IsFlag, IsJournal, IsSelected, IsSelection, IsUnnamed, IsWrong, Names, Wrong, audit_of, color_wrong, line_of, or_else, program, run_wrong, script_wrong, torn_wrong, wrong_in}
 
 -- The plain lines.
 
@@ -35,6 +34,7 @@ word_of (Check whole) = codes "check"
 word_of Run = codes "run"
 word_of Audit = codes "audit"
 word_of (AuditFile torn) = codes "audit"
+word_of Manual = codes "manual"
 
 abbrev flag_text : Bool → Text
 flag_text true = codes "true"
@@ -51,6 +51,7 @@ plain name Run = (refl, refl)
 plain name Audit = (refl, refl)
 plain name (AuditFile false) = (refl, refl)
 plain name (AuditFile true) = (refl, refl)
+plain name Manual = (refl, refl)
 
 pub taken : (name : Text) (choice : Choice) → takes program (name ∷ line_of choice) ≡ true
 taken name choice = let p = plain name choice in p.0
@@ -87,95 +88,45 @@ no_torn : (name : Text) → flag_in (codes "torn") (subcommand_of program (name 
 unfolding clap_on_literals
 no_torn name = refl
 
--- no word for notes
-abbrev notes_in : Option (Text × List Row) → Option (Option Text)
-notes_in = option_map (λ (p : Text × List Row). first_of (codes "notes") p.1)
+-- nothing is wrong with it
+abbrev script_in : Option (Text × List Row) → Option (Option Wrong)
+script_in = option_map (λ (p : Text × List Row). script_wrong p.1)
 
-play_notes : (name : Text) (all : Bool) → notes_in (subcommand_of program (name ∷ line_of (Play all))) ≡ Some None
+abbrev run_in : Option (Text × List Row) → Option (Option Wrong)
+run_in = option_map (λ (p : Text × List Row). run_wrong p.1)
+
+abbrev color_in : Option (Text × List Row) → Option (Option Wrong)
+color_in = option_map (λ (p : Text × List Row). color_wrong p.1)
+
+play_right : (name : Text) (all : Bool) → script_in (subcommand_of program (name ∷ line_of (Play all))) ≡ Some None
 unfolding clap_on_literals
-play_notes name true = refl
-play_notes name false = refl
+play_right name true = refl
+play_right name false = refl
 
-check_notes : (name : Text) (whole : Bool) → notes_in (subcommand_of program (name ∷ line_of (Check whole))) ≡ Some None
+check_right : (name : Text) (whole : Bool) → script_in (subcommand_of program (name ∷ line_of (Check whole))) ≡ Some None
 unfolding clap_on_literals
-check_notes name false = refl
-check_notes name true = refl
+check_right name true = refl
+check_right name false = refl
 
-run_notes : (name : Text) → notes_in (subcommand_of program (name ∷ line_of Run)) ≡ Some None
+run_right : (name : Text) → run_in (subcommand_of program (name ∷ line_of Run)) ≡ Some None
 unfolding clap_on_literals
-run_notes name = refl
+run_right name = refl
 
--- no word for colours
-abbrev color_in : Option (Text × List Row) → Option (Option Text)
-color_in = option_map (λ (p : Text × List Row). first_of (codes "color") p.1)
-
-any_color : (name : Text) (choice : Choice) → color_in (subcommand_of program (name ∷ line_of choice)) ≡ Some None
+audit_color : (name : Text) → color_in (subcommand_of program (name ∷ line_of Audit)) ≡ Some None
 unfolding clap_on_literals
-any_color name (Play true) = refl
-any_color name (Play false) = refl
-any_color name (Check true) = refl
-any_color name (Check false) = refl
-any_color name Run = refl
-any_color name Audit = refl
-any_color name (AuditFile true) = refl
-any_color name (AuditFile false) = refl
+audit_color name = refl
 
--- which is none that is wrong
-has_color : (q : Option (Text × List Row)) (found : Text × List Row) → q ≡ Some found → color_in q ≡ Some None → HasNoColor found.1 → ⊥
-has_color q found e f none =
-    let is : first_of (codes "color") found.1 ≡ None = ap (λ (o : Option (Option Text)). unwrap_or o None) (sym (ap color_in e) ∙ f) in
-    let both : Some Auto ≡ None = sym (ap when_of is) ∙ none in
-    absurd cc
-
-has_word : (q : Option (Text × List Row)) (found : Text × List Row) → q ≡ Some found → notes_in q ≡ Some None → color_in q ≡ Some None → HasNoWord found.1 → ⊥
-has_word q found e f g (inl none) =
-    let is : first_of (codes "notes") found.1 ≡ None = ap (λ (o : Option (Option Text)). unwrap_or o None) (sym (ap notes_in e) ∙ f) in
-    let both : Some Auto ≡ None = sym (ap when_of is) ∙ none in
-    absurd cc
-has_word q found e f g (inr none) = has_color q found e g none
-
--- no word for syncs
-abbrev sync_in : Option (Text × List Row) → Option (Option Text)
-sync_in = option_map (λ (p : Text × List Row). first_of (codes "sync") p.1)
-
-run_sync : (name : Text) → sync_in (subcommand_of program (name ∷ line_of Run)) ≡ Some None
+file_color : (name : Text) (torn : Bool) → color_in (subcommand_of program (name ∷ line_of (AuditFile torn))) ≡ Some None
 unfolding clap_on_literals
-run_sync name = refl
+file_color name true = refl
+file_color name false = refl
 
-has_file : (q : Option (Text × List Row)) (found : Text × List Row) → q ≡ Some found → sync_in q ≡ Some None → HasNoFile found.1 → ⊥
-has_file q found e f none = wrong none
-  where
-    is : first_of (codes "sync") found.1 ≡ None
-    is = ap (λ (o : Option (Option Text)). unwrap_or o None) (sym (ap sync_in e) ∙ f)
+-- what is said of all that was found is so of this
+of_found : (f : Text × List Row → Option Wrong) (q : Option (Text × List Row)) (found : Text × List Row) → q ≡ Some found → option_map f q ≡ Some None → f found ≡ None
+of_found f q found e is = ap (λ (o : Option (Option Wrong)). unwrap_or o None) (sym (ap (option_map f) e) ∙ is)
 
-    wrong : HasNoFile found.1 → ⊥
-    wrong (inl word) = let both : Some Second ≡ None = sym (ap sync_of is) ∙ word in absurd cc
-    wrong (inr file) = file.1 is
-
--- no word for a number
-abbrev word_in : Text → Option (Text × List Row) → Option (Option Text)
-word_in name = option_map (λ (p : Text × List Row). first_of name p.1)
-
-run_tick : (name : Text) → word_in (codes "tick") (subcommand_of program (name ∷ line_of Run)) ≡ Some None
-unfolding clap_on_literals
-run_tick name = refl
-
-run_halt : (name : Text) → word_in (codes "halt-below") (subcommand_of program (name ∷ line_of Run)) ≡ Some None
-unfolding clap_on_literals
-run_halt name = refl
-
-run_quota : (name : Text) → word_in (codes "quota") (subcommand_of program (name ∷ line_of Run)) ≡ Some None
-unfolding clap_on_literals
-run_quota name = refl
-
-no_such : (o : Option (Option ℕ)) → o ≡ Some None → o ≡ None → ⊥
-no_such o p q = let both : Some None ≡ None = sym p ∙ q in absurd cc
-
-has_number : (most : ℕ) (word : Text) (q : Option (Text × List Row)) (found : Text × List Row) → q ≡ Some found → word_in word q ≡ Some None
-    → number_of most (first_of word found.1) ≡ None → ⊥
-has_number most word q found e g none =
-    let is : first_of word found.1 ≡ None = ap (λ (o : Option (Option Text)). unwrap_or o None) (sym (ap (word_in word) e) ∙ g) in
-    no_such (number_of most (first_of word found.1)) (ap (number_of most) is) none
+something : (wrong : Wrong) (o : Option Wrong) → Some wrong ≡ o → o ≡ None → ⊥
+something wrong o p q = let both : Some wrong ≡ None = p ∙ q in absurd cc
 
 -- a flag that has this text is it
 by_flag : (one other : Bool) (text : Option Text) → text ≡ Some (flag_text one) → IsFlag text other → other ≡ one
@@ -195,23 +146,35 @@ flag_found flag text q found e f =
     ap (λ (o : Option (Option Text)). unwrap_or o None) (sym (ap (flag_in flag) e) ∙ f)
 
 -- the words of choices differ in their first letters
-no_check : codes "play" ≡ codes "check" → ⊥
-no_check e = true≢false (ap (λ (t : Text). slice_index t 0 == 112) e)
+play_no_check : codes "play" ≡ codes "check" → ⊥
+play_no_check e = true≢false (ap (λ (t : Text). slice_index t 0 == 112) e)
 
 play_no_run : codes "play" ≡ codes "run" → ⊥
 play_no_run e = true≢false (ap (λ (t : Text). slice_index t 0 == 112) e)
 
-no_audit : codes "play" ≡ codes "audit" → ⊥
-no_audit e = true≢false (ap (λ (t : Text). slice_index t 0 == 112) e)
+play_no_audit : codes "play" ≡ codes "audit" → ⊥
+play_no_audit e = true≢false (ap (λ (t : Text). slice_index t 0 == 112) e)
+
+play_no_manual : codes "play" ≡ codes "manual" → ⊥
+play_no_manual e = true≢false (ap (λ (t : Text). slice_index t 0 == 112) e)
+
+check_no_run : codes "check" ≡ codes "run" → ⊥
+check_no_run e = true≢false (ap (λ (t : Text). slice_index t 0 == 99) e)
 
 check_no_audit : codes "check" ≡ codes "audit" → ⊥
 check_no_audit e = true≢false (ap (λ (t : Text). slice_index t 0 == 99) e)
 
+check_no_manual : codes "check" ≡ codes "manual" → ⊥
+check_no_manual e = true≢false (ap (λ (t : Text). slice_index t 0 == 99) e)
+
 run_no_audit : codes "run" ≡ codes "audit" → ⊥
 run_no_audit e = true≢false (ap (λ (t : Text). slice_index t 0 == 114) e)
 
-check_no_run : codes "check" ≡ codes "run" → ⊥
-check_no_run e = true≢false (ap (λ (t : Text). slice_index t 0 == 99) e)
+run_no_manual : codes "run" ≡ codes "manual" → ⊥
+run_no_manual e = true≢false (ap (λ (t : Text). slice_index t 0 == 114) e)
+
+audit_no_manual : codes "audit" ≡ codes "manual" → ⊥
+audit_no_manual e = true≢false (ap (λ (t : Text). slice_index t 0 == 97) e)
 
 -- what is found of a plain line has its word
 found_word : (name : Text) (choice : Choice) (found : Text × List Row) → subcommand_of program (name ∷ line_of choice) ≡ Some found → found.0 ≡ word_of choice
@@ -224,79 +187,95 @@ word_named (Check whole) found n = n.0
 word_named Run found n = n
 word_named Audit found n = n.0
 word_named (AuditFile torn) found n = n.0
+word_named Manual found n = n
 
 -- a choice that a plain line names is its own
 same_choice : (name : Text) (choice other : Choice) (found : Text × List Row) → subcommand_of program (name ∷ line_of choice) ≡ Some found → word_of choice ≡ word_of other → Names found other → other ≡ choice
 same_choice name (Play all) (Play other) found e w n = ap Play (by_flag all other _ (flag_found (codes "all") (flag_text all) _ found e (play_flag name all)) n.1)
-same_choice name (Play all) (Check other) found e w n = absurd (no_check w)
+same_choice name (Play all) (Check other) found e w n = absurd (play_no_check w)
 same_choice name (Play all) Run found e w n = absurd (play_no_run w)
-same_choice name (Check whole) (Play other) found e w n = absurd (no_check (sym w))
-same_choice name (Check whole) (Check other) found e w n =
-    ap Check (by_flag whole other _ (flag_found (codes "script") (flag_text whole) _ found e (script_flag name whole)) n.1)
+same_choice name (Play all) Audit found e w n = absurd (play_no_audit w)
+same_choice name (Play all) (AuditFile other) found e w n = absurd (play_no_audit w)
+same_choice name (Play all) Manual found e w n = absurd (play_no_manual w)
+same_choice name (Check whole) (Play other) found e w n = absurd (play_no_check (sym w))
+same_choice name (Check whole) (Check other) found e w n = ap Check (by_flag whole other _ (flag_found (codes "script") (flag_text whole) _ found e (script_flag name whole)) n.1)
 same_choice name (Check whole) Run found e w n = absurd (check_no_run w)
-same_choice name (Play all) Audit found e w n = absurd (no_audit w)
-same_choice name (Play all) (AuditFile torn) found e w n = absurd (no_audit w)
 same_choice name (Check whole) Audit found e w n = absurd (check_no_audit w)
-same_choice name (Check whole) (AuditFile torn) found e w n = absurd (check_no_audit w)
+same_choice name (Check whole) (AuditFile other) found e w n = absurd (check_no_audit w)
+same_choice name (Check whole) Manual found e w n = absurd (check_no_manual w)
 same_choice name Run (Play other) found e w n = absurd (play_no_run (sym w))
 same_choice name Run (Check other) found e w n = absurd (check_no_run (sym w))
 same_choice name Run Run found e w n = refl
 same_choice name Run Audit found e w n = absurd (run_no_audit w)
-same_choice name Run (AuditFile torn) found e w n = absurd (run_no_audit w)
-same_choice name Audit (Play other) found e w n = absurd (no_audit (sym w))
+same_choice name Run (AuditFile other) found e w n = absurd (run_no_audit w)
+same_choice name Run Manual found e w n = absurd (run_no_manual w)
+same_choice name Audit (Play other) found e w n = absurd (play_no_audit (sym w))
 same_choice name Audit (Check other) found e w n = absurd (check_no_audit (sym w))
 same_choice name Audit Run found e w n = absurd (run_no_audit (sym w))
 same_choice name Audit Audit found e w n = refl
-same_choice name Audit (AuditFile torn) found e w n = absurd (n.2 (file_found None _ found e (no_file name)))
-same_choice name (AuditFile torn) (Play other) found e w n = absurd (no_audit (sym w))
+same_choice name Audit (AuditFile other) found e w n = absurd (n.2 (file_found None _ found e (no_file name)))
+same_choice name Audit Manual found e w n = absurd (audit_no_manual w)
+same_choice name (AuditFile torn) (Play other) found e w n = absurd (play_no_audit (sym w))
 same_choice name (AuditFile torn) (Check other) found e w n = absurd (check_no_audit (sym w))
 same_choice name (AuditFile torn) Run found e w n = absurd (run_no_audit (sym w))
 same_choice name (AuditFile torn) Audit found e w n =
     let file : None ≡ Some (codes "J") = sym n.2 ∙ file_found (Some (codes "J")) _ found e (some_file name torn) in
     absurd cc
 same_choice name (AuditFile torn) (AuditFile other) found e w n = ap AuditFile (by_flag torn other _ (flag_found (codes "torn") (flag_text torn) _ found e (torn_flag name torn)) n.1)
+same_choice name (AuditFile torn) Manual found e w n = absurd (audit_no_manual w)
+same_choice name Manual (Play other) found e w n = absurd (play_no_manual (sym w))
+same_choice name Manual (Check other) found e w n = absurd (check_no_manual (sym w))
+same_choice name Manual Run found e w n = absurd (run_no_manual (sym w))
+same_choice name Manual Audit found e w n = absurd (audit_no_manual (sym w))
+same_choice name Manual (AuditFile other) found e w n = absurd (audit_no_manual (sym w))
+same_choice name Manual Manual found e w n = refl
 
 names_it : (name : Text) (choice other : Choice) (found : Text × List Row) → subcommand_of program (name ∷ line_of choice) ≡ Some found → Names found other → other ≡ choice
 names_it name choice other found e n =
     same_choice name choice other found e (sym (found_word name choice found e) ∙ word_named other found n) n
 
--- what is found of a plain line is a choice's
-none_chosen : (name : Text) (choice : Choice) (m : Option (Text × List Row)) → m ≡ subcommand_of program (name ∷ line_of choice) → ((found : Text × List Row) → m ≡ Some found → NamesNone found)
-    → (found : Text × List Row) → m ≡ Some found → found.0 ≡ word_of choice → ⊥
-none_chosen name (Play all) m e none found is w = has_word _ found (sym e ∙ is) (play_notes name all) (any_color name (Play all)) ((none found is).0 w)
-none_chosen name (Check whole) m e none found is w = has_word _ found (sym e ∙ is) (check_notes name whole) (any_color name (Check whole)) ((none found is).1 w)
-none_chosen name Run m e none found is w = no_wrong ((none found is).2 w)
-  where
-    no_wrong : HasNoWord found.1 ⊎ HasNoRun found.1 → ⊥
-    no_wrong (inl word) = has_word _ found (sym e ∙ is) (run_notes name) (any_color name Run) word
-    no_wrong (inr (inl file)) = has_file _ found (sym e ∙ is) (run_sync name) file
-    no_wrong (inr (inr (inl tick))) = has_number longest_period (codes "tick") _ found (sym e ∙ is) (run_tick name) tick
-    no_wrong (inr (inr (inr (inl halt)))) = has_number most_entries (codes "halt-below") _ found (sym e ∙ is) (run_halt name) halt
-    no_wrong (inr (inr (inr (inr quota)))) = has_number most_entries (codes "quota") _ found (sym e ∙ is) (run_quota name) quota
-none_chosen name Audit m e none found is w = no_wrong ((none found is).3 w)
-  where
-    no_wrong : LacksFile found.1 ⊎ HasNoColor found.1 → ⊥
-    no_wrong (inl n) = true≢false (n.0.1 (row_found (codes "torn") (Some (flag_text false)) _ found (sym e ∙ is) (no_torn name)))
-    no_wrong (inr color) = has_color _ found (sym e ∙ is) (any_color name Audit) color
-none_chosen name (AuditFile torn) m e none found is w = no_wrong ((none found is).3 w)
-  where
-    no_wrong : LacksFile found.1 ⊎ HasNoColor found.1 → ⊥
-    no_wrong (inl n) =
-        let file : None ≡ Some (codes "J") = sym n.1 ∙ file_found (Some (codes "J")) _ found (sym e ∙ is) (some_file name torn) in
-        absurd cc
-    no_wrong (inr color) = has_color _ found (sym e ∙ is) (any_color name (AuditFile torn)) color
+-- nothing is wrong with what is found of a plain line
+right : (name : Text) (choice : Choice) (found : Text × List Row) (wrong : Wrong) → subcommand_of program (name ∷ line_of choice) ≡ Some found → found.0 ≡ word_of choice → IsWrong found (Some wrong) → ⊥
+right name (Play all) found wrong e w is = something wrong _ (is.0 w) (of_found (λ p. script_wrong p.1) _ found e (play_right name all))
+right name (Check whole) found wrong e w is = something wrong _ (is.1 w) (of_found (λ p. script_wrong p.1) _ found e (check_right name whole))
+right name Run found wrong e w is = something wrong _ (is.2 w) (of_found (λ p. run_wrong p.1) _ found e (run_right name))
+right name Audit found wrong e w is =
+    let given = is.3 w in
+    let torn : given.0 ≡ false = given.1.1 (row_found (codes "torn") (Some (flag_text false)) _ found e (no_torn name)) in
+    let alone : torn_wrong (is_some (first_of (codes "journal") found.1)) given.0 ≡ None =
+    ap₂ (λ (f : Option Text) (t : Bool). torn_wrong (is_some f) t) (file_found None _ found e (no_file name)) torn in
+    something wrong _ given.2 (ap₂ or_else alone (of_found (λ p. color_wrong p.1) _ found e (audit_color name)))
+right name (AuditFile torn) found wrong e w is =
+    let given = is.3 w in
+    let alone : torn_wrong (is_some (first_of (codes "journal") found.1)) given.0 ≡ None =
+    ap (λ (f : Option Text). torn_wrong (is_some f) given.0) (file_found (Some (codes "J")) _ found e (some_file name torn)) in
+    something wrong _ given.2 (ap₂ or_else alone (of_found (λ p. color_wrong p.1) _ found e (file_color name torn)))
+right name Manual found wrong e w is = something wrong _ (is.4 w) refl
+
+-- its name is one
+named : (choice : Choice) (found : Text × List Row) → found.0 ≡ word_of choice → IsUnnamed found.0 → ⊥
+named (Play all) found w n = n.0 w
+named (Check whole) found w n = n.1 w
+named Run found w n = n.2 w
+named Audit found w n = n.3 w
+named (AuditFile torn) found w n = n.3 w
+named Manual found w n = n.4 w
 
 -- what is found of a plain line names its choice
 pub line_named : (name : Text) (choice other : Choice) (m : Option (Text × List Row)) → m ≡ subcommand_of program (name ∷ line_of choice) → (found : Text × List Row) → m ≡ Some found → Names found other → other ≡ choice
 line_named name choice other m e found is n = names_it name choice other found (sym e ∙ is) n
 
+-- nothing is wrong with it
+pub line_right : (name : Text) (choice : Choice) (m : Option (Text × List Row)) → m ≡ subcommand_of program (name ∷ line_of choice) → (found : Text × List Row) → m ≡ Some found → (wrong : Wrong) → IsWrong found (Some wrong) → ⊥
+line_right name choice m e found is wrong n = right name choice found wrong (sym e ∙ is) (found_word name choice found (sym e ∙ is)) n
+
 -- it names one
-pub line_unnamed : (name : Text) (choice : Choice) (m : Option (Text × List Row)) → m ≡ subcommand_of program (name ∷ line_of choice) → ((found : Text × List Row) → m ≡ Some found → NamesNone found) → ⊥
+pub line_unnamed : (name : Text) (choice : Choice) (m : Option (Text × List Row)) → m ≡ subcommand_of program (name ∷ line_of choice) → ((found : Text × List Row) → m ≡ Some found → IsUnnamed found.0) → ⊥
 line_unnamed name choice m e none = by_found m refl (ap name_in e ∙ name_is name choice)
   where
     by_found : (o : Option (Text × List Row)) → m ≡ o → name_in o ≡ Some (word_of choice) → ⊥
     by_found None is f = absurd (cc)
-    by_found (Some found) is f = none_chosen name choice m e none found is (ap (λ (p : Option Text). unwrap_or p found.0) f)
+    by_found (Some found) is f = named choice found (ap (λ (p : Option Text). unwrap_or p found.0) f) (none found is)
 
 -- What `audit` chooses.
 
@@ -311,25 +290,36 @@ audit_named found (Some f) n torn choice w is flag e =
     let same : AuditFile torn ≡ choice = ap (λ (o : Option Choice). unwrap_or o (AuditFile torn)) is in
     (subst (λ (c : Choice). Names found c) same (w, flag, λ none. let both : None ≡ Some (n f) = sym none ∙ e in absurd cc), (w, e))
 
--- its flag alone chooses nothing
-pub flag_alone : {X : Type 0} (found : Text × List Row) (file : Option X) (n : X → Text) (torn : Bool) → audit_of (is_some file) torn ≡ None → IsFlag (one_of (codes "torn") found.1) torn → first_of (codes "journal") found.1 ≡ option_map n file
-    → LacksFile found.1
-flag_alone found None n true is flag e = (flag, e)
-flag_alone found None n false is flag e = absurd cc
-flag_alone found (Some f) n torn is flag e = absurd cc
+-- what is so of both choices of `audit` is so of what it chooses
+pub by_audit : (found : Text × List Row) (choice : Choice) (P : Choice → Type 0) → found.0 ≡ codes "audit" → Names found choice → P Audit → ((torn : Bool) → P (AuditFile torn)) → P choice
+by_audit found (Play all) P w n a f = absurd (play_no_audit (sym n.0 ∙ w))
+by_audit found (Check whole) P w n a f = absurd (check_no_audit (sym n.0 ∙ w))
+by_audit found Run P w n a f = absurd (run_no_audit (sym n ∙ w))
+by_audit found Audit P w n a f = a
+by_audit found (AuditFile torn) P w n a f = f torn
+by_audit found Manual P w n a f = absurd (audit_no_manual (sym w ∙ n))
 
--- what `audit` chooses looks at no lists
-pub unnoted : (found : Text × List Row) (choice : Choice) (notes : When) (errors : Bool) → found.0 ≡ codes "audit" → Names found choice → errors ≡ false → IsNoted found choice notes errors
-unnoted found (Play all) notes errors w n e = absurd (no_audit (sym n.0 ∙ w))
-unnoted found (Check whole) notes errors w n e = absurd (check_no_audit (sym n.0 ∙ w))
-unnoted found Run notes errors w n e = absurd (run_no_audit (sym n ∙ w))
-unnoted found Audit notes errors w n e = e
-unnoted found (AuditFile torn) notes errors w n e = e
+-- a name that was read is there where it is given
+pub is_some_map : {X Y : Type 0} (f : X → Y) (o : Option X) → is_some (option_map f o) ≡ is_some o
+is_some_map f None = refl
+is_some_map f (Some x) = refl
 
--- it runs nothing
-pub unrun : (found : Text × List Row) (choice : Choice) → found.0 ≡ codes "audit" → Names found choice → IsRunning found choice no_run
-unrun found (Play all) w n = refl
-unrun found (Check whole) w n = refl
-unrun found Run w n = absurd (run_no_audit (sym n ∙ w))
-unrun found Audit w n = refl
-unrun found (AuditFile torn) w n = refl
+-- What the subcommands choose.
+
+-- what is chosen, and what is wrong, are what is selected
+pub selected : (found : Text × List Row) (result : Result Selection Misuse) → IfOk result (λ chosen. IsSelection found chosen) → IsWrong found (wrong_in result) → IsSelected found result
+selected found (Ok chosen) ok wrong = (ok, wrong)
+selected found (Err misuse) ok wrong = wrong
+
+-- what is wrong with what one of them was given
+pub play_wrongs : (rows : List Row) (wrong : Option Wrong) → wrong ≡ script_wrong rows → IsWrong (codes "play", rows) wrong
+play_wrongs rows wrong e =
+    (λ _. e, λ w. absurd (play_no_check w), λ w. absurd (play_no_run w), λ w. absurd (play_no_audit w), λ w. absurd (play_no_manual w))
+
+pub check_wrongs : (rows : List Row) (wrong : Option Wrong) → wrong ≡ script_wrong rows → IsWrong (codes "check", rows) wrong
+check_wrongs rows wrong e =
+    (λ w. absurd (play_no_check (sym w)), λ _. e, λ w. absurd (check_no_run w), λ w. absurd (check_no_audit w), λ w. absurd (check_no_manual w))
+
+pub run_wrongs : (rows : List Row) (wrong : Option Wrong) → wrong ≡ run_wrong rows → IsWrong (codes "run", rows) wrong
+run_wrongs rows wrong e =
+    (λ w. absurd (play_no_run (sym w)), λ w. absurd (check_no_run (sym w)), λ _. e, λ w. absurd (run_no_audit w), λ w. absurd (run_no_manual w))

@@ -1,9 +1,9 @@
 -- The command line (own): `play`, which may be given `--all`, `check`, which may be given `--script`, and `run`, which may be
 -- given `--journal FILE` and, with it, `--sync HOW`, `--halt-below N`, `--quota N`, `--tick MS`, `--stop-by PIPE` and `--console`,
 -- all three with `--notes WHEN` and `--warnings-are-errors`; and `audit`, which
--- may be given `--journal FILE` and, with it, `--torn`. Each may be given `--explain` and `--color WHEN`. What words come to is what
--- `clap` says of this command.
-use Rattle.std.specs.Prelude.{◌≡◌, ◌⊎◌, ℕ, Bool, true, false, ◌&&◌, nat_le, nat_lt, if◌then◌else◌, List, [], ◌∷◌, Option, Some, None, codes, option_map}
+-- may be given `--journal FILE` and, with it, `--torn`. Each may be given `--explain`, `--color WHEN` and the FILE of its script.
+-- Beside them `manual`, which may be given the name of one of them. What words come to is what `clap` says of this command.
+use Rattle.std.specs.Prelude.{◌≡◌, ℕ, Bool, true, false, ◌&&◌, nat_le, nat_lt, if◌then◌else◌, List, [], ◌∷◌, Option, Some, None, is_some, codes, option_map, Result, Ok, Err}
 use Rattle.std.specs.Str.{bytes_eq}
 use Rattle.clap.specs.Words.{App, Row, Rule, new_app, new_rule, subcommand_of, with_rule, with_subcommand}
 use Rattle.clap.specs.Simple.{on_top}
@@ -11,7 +11,7 @@ use Rattle.clap.specs.Walk.{Text, first_of, one_of}
 use Rattle.clap.specs.declared.builder.action.ArgAction.TheVariants.{Set, SetTrue}
 use Rattle.rv_text.specs.Numbers.{natural_of}
 use Rattle.rv_choice.specs.declared.selection.Choice.{Choice}
-use Rattle.rv_choice.specs.declared.selection.Choice.TheVariants.{Play, Check, Run, Audit, AuditFile}
+use Rattle.rv_choice.specs.declared.selection.Choice.TheVariants.{Play, Check, Run, Audit, AuditFile, Manual}
 use Rattle.rv_choice.specs.declared.selection.When.{When}
 use Rattle.rv_choice.specs.declared.selection.When.TheVariants.{Auto, Always}
 use Rattle.rv_choice.specs.declared.selection.When.TheVariants as Whens
@@ -19,8 +19,12 @@ use Rattle.rv_choice.specs.declared.selection.Sync.{Sync}
 use Rattle.rv_choice.specs.declared.selection.Sync.TheVariants.{Each, Second, Never}
 use Rattle.rv_choice.specs.declared.selection.RunWords.{RunWords as GivenWords}
 use Rattle.rv_choice.specs.declared.selection.Selection.{Selection}
+use Rattle.rv_choice.specs.declared.misuse.Flag.{Flag}
+use Rattle.rv_choice.specs.declared.misuse.Flag.TheVariants as Flags
+use Rattle.rv_choice.specs.declared.misuse.Misuse.{Misuse}
+use Rattle.rv_choice.specs.declared.misuse.Misuse.TheVariants.{Word, Alone}
 use Rattle.rv_choice.specs.declared.chosen.Unchosen.{Unchosen}
-use Rattle.rv_choice.specs.declared.chosen.Unchosen.TheVariants.{Usage, Unknown, NoMemory}
+use Rattle.rv_choice.specs.declared.chosen.Unchosen.TheVariants.{Usage, NoCommand, Misused, NoMemory}
 
 -- a flag
 abbrev pub flag_rule : Text → Rule
@@ -46,11 +50,19 @@ with_notes app = with_rule (with_rule app notes_rule) (flag_rule (codes "warning
 abbrev pub with_color : App → App
 with_color app = with_rule app (value_rule (codes "color"))
 
+-- a word that is no flag
+abbrev pub word_rule : Text → Rule
+word_rule name = record (new_rule name) { action = Some Set; value_names = 1 }
+
+-- each may be told the file of its script
+abbrev pub with_file : App → App
+with_file app = with_rule app (word_rule (codes "file"))
+
 abbrev pub playing : App
-playing = with_color (with_notes (with_rule (with_rule (new_app (codes "play")) (flag_rule (codes "all"))) explain_rule))
+playing = with_file (with_color (with_notes (with_rule (with_rule (new_app (codes "play")) (flag_rule (codes "all"))) explain_rule)))
 
 abbrev pub checked : App
-checked = with_color (with_notes (with_rule (with_rule (new_app (codes "check")) explain_rule) (flag_rule (codes "script"))))
+checked = with_file (with_color (with_notes (with_rule (with_rule (new_app (codes "check")) explain_rule) (flag_rule (codes "script")))))
 
 -- the name of a file, and when it is synced
 abbrev pub file_rule : Rule
@@ -76,14 +88,18 @@ abbrev pub consoled : App
 consoled = with_rule attending (flag_rule (codes "console"))
 
 abbrev pub running : App
-running = with_color (with_notes consoled)
+running = with_file (with_color (with_notes consoled))
 
 -- `audit`, which may be given the name of a file, and two flags
 abbrev pub judging : App
 judging = with_rule (with_rule (new_app (codes "audit")) file_rule) (flag_rule (codes "torn"))
 
 abbrev pub audited : App
-audited = with_color (with_rule judging explain_rule)
+audited = with_file (with_color (with_rule judging explain_rule))
+
+-- `manual`, which may be told the subcommand that it is of
+abbrev pub manual : App
+manual = with_rule (new_app (codes "manual")) (word_rule (codes "command"))
 
 -- the program, of which one subcommand must be named
 abbrev pub versioned : App
@@ -93,8 +109,8 @@ abbrev pub alone : App
 alone = on_top (λ s. record s { subcommand_required = true }) versioned
 
 abbrev pub program : App
-program = with_subcommand (with_subcommand (with_subcommand (with_subcommand alone playing.top) checked.top) running.top)
-    audited.top
+program = with_subcommand (with_subcommand (with_subcommand (with_subcommand (with_subcommand alone playing.top) checked.top)
+    running.top) audited.top) manual.top
 
 -- the text of a flag, as a flag
 abbrev pub IsFlag : Option Text → Bool → Type 0
@@ -108,6 +124,22 @@ Names found (Check whole) = (found.0 ≡ codes "check") × IsFlag (one_of (codes
 Names found Run = found.0 ≡ codes "run"
 Names found Audit = (found.0 ≡ codes "audit") × IsFlag (one_of (codes "torn") found.1) false × (first_of (codes "journal") found.1 ≡ None)
 Names found (AuditFile torn) = (found.0 ≡ codes "audit") × IsFlag (one_of (codes "torn") found.1) torn × (first_of (codes "journal") found.1 ≡ None → ⊥)
+Names found Manual = found.0 ≡ codes "manual"
+
+-- the file of this name; the name `-` is that of standard input
+abbrev pub named_file : Option Text → Option Text
+named_file None = None
+named_file (Some name) = if bytes_eq name (codes "-") then None else Some name
+
+-- the file that a script is read from, in place of standard input
+abbrev pub IsScript : Text × List Row → Choice → Option Text → Type 0
+IsScript found Manual file = file ≡ None
+IsScript found choice file = file ≡ named_file (first_of (codes "file") found.1)
+
+-- the subcommand that a manual is of
+abbrev pub IsSubject : Text × List Row → Choice → Option Text → Type 0
+IsSubject found Manual subject = subject ≡ first_of (codes "command") found.1
+IsSubject found choice subject = subject ≡ None
 
 -- the file that was named, for `audit` alone
 abbrev pub IsJournal : Text × List Row → Option Text → Type 0
@@ -135,8 +167,14 @@ IsNoted found Run notes errors = Tells found.1 notes errors
 IsNoted found choice notes errors = errors ≡ false
 
 -- whether a script's fault, or for `audit` the ends of bodies, are explained
-abbrev pub IsExplaining : Text × List Row → Bool → Type 0
-IsExplaining found explains = IsFlag (one_of (codes "explain") found.1) explains
+abbrev pub IsExplaining : Text × List Row → Choice → Bool → Type 0
+IsExplaining found Manual explains = explains ≡ false
+IsExplaining found choice explains = IsFlag (one_of (codes "explain") found.1) explains
+
+-- when there are colours, by the word that is given
+abbrev pub IsColored : Text × List Row → Choice → When → Type 0
+IsColored found Manual color = color ≡ Auto
+IsColored found choice color = when_of (first_of (codes "color") found.1) ≡ Some color
 
 -- when a file is synced, by the word that is given, if it is one of these
 abbrev pub sync_of : Option Text → Option Sync
@@ -152,16 +190,9 @@ abbrev pub KeepsAs : Option Text → Option Text → Option (Text × Sync) → T
 KeepsAs name word None = (name ≡ None) × (word ≡ None)
 KeepsAs name word (Some kept) = (name ≡ Some kept.0) × (sync_of word ≡ Some kept.1)
 
--- the word that says when is another, or there is no file
-abbrev pub HasNoFileAs : Option Text → Option Text → Type 0
-HasNoFileAs name word = (sync_of word ≡ None) ⊎ ((name ≡ None) × (word ≡ None → ⊥))
-
 -- both by what `run` is given
 abbrev pub Keeps : List Row → Option (Text × Sync) → Type 0
 Keeps rows kept = KeepsAs (first_of (codes "journal") rows) (first_of (codes "sync") rows) kept
-
-abbrev pub HasNoFile : List Row → Type 0
-HasNoFile rows = HasNoFileAs (first_of (codes "journal") rows) (first_of (codes "sync") rows)
 
 -- a number from 1 up to a greatest
 abbrev pub counted : ℕ → Option ℕ → Option (Option ℕ)
@@ -209,12 +240,6 @@ IsRun rows run =
     × (number_of most_entries (first_of (codes "quota") rows) ≡ Some run.quota) × (run.stop ≡ first_of (codes "stop-by") rows)
     × IsFlag (one_of (codes "console") rows) run.console
 
--- a word is another, or a file is missing
-abbrev pub HasNoRun : List Row → Type 0
-HasNoRun rows =
-    HasNoFile rows ⊎ (number_of longest_period (first_of (codes "tick") rows) ≡ None)
-    ⊎ (number_of most_entries (first_of (codes "halt-below") rows) ≡ None) ⊎ (number_of most_entries (first_of (codes "quota") rows) ≡ None)
-
 -- nothing of that
 abbrev pub no_run : RunWords
 no_run = record { kept = None; tick = None; halt_below = None; quota = None; stop = None; console = false }
@@ -224,48 +249,128 @@ abbrev pub IsRunning : Text × List Row → Choice → RunWords → Type 0
 IsRunning found Run run = IsRun found.1 run
 IsRunning found choice run = run ≡ no_run
 
--- the word that was given for notes, or for colours, is another
-abbrev pub HasNoNotes : List Row → Type 0
-HasNoNotes rows = when_of (first_of (codes "notes") rows) ≡ None
-
-abbrev pub HasNoColor : List Row → Type 0
-HasNoColor rows = when_of (first_of (codes "color") rows) ≡ None
-
-abbrev pub HasNoWord : List Row → Type 0
-HasNoWord rows = HasNoNotes rows ⊎ HasNoColor rows
-
 -- what `audit` comes to: a flag without a file chooses nothing
 abbrev pub audit_of : Bool → Bool → Option Choice
 audit_of true torn = Some (AuditFile torn)
 audit_of false true = None
 audit_of false false = Some Audit
 
--- a flag of `audit` stands without a file
-abbrev pub LacksFile : List Row → Type 0
-LacksFile rows = IsFlag (one_of (codes "torn") rows) true × (first_of (codes "journal") rows ≡ None)
+-- What is wrong with a flag: it has this word, which says nothing there; or it stands without the file that it speaks of.
+abbrev pub Wrong : Type 0
+Wrong = Flag × Option Text
 
--- no choice has the name of what was found, or notes or colours have another word, or a file is missing
-abbrev pub NamesNone : Text × List Row → Type 0
-NamesNone found = (found.0 ≡ codes "play" → HasNoWord found.1) × (found.0 ≡ codes "check" → HasNoWord found.1) × (found.0 ≡ codes "run" → HasNoWord found.1 ⊎ HasNoRun found.1)
-    × (found.0 ≡ codes "audit" → LacksFile found.1 ⊎ HasNoColor found.1)
+abbrev pub wrong_of : Misuse → Wrong
+wrong_of (Word flag word) = (flag, Some word.now)
+wrong_of (Alone flag) = (flag, None)
+
+module _ {X : Type 0} where
+  -- what is wrong where something else came of it
+  abbrev pub wrong_in : Result X Misuse → Option Wrong
+  wrong_in (Ok x) = None
+  wrong_in (Err misuse) = Some (wrong_of misuse)
+
+  -- what is wrong with the word of a flag that says this: nothing, unless it says nothing
+  abbrev pub wrong_as : Flag → Option Text → Option X → Option Wrong
+  wrong_as flag word (Some x) = None
+  wrong_as flag word None = Some (flag, word)
+
+-- what is wrong first
+abbrev pub or_else : Option Wrong → Option Wrong → Option Wrong
+or_else None next = next
+or_else (Some wrong) next = Some wrong
+
+-- with a word that says when, for notes and for colours
+abbrev pub when_wrong : Flag → Text → List Row → Option Wrong
+when_wrong flag name rows = wrong_as flag (first_of name rows) (when_of (first_of name rows))
+
+abbrev pub notes_wrong : List Row → Option Wrong
+notes_wrong rows = when_wrong Flags.Notes (codes "notes") rows
+
+abbrev pub color_wrong : List Row → Option Wrong
+color_wrong rows = when_wrong Flags.Color (codes "color") rows
+
+-- with a number
+abbrev pub number_wrong : Flag → Text → ℕ → List Row → Option Wrong
+number_wrong flag name most rows = wrong_as flag (first_of name rows) (number_of most (first_of name rows))
+
+-- with the word that says when a file is synced, and with one that has no file
+abbrev pub sync_wrong_as : Option Text → Option Text → Option Wrong
+sync_wrong_as None None = None
+sync_wrong_as None (Some word) = Some (Flags.Sync, None)
+sync_wrong_as (Some name) word = wrong_as Flags.Sync word (sync_of word)
+
+abbrev pub sync_wrong : List Row → Option Wrong
+sync_wrong rows = sync_wrong_as (first_of (codes "journal") rows) (first_of (codes "sync") rows)
+
+-- with `--torn` without a file
+abbrev pub torn_wrong : Bool → Bool → Option Wrong
+torn_wrong false true = Some (Flags.Torn, None)
+torn_wrong has_journal torn = None
+
+-- What is wrong with what a subcommand was given, the first in this order: with `play` and `check`,
+abbrev pub script_wrong : List Row → Option Wrong
+script_wrong rows = or_else (notes_wrong rows) (color_wrong rows)
+
+-- with what `run` does beside its commands,
+abbrev pub beside_wrong : List Row → Option Wrong
+beside_wrong rows =
+    or_else (sync_wrong rows)
+    (or_else (number_wrong Flags.Tick (codes "tick") longest_period rows)
+    (or_else (number_wrong Flags.HaltBelow (codes "halt-below") most_entries rows)
+    (number_wrong Flags.Quota (codes "quota") most_entries rows)))
+
+-- with `run`,
+abbrev pub run_wrong : List Row → Option Wrong
+run_wrong rows = or_else (beside_wrong rows) (script_wrong rows)
+
+-- and with `audit`
+abbrev pub audit_wrong : Bool → List Row → Option Wrong
+audit_wrong torn rows = or_else (torn_wrong (is_some (first_of (codes "journal") rows)) torn) (color_wrong rows)
+
+abbrev pub IsAuditWrong : List Row → Option Wrong → Type 0
+IsAuditWrong rows wrong = (torn : Bool) × IsFlag (one_of (codes "torn") rows) torn × (wrong ≡ audit_wrong torn rows)
+
+-- what is wrong with what was found
+abbrev pub IsWrong : Text × List Row → Option Wrong → Type 0
+IsWrong found wrong =
+    (found.0 ≡ codes "play" → wrong ≡ script_wrong found.1) × (found.0 ≡ codes "check" → wrong ≡ script_wrong found.1)
+    × (found.0 ≡ codes "run" → wrong ≡ run_wrong found.1) × (found.0 ≡ codes "audit" → IsAuditWrong found.1 wrong)
+    × (found.0 ≡ codes "manual" → wrong ≡ None)
+
+-- no subcommand has this name
+abbrev pub IsUnnamed : Text → Type 0
+IsUnnamed name =
+    (name ≡ codes "play" → ⊥) × (name ≡ codes "check" → ⊥) × (name ≡ codes "run" → ⊥) × (name ≡ codes "audit" → ⊥)
+    × (name ≡ codes "manual" → ⊥)
 
 -- a subcommand with what it was given is selected: a choice, with a file that is judged where there is one, what becomes of notes,
--- when there are colours, whether there are explanations, and what a run does beside its commands
+-- when there are colours, whether there are explanations, what a run does beside its commands, the file of its script, and what a
+-- manual is of
 abbrev pub IsSelection : Text × List Row → Selection → Type 0
 IsSelection found chosen =
     Names found chosen.choice × IsJournal found (option_map (λ name. name.now) chosen.journal)
-    × IsNoted found chosen.choice chosen.notes chosen.are_errors × IsExplaining found chosen.explains
-    × IsRunning found chosen.choice (words_of chosen.run) × (when_of (first_of (codes "color") found.1) ≡ Some chosen.color)
+    × IsNoted found chosen.choice chosen.notes chosen.are_errors × IsExplaining found chosen.choice chosen.explains
+    × IsRunning found chosen.choice (words_of chosen.run) × IsColored found chosen.choice chosen.color
+    × IsScript found chosen.choice (option_map (λ name. name.now) chosen.file)
+    × IsSubject found chosen.choice (option_map (λ name. name.now) chosen.subject)
+
+-- what was found is selected, and nothing is wrong with it; or this is wrong
+abbrev pub IsSelected : Text × List Row → Result Selection Misuse → Type 0
+IsSelected found (Ok chosen) = IsSelection found chosen × IsWrong found None
+IsSelected found (Err misuse) = IsWrong found (Some (wrong_of misuse))
 
 -- the words name such a choice
 abbrev pub Chooses : List Text → Selection → Type 0
-Chooses words chosen = (found : Text × List Row) × (subcommand_of program words ≡ Some found) × IsSelection found chosen
+Chooses words chosen = (found : Text × List Row) × (subcommand_of program words ≡ Some found) × IsSelection found chosen × IsWrong found None
 
--- where `clap` takes the words, nothing is chosen only for want of memory, or where its matches name no choice
+-- where `clap` takes the words, nothing is chosen only for want of memory, where its matches name no choice, or where a flag is given
+-- wrongly, which is told
 abbrev pub Lacks : List Text → Unchosen → Type 0
 Lacks words NoMemory = Unit {0}
-Lacks words Unknown =
-    (found : Text × List Row) → subcommand_of program words ≡ Some found → NamesNone found
+Lacks words NoCommand =
+    (found : Text × List Row) → subcommand_of program words ≡ Some found → IsUnnamed found.0
+Lacks words (Misused misuse) =
+    (found : Text × List Row) × (subcommand_of program words ≡ Some found) × IsWrong found (Some (wrong_of misuse))
 Lacks words (Usage error) = ⊥
 
 -- a plain line of each choice, behind the program's name; a file is named J
@@ -278,3 +383,4 @@ line_of Run = codes "run" ∷ []
 line_of Audit = codes "audit" ∷ []
 line_of (AuditFile false) = codes "audit" ∷ codes "--journal" ∷ codes "J" ∷ []
 line_of (AuditFile true) = codes "audit" ∷ codes "--journal" ∷ codes "J" ∷ codes "--torn" ∷ []
+line_of Manual = codes "manual" ∷ []

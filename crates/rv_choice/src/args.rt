@@ -3,7 +3,7 @@
 ghost use Rattle.std.specs.Prelude.{◌≡◌, false, IfOk, codes};
 ghost use Rattle.clap.specs.Words.{app_of, rule_of, with_rule};
 ghost use Rattle.clap.specs.declared.builder.command.Command.TheViews.{out-Command as fields_of};
-ghost use Rattle.rv_choice.specs.Choices.{file_rule, flag_rule, notes_rule, sync_rule, value_rule, with_color, with_notes};
+ghost use Rattle.rv_choice.specs.Choices.{file_rule, flag_rule, notes_rule, sync_rule, value_rule, with_color, with_file, with_notes, word_rule};
 
 use clap::{Arg, ArgAction, Command};
 use std::alloc::{AllocError, Global};
@@ -65,6 +65,43 @@ fn color_flag<'a>(alloc: Global) -> Arg<'a>
     )
 }
 
+// A word that is no flag, by the name that help shows.
+fn word_arg<'a>(alloc: Global, name: &'a str, value: &'a str, help: &'a str) -> Arg<'a>
+    ensures rule { rule_of result ≡ word_rule name.now }
+    ensures local { result.global ≡ false }
+{
+    Arg::new(alloc, name)
+        .value_name(value)
+        .help(help)
+        .action(ArgAction::Set)
+}
+
+/// The subcommand that a manual is of.
+pub fn subject_arg<'a>(alloc: Global) -> Arg<'a>
+    ensures rule { rule_of result ≡ word_rule (codes "command") }
+    ensures local { result.global ≡ false }
+{
+    word_arg(
+        alloc,
+        "command",
+        "COMMAND",
+        "The command whose help is printed; without one that of the program",
+    )
+}
+
+/// A subcommand that may be told the file of its script.
+pub fn with_file<'a>(
+    alloc: Global,
+    command: Command<'a>,
+    help: &'a str,
+) -> Result<Command<'a>, AllocError>
+    requires { (fields_of command).has_globals ≡ false }
+    ensures app { IfOk result (λ c. app_of c ≡ with_file (app_of command.entry)) }
+    ensures local { IfOk result (λ c. (fields_of c).has_globals ≡ false) }
+{
+    command.arg(word_arg(alloc, "file", "FILE", help))
+}
+
 /// The name of a journal's file.
 pub fn file_arg<'a>(alloc: Global, help: &'a str) -> Arg<'a>
     ensures rule { rule_of result ≡ file_rule }
@@ -123,6 +160,9 @@ pub fn coloured<'a>(alloc: Global, command: Command<'a>) -> Result<Command<'a>, 
 {
     command.arg(color_flag(alloc))
 }
+
+/// Where a script is read from.
+pub const SCRIPT_HELP: &str = "Read the script from this file, in place of standard input";
 
 /// What is explained of a refused script.
 pub const FAULT_HELP: &str =

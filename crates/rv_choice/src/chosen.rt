@@ -1,51 +1,57 @@
 //! What the words of a command line choose.
 
-ghost use Rattle.std.specs.Prelude.{◌≡◌, ◌∷◌, ◌⊎◌, List, true, Some, None, IfSome, IfNone, IfOk, IfErr, codes, map};
+ghost use Rattle.std.specs.Prelude.{◌≡◌, ◌∷◌, List, true, Some, None, IfSome, IfNone, IfOk, IfErr, codes, map, option_map};
 ghost use Rattle.clap.specs.Words.{subcommand_rows_of, takes};
 ghost use Rattle.clap.specs.Matches.{found_of};
 ghost use Rattle.clap.specs.Walk.{Row, Text, first_of, one_of, rows_of};
 ghost use Rattle.rv_choice.specs.declared.chosen.Unchosen.TheVariants as Unchosen;
-ghost use Rattle.rv_choice.specs.Choices.{Chooses, HasNoColor, HasNoRun, HasNoWord, IsFlag, IsSelection, Lacks, LacksFile, NamesNone, Tells, line_of, program, when_of, words_of};
+ghost use Rattle.rv_choice.specs.Choices.{Chooses, IsAuditWrong, IsFlag, IsSelected, IsSelection, IsUnnamed, Lacks, Tells, line_of, named_file, program, run_wrong, script_wrong, when_of, words_of, wrong_in};
 
 use crate::command::command;
+use crate::misuse::Misuse;
 use crate::run_words::run_words;
 use crate::selection::{Choice, NO_RUN, RunWords, Selection, When};
-use crate::words::{audit_of, color_of, telling_of};
+use crate::words::{audit_of, color_of, script_of, subject_of, telling_of};
 use clap::error::ErrorKind;
 use clap::{ArgMatches, Error};
 use std::alloc::Global;
 
 /// Why the words of a command line choose nothing.
 #[derive(Drop)]
-pub enum Unchosen {
+pub enum Unchosen<'a> {
     /// They are no command line, or ask for help, which this prints.
     Usage(Error),
-    /// There is no subcommand of this name, `--torn` or `--sync` stands without a file, or a flag has another word than it takes.
-    Unknown,
+    /// There is no subcommand of this name.
+    NoCommand,
+    /// A flag is given wrongly: the first of `--sync`, `--tick`, `--halt-below`, `--quota`, `--notes` and `--color`, or of `--torn` and `--color`.
+    Misused(Misuse<'a>),
     /// Memory was refused.
     NoMemory,
 }
 
-// What a subcommand over a script chooses: this, with this beside its commands, and what its words say of notes, colours
-// and explanations; none where notes or colours have another word.
+// What a subcommand over a script chooses: this, with this beside its commands, and what its words say of notes, colours,
+// explanations and its file.
 fn script_chosen<'a>(
     words: &ArgMatches<'a>,
     choice: Choice,
     run: RunWords<'a>,
-) -> Option<Selection<'a>>
-    ensures given { IfSome result (λ chosen. (chosen.choice ≡ choice) × (chosen.journal ≡ None) × (words_of chosen.run ≡ words_of run.entry)) }
-    ensures told { IfSome result (λ chosen. Tells (rows_of (found_of words.now)) chosen.notes chosen.are_errors) }
-    ensures explained { IfSome result (λ chosen. IsFlag (one_of (codes "explain") (rows_of (found_of words.now))) chosen.explains) }
-    ensures coloured { IfSome result (λ chosen. when_of (first_of (codes "color") (rows_of (found_of words.now))) ≡ Some chosen.color) }
-    ensures none { IfNone result (HasNoWord (rows_of (found_of words.now))) }
+) -> Result<Selection<'a>, Misuse<'a>>
+    ensures given { IfOk result (λ chosen. (chosen.choice ≡ choice) × (chosen.journal ≡ None) × (chosen.subject ≡ None) × (words_of chosen.run ≡ words_of run.entry)) }
+    ensures told { IfOk result (λ chosen. Tells (rows_of (found_of words.now)) chosen.notes chosen.are_errors) }
+    ensures explained { IfOk result (λ chosen. IsFlag (one_of (codes "explain") (rows_of (found_of words.now))) chosen.explains) }
+    ensures coloured { IfOk result (λ chosen. when_of (first_of (codes "color") (rows_of (found_of words.now))) ≡ Some chosen.color) }
+    ensures file { IfOk result (λ chosen. option_map (λ n. n.now) chosen.file ≡ named_file (first_of (codes "file") (rows_of (found_of words.now)))) }
+    ensures wrong { wrong_in result ≡ script_wrong (rows_of (found_of words.now)) }
 {
-    let Some(told) = telling_of(words) else {
-        return None;
+    let told = match telling_of(words) {
+        Ok(told) => told,
+        Err(misuse) => return Err(misuse),
     };
-    let Some(color) = color_of(words) else {
-        return None;
+    let color = match color_of(words) {
+        Ok(color) => color,
+        Err(misuse) => return Err(misuse),
     };
-    Some(Selection {
+    Ok(Selection {
         choice,
         notes: told.0,
         color,
@@ -53,47 +59,53 @@ fn script_chosen<'a>(
         journal: None,
         explains: words.get_flag("explain"),
         run,
+        file: script_of(words),
+        subject: None,
     })
 }
 
-// What `play` chooses by what it was given; none where notes or colours have another word.
-fn play_chosen<'a>(words: &ArgMatches<'a>) -> Option<Selection<'a>>
-    ensures some { IfSome result (λ chosen. IsSelection (codes "play", rows_of (found_of words.now)) chosen) }
-    ensures none { IfNone result (HasNoWord (rows_of (found_of words.now))) }
+// What `play` chooses by what it was given.
+fn play_chosen<'a>(words: &ArgMatches<'a>) -> Result<Selection<'a>, Misuse<'a>>
+    ensures ok { IfOk result (λ chosen. IsSelection (codes "play", rows_of (found_of words.now)) chosen) }
+    ensures wrong { wrong_in result ≡ script_wrong (rows_of (found_of words.now)) }
 {
     script_chosen(words, Choice::Play(words.get_flag("all")), NO_RUN)
 }
 
-// What `check` chooses; none where notes or colours have another word.
-fn check_chosen<'a>(words: &ArgMatches<'a>) -> Option<Selection<'a>>
-    ensures some { IfSome result (λ chosen. IsSelection (codes "check", rows_of (found_of words.now)) chosen) }
-    ensures none { IfNone result (HasNoWord (rows_of (found_of words.now))) }
+// What `check` chooses.
+fn check_chosen<'a>(words: &ArgMatches<'a>) -> Result<Selection<'a>, Misuse<'a>>
+    ensures ok { IfOk result (λ chosen. IsSelection (codes "check", rows_of (found_of words.now)) chosen) }
+    ensures wrong { wrong_in result ≡ script_wrong (rows_of (found_of words.now)) }
 {
     script_chosen(words, Choice::Check(words.get_flag("script")), NO_RUN)
 }
 
-// What `run` chooses; none where a flag has another word, or a sync has no file.
-fn run_chosen<'a>(words: &ArgMatches<'a>) -> Option<Selection<'a>>
-    ensures some { IfSome result (λ chosen. IsSelection (codes "run", rows_of (found_of words.now)) chosen) }
-    ensures none { IfNone result (HasNoWord (rows_of (found_of words.now)) ⊎ HasNoRun (rows_of (found_of words.now))) }
+// What `run` chooses.
+fn run_chosen<'a>(words: &ArgMatches<'a>) -> Result<Selection<'a>, Misuse<'a>>
+    ensures ok { IfOk result (λ chosen. IsSelection (codes "run", rows_of (found_of words.now)) chosen) }
+    ensures wrong { wrong_in result ≡ run_wrong (rows_of (found_of words.now)) }
 {
     match run_words(words) {
-        Some(run) => script_chosen(words, Choice::Run, run),
-        None => None,
+        Ok(run) => script_chosen(words, Choice::Run, run),
+        Err(misuse) => Err(misuse),
     }
 }
 
-// What `audit` chooses; none where a flag has no file, or colours have another word.
-fn audit_chosen<'a>(words: &ArgMatches<'a>) -> Option<Selection<'a>>
-    ensures some { IfSome result (λ chosen. IsSelection (codes "audit", rows_of (found_of words.now)) chosen) }
-    ensures none { IfNone result (LacksFile (rows_of (found_of words.now)) ⊎ HasNoColor (rows_of (found_of words.now))) }
+// What `audit` chooses.
+fn audit_chosen<'a>(words: &ArgMatches<'a>) -> Result<Selection<'a>, Misuse<'a>>
+    ensures ok { IfOk result (λ chosen. IsSelection (codes "audit", rows_of (found_of words.now)) chosen) }
+    ensures wrong { IsAuditWrong (rows_of (found_of words.now)) (wrong_in result) }
 {
     let journal = words.get_str("journal");
-    let choice = audit_of(journal.is_some(), words.get_flag("torn"))?;
-    let Some(color) = color_of(words) else {
-        return None;
+    let choice = match audit_of(journal.is_some(), words.get_flag("torn")) {
+        Ok(choice) => choice,
+        Err(misuse) => return Err(misuse),
     };
-    Some(Selection {
+    let color = match color_of(words) {
+        Ok(color) => color,
+        Err(misuse) => return Err(misuse),
+    };
+    Ok(Selection {
         choice,
         notes: When::Never,
         color,
@@ -101,34 +113,56 @@ fn audit_chosen<'a>(words: &ArgMatches<'a>) -> Option<Selection<'a>>
         journal,
         explains: words.get_flag("explain"),
         run: NO_RUN,
+        file: script_of(words),
+        subject: None,
     })
 }
 
-// What a command line that was read chooses.
-fn choice_of<'a>(matches: &ArgMatches<'a>) -> Option<Selection<'a>>
-    ensures found { IfSome result (λ chosen. (found : Text × List Row) × (subcommand_rows_of matches.now ≡ Some found)
-        × IsSelection found chosen) }
+// What `manual` chooses.
+fn manual_chosen<'a>(words: &ArgMatches<'a>) -> Selection<'a>
+    ensures { IsSelection (codes "manual", rows_of (found_of words.now)) result }
+{
+    Selection {
+        choice: Choice::Manual,
+        notes: When::Never,
+        color: When::Auto,
+        are_errors: false,
+        journal: None,
+        explains: false,
+        run: NO_RUN,
+        file: None,
+        subject: subject_of(words),
+    }
+}
+
+// What a command line that was read chooses; none where no subcommand has the name.
+fn choice_of<'a>(matches: &ArgMatches<'a>) -> Option<Result<Selection<'a>, Misuse<'a>>>
+    ensures found { IfSome result (λ selected. (found : Text × List Row) × (subcommand_rows_of matches.now ≡ Some found)
+        × IsSelected found selected) }
     ensures none { IfNone result ((found : Text × List Row) → subcommand_rows_of matches.now ≡ Some found
-        → NamesNone found) }
+        → IsUnnamed found.0) }
 {
     let (name, words) = matches.subcommand()?;
     if name == "play" {
-        return play_chosen(words);
+        return Some(play_chosen(words));
     }
     if name == "check" {
-        return check_chosen(words);
+        return Some(check_chosen(words));
     }
     if name == "run" {
-        return run_chosen(words);
+        return Some(run_chosen(words));
     }
     if name == "audit" {
-        return audit_chosen(words);
+        return Some(audit_chosen(words));
+    }
+    if name == "manual" {
+        return Some(Ok(manual_chosen(words)));
     }
     None
 }
 
 /// What the words of a command line choose, the first of which is the program's name.
-pub fn chosen<'a>(alloc: Global, words: &'a [&'a str]) -> Result<Selection<'a>, Unchosen>
+pub fn chosen<'a>(alloc: Global, words: &'a [&'a str]) -> Result<Selection<'a>, Unchosen<'a>>
     ensures ok { IfOk result (λ chosen. Chooses (map (λ w. w.now) words.now) chosen) }
     ensures taken { takes program (map (λ w. w.now) words.now) ≡ true
         → IfErr result (Lacks (map (λ w. w.now) words.now)) }
@@ -148,7 +182,8 @@ pub fn chosen<'a>(alloc: Global, words: &'a [&'a str]) -> Result<Selection<'a>, 
         }
     };
     match choice_of(&matches) {
-        Some(selection) => Ok(selection),
-        None => Err(Unchosen::Unknown),
+        Some(Ok(selection)) => Ok(selection),
+        Some(Err(misuse)) => Err(Unchosen::Misused(misuse)),
+        None => Err(Unchosen::NoCommand),
     }
 }

@@ -6,7 +6,7 @@ ghost use Rattle.clap.specs.declared.builder.command.Command.TheViews.{out-Comma
 ghost use Rattle.rv_choice.specs.Choices.{alone, program};
 
 use crate::running::run_subcommand;
-use crate::subcommands::{audit_subcommand, check_subcommand, play_subcommand};
+use crate::subcommands::{audit_subcommand, check_subcommand, manual_subcommand, play_subcommand};
 use clap::Command;
 use std::alloc::{AllocError, Global};
 
@@ -45,5 +45,6 @@ pub fn command<'a>(alloc: Global) -> Result<Command<'a>, AllocError>
     let command = with_added(command, play_subcommand(alloc))?;
     let command = with_added(command, check_subcommand(alloc))?;
     let command = with_added(command, run_subcommand(alloc))?;
-    with_added(command, audit_subcommand(alloc))
+    let command = with_added(command, audit_subcommand(alloc))?;
+    with_added(command, manual_subcommand(alloc))
 }

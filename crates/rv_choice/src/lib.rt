@@ -4,6 +4,7 @@
 mod args;
 pub mod chosen;
 mod command;
+pub mod misuse;
 mod run_words;
 mod running;
 pub mod selection;

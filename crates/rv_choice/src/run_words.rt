@@ -1,10 +1,11 @@
 //! What the words of `run` say: what it does beside its commands.
 
-ghost use Rattle.std.specs.Prelude.{◌≡◌, IfSome, IfNone, codes, option_map};
+ghost use Rattle.std.specs.Prelude.{◌≡◌, IfOk, codes, option_map};
 ghost use Rattle.clap.specs.Matches.{found_of};
 ghost use Rattle.clap.specs.Walk.{first_of, one_of, rows_of};
-ghost use Rattle.rv_choice.specs.Choices.{HasNoFile, HasNoFileAs, HasNoRun, IsFlag, IsRun, Keeps, KeepsAs, number_of, sync_of, words_of};
+ghost use Rattle.rv_choice.specs.Choices.{IsFlag, IsRun, Keeps, KeepsAs, beside_wrong, number_of, number_wrong, sync_of, sync_wrong, sync_wrong_as, words_of, wrong_in};
 
+use crate::misuse::{Flag, Misuse, said_by};
 use crate::selection::{KeptFile, RunWords, Sync};
 use clap::ArgMatches;
 use rv_text::natural_of;
@@ -34,27 +35,30 @@ fn sync_of(word: Option<&str>) -> Option<Sync>
     None
 }
 
-// The file of this name that a run's journal is kept in, and when it is synced; none where that word is another, or has no file.
-fn file_of<'a>(name: Option<&'a str>, word: Option<&str>) -> Option<Option<KeptFile<'a>>>
-    ensures some { IfSome result (λ kept. KeepsAs (option_map (λ w. w.now) name.entry) (option_map (λ w. w.now) word.entry) (option_map (λ k. (k.name.now, k.sync)) kept)) }
-    ensures none { IfNone result (HasNoFileAs (option_map (λ w. w.now) name.entry) (option_map (λ w. w.now) word.entry)) }
+// The file of this name that a run's journal is kept in, and when it is synced, by the word that was given.
+fn file_of<'a>(
+    name: Option<&'a str>,
+    word: Option<&'a str>,
+) -> Result<Option<KeptFile<'a>>, Misuse<'a>>
+    ensures ok { IfOk result (λ kept. KeepsAs (option_map (λ w. w.now) name.entry) (option_map (λ w. w.now) word.entry) (option_map (λ k. (k.name.now, k.sync)) kept)) }
+    ensures wrong { wrong_in result ≡ sync_wrong_as (option_map (λ w. w.now) name.entry) (option_map (λ w. w.now) word.entry) }
 {
-    match name {
-        Some(name) => match sync_of(word) {
-            Some(sync) => Some(Some(KeptFile { name, sync })),
-            None => None,
-        },
-        None => match word {
-            Some(_) => None,
-            None => Some(None),
-        },
+    let Some(name) = name else {
+        return match word {
+            Some(_) => Err(Misuse::Alone(Flag::Sync)),
+            None => Ok(None),
+        };
+    };
+    match said_by(Flag::Sync, word, sync_of(word)) {
+        Ok(sync) => Ok(Some(KeptFile { name, sync })),
+        Err(misuse) => Err(misuse),
     }
 }
 
 // The same, by what `run` was given.
-fn kept_of<'a>(words: &ArgMatches<'a>) -> Option<Option<KeptFile<'a>>>
-    ensures some { IfSome result (λ kept. Keeps (rows_of (found_of words.now)) (option_map (λ k. (k.name.now, k.sync)) kept)) }
-    ensures none { IfNone result (HasNoFile (rows_of (found_of words.now))) }
+fn kept_of<'a>(words: &ArgMatches<'a>) -> Result<Option<KeptFile<'a>>, Misuse<'a>>
+    ensures ok { IfOk result (λ kept. Keeps (rows_of (found_of words.now)) (option_map (λ k. (k.name.now, k.sync)) kept)) }
+    ensures wrong { wrong_in result ≡ sync_wrong (rows_of (found_of words.now)) }
 {
     file_of(words.get_str("journal"), words.get_str("sync"))
 }
@@ -72,11 +76,18 @@ fn number_of(word: Option<&str>, most: u32) -> Option<Option<u32>>
     }
 }
 
-// A number of 1 up to a greatest, by the word that a flag of this name was given; none for another word.
-fn given_number(words: &ArgMatches<'_>, name: &str, most: u32) -> Option<Option<u32>>
-    ensures { result ≡ number_of most (first_of name.now (rows_of (found_of words.now))) }
+// The same, by the word that a flag of this name was given.
+fn given_number<'a>(
+    words: &ArgMatches<'a>,
+    flag: Flag,
+    name: &str,
+    most: u32,
+) -> Result<Option<u32>, Misuse<'a>>
+    ensures ok { IfOk result (λ number. number_of most (first_of name.now (rows_of (found_of words.now))) ≡ Some number) }
+    ensures wrong { wrong_in result ≡ number_wrong flag name.now most (rows_of (found_of words.now)) }
 {
-    number_of(words.get_str(name), most)
+    let word = words.get_str(name);
+    said_by(flag, word, number_of(word, most))
 }
 
 // The name of the pipe whose end ends a run, where one was given.
@@ -93,24 +104,28 @@ fn has_console(words: &ArgMatches<'_>) -> bool
     words.get_flag("console")
 }
 
-/// What a run does beside its commands, by what it was given; none where a word is another, or a sync has no file.
-pub fn run_words<'a>(words: &ArgMatches<'a>) -> Option<RunWords<'a>>
-    ensures some { IfSome result (λ run. IsRun (rows_of (found_of words.now)) (words_of run)) }
-    ensures none { IfNone result (HasNoRun (rows_of (found_of words.now))) }
+/// What a run does beside its commands, by what it was given.
+pub fn run_words<'a>(words: &ArgMatches<'a>) -> Result<RunWords<'a>, Misuse<'a>>
+    ensures ok { IfOk result (λ run. IsRun (rows_of (found_of words.now)) (words_of run)) }
+    ensures wrong { wrong_in result ≡ beside_wrong (rows_of (found_of words.now)) }
 {
-    let Some(kept) = kept_of(words) else {
-        return None;
+    let kept = match kept_of(words) {
+        Ok(kept) => kept,
+        Err(misuse) => return Err(misuse),
     };
-    let Some(tick) = given_number(words, "tick", LONGEST_PERIOD) else {
-        return None;
+    let tick = match given_number(words, Flag::Tick, "tick", LONGEST_PERIOD) {
+        Ok(tick) => tick,
+        Err(misuse) => return Err(misuse),
     };
-    let Some(halt_below) = given_number(words, "halt-below", MOST_ENTRIES) else {
-        return None;
+    let halt_below = match given_number(words, Flag::HaltBelow, "halt-below", MOST_ENTRIES) {
+        Ok(halt_below) => halt_below,
+        Err(misuse) => return Err(misuse),
     };
-    let Some(quota) = given_number(words, "quota", MOST_ENTRIES) else {
-        return None;
+    let quota = match given_number(words, Flag::Quota, "quota", MOST_ENTRIES) {
+        Ok(quota) => quota,
+        Err(misuse) => return Err(misuse),
     };
-    Some(RunWords {
+    Ok(RunWords {
         kept,
         tick,
         halt_below,

@@ -6,7 +6,7 @@ ghost use Rattle.clap.specs.declared.builder.command.Command.TheViews.{out-Comma
 ghost use Rattle.rv_choice.specs.Choices.{attending, consoled, guarding, keeping, running};
 
 use crate::args::{
-    FAULT_HELP, coloured, explain_flag, file_arg, flag, noted, sync_arg, with_value,
+    FAULT_HELP, coloured, explain_flag, file_arg, flag, noted, sync_arg, with_file, with_value,
 };
 use clap::Command;
 use std::alloc::{AllocError, Global};
@@ -21,10 +21,8 @@ fn keeping_subcommand<'a>(alloc: Global) -> Result<Command<'a>, AllocError>
         "Write the journal into this file as it comes; the file must be new or empty",
     );
     Command::new(alloc, "run")
-        .about(
-            "Run the host of a script from standard input, and serve the commands that follow its line @run",
-        )
-        .after_help("Example: ravenhost run < examples/plant.raven")
+        .about("Run the host of a script, and serve the commands that follow its line @run")
+        .after_help("Example: ravenhost run examples/plant.raven")
         .arg(journal)?
         .arg(sync_arg(alloc))?
         .arg(explain_flag(alloc, FAULT_HELP))
@@ -93,5 +91,10 @@ pub fn run_subcommand<'a>(alloc: Global) -> Result<Command<'a>, AllocError>
 {
     let command = consoled_subcommand(alloc)?;
     let command = noted(alloc, command)?;
-    coloured(alloc, command)
+    let command = coloured(alloc, command)?;
+    with_file(
+        alloc,
+        command,
+        "Read the script from this file, and from standard input the commands behind those that it has",
+    )
 }

@@ -16,6 +16,8 @@ pub enum Choice {
     Audit,
     /// Judge a journal in a file of its own; where the flag is set, a last line without its line feed was cut off.
     AuditFile(bool),
+    /// Print the help of the program, or of a subcommand, on standard output.
+    Manual,
 }
 
 /// When notes are told, or colours shown, on standard error.
@@ -96,6 +98,10 @@ pub struct Selection<'a> {
     pub explains: bool,
     /// What a run does beside its commands.
     pub run: RunWords<'a>,
+    /// The name of the file that the script is read from, in place of standard input, where one is given.
+    pub file: Option<&'a str>,
+    /// The name of the subcommand whose help is printed, where one is given.
+    pub subject: Option<&'a str>,
 }
 
 /// Nothing beside the commands.

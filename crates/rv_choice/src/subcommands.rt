@@ -1,11 +1,13 @@
-//! The subcommands `play`, `check` and `audit`.
+//! The subcommands `play`, `check`, `audit` and `manual`.
 
 ghost use Rattle.std.specs.Prelude.{◌≡◌, false, IfOk};
 ghost use Rattle.clap.specs.Words.{app_of};
 ghost use Rattle.clap.specs.declared.builder.command.Command.TheViews.{out-Command as fields_of};
-ghost use Rattle.rv_choice.specs.Choices.{audited, checked, judging, playing};
+ghost use Rattle.rv_choice.specs.Choices.{audited, checked, judging, manual, playing};
 
-use crate::args::{FAULT_HELP, coloured, explain_flag, file_arg, flag, noted};
+use crate::args::{
+    FAULT_HELP, SCRIPT_HELP, coloured, explain_flag, file_arg, flag, noted, subject_arg, with_file,
+};
 use clap::Command;
 use std::alloc::{AllocError, Global};
 
@@ -20,12 +22,13 @@ pub fn play_subcommand<'a>(alloc: Global) -> Result<Command<'a>, AllocError>
         "Print unrecorded answers too, as lines that begin with -",
     );
     let command = Command::new(alloc, "play")
-        .about("Carry out a script from standard input, and print its journal")
-        .after_help("Example: ravenhost play --all < examples/first.raven")
+        .about("Carry out a script, and print its journal")
+        .after_help("Example: ravenhost play --all examples/first.raven")
         .arg(all)?
         .arg(explain_flag(alloc, FAULT_HELP))?;
     let command = noted(alloc, command)?;
-    coloured(alloc, command)
+    let command = coloured(alloc, command)?;
+    with_file(alloc, command, SCRIPT_HELP)
 }
 
 /// The subcommand `check`, which may explain a fault, and look at whole scripts.
@@ -34,8 +37,8 @@ pub fn check_subcommand<'a>(alloc: Global) -> Result<Command<'a>, AllocError>
     ensures local { IfOk result (λ c. (fields_of c).has_globals ≡ false) }
 {
     let command = Command::new(alloc, "check")
-        .about("Say of each section of a script from standard input whether it is well formed")
-        .after_help("Example: ravenhost check --script --explain < examples/first.raven")
+        .about("Say of each section of a script whether it is well formed")
+        .after_help("Example: ravenhost check --script --explain examples/first.raven")
         .arg(explain_flag(alloc, FAULT_HELP))?;
     let whole = flag(
         alloc,
@@ -44,7 +47,8 @@ pub fn check_subcommand<'a>(alloc: Global) -> Result<Command<'a>, AllocError>
     );
     let command = command.arg(whole)?;
     let command = noted(alloc, command)?;
-    coloured(alloc, command)
+    let command = coloured(alloc, command)?;
+    with_file(alloc, command, SCRIPT_HELP)
 }
 
 // The subcommand `audit`, which may be given a file and a flag that goes with it.
@@ -57,10 +61,8 @@ fn judging_subcommand<'a>(alloc: Global) -> Result<Command<'a>, AllocError>
         "Judge the journal in this file, of any length, instead of one in the script",
     );
     let command = Command::new(alloc, "audit")
-        .about(
-            "Judge the journal of a script from standard input: whether each of its entries was due",
-        )
-        .after_help("Example: ravenhost audit --journal JOURNAL < UNITS")
+        .about("Judge the journal of a script: whether each of its entries was due")
+        .after_help("Example: ravenhost audit --journal JOURNAL UNITS")
         .arg(journal)?;
     let torn = flag(
         alloc,
@@ -81,5 +83,17 @@ pub fn audit_subcommand<'a>(alloc: Global) -> Result<Command<'a>, AllocError>
         "Also say whether each body ended as its text means on the entries since it started",
     );
     let command = command.arg(explain)?;
-    coloured(alloc, command)
+    let command = coloured(alloc, command)?;
+    with_file(alloc, command, SCRIPT_HELP)
+}
+
+/// The subcommand `manual`, which may be told the subcommand that it is of.
+pub fn manual_subcommand<'a>(alloc: Global) -> Result<Command<'a>, AllocError>
+    ensures app { IfOk result (λ c. app_of c ≡ manual) }
+    ensures local { IfOk result (λ c. (fields_of c).has_globals ≡ false) }
+{
+    Command::new(alloc, "manual")
+        .about("Print the help of the program, or of a command, on standard output")
+        .after_help("Example: ravenhost manual run | less")
+        .arg(subject_arg(alloc))
 }

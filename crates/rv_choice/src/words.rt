@@ -1,24 +1,26 @@
-//! What the words of a subcommand say: notes, colours, the file of `audit`.
+//! What the words of a subcommand say: notes, colours, the files of its script and of `audit`.
 
-ghost use Rattle.std.specs.Prelude.{◌≡◌, IfSome, IfNone, codes, option_map};
+ghost use Rattle.std.specs.Prelude.{◌≡◌, IfOk, codes, option_map};
 ghost use Rattle.clap.specs.Matches.{found_of};
 ghost use Rattle.clap.specs.Walk.{first_of, rows_of};
-ghost use Rattle.rv_choice.specs.Choices.{HasNoNotes, Tells, audit_of, when_of};
+ghost use Rattle.rv_choice.specs.Choices.{Tells, audit_of, color_wrong, named_file, notes_wrong, torn_wrong, when_of, when_wrong, wrong_in};
 
+use crate::misuse::{Flag, Misuse, said_by};
 use crate::selection::{Choice, When};
 use clap::ArgMatches;
 
 /// What `audit` with its file and its flag chooses; a flag without a file chooses nothing.
-pub fn audit_of(has_journal: bool, takes_torn: bool) -> Option<Choice>
-    ensures { result ≡ audit_of has_journal takes_torn }
+pub fn audit_of<'a>(has_journal: bool, takes_torn: bool) -> Result<Choice, Misuse<'a>>
+    ensures ok { IfOk result (λ choice. audit_of has_journal takes_torn ≡ Some choice) }
+    ensures wrong { wrong_in result ≡ torn_wrong has_journal takes_torn }
 {
     if has_journal {
-        return Some(Choice::AuditFile(takes_torn));
+        return Ok(Choice::AuditFile(takes_torn));
     }
     if takes_torn {
-        return None;
+        return Err(Misuse::Alone(Flag::Torn));
     }
-    Some(Choice::Audit)
+    Ok(Choice::Audit)
 }
 
 // When something is told or shown, by the word that was given; none for another word.
@@ -40,20 +42,55 @@ fn when_of(word: Option<&str>) -> Option<When>
     None
 }
 
-/// When notes are told, and whether they are errors, by what a subcommand was given; none where the word is another.
-pub fn telling_of(words: &ArgMatches<'_>) -> Option<(When, bool)>
-    ensures some { IfSome result (λ t. Tells (rows_of (found_of words.now)) t.0 t.1) }
-    ensures none { IfNone result (HasNoNotes (rows_of (found_of words.now))) }
+// The same, by the word that a flag of this name was given.
+fn given_when<'a>(words: &ArgMatches<'a>, flag: Flag, name: &str) -> Result<When, Misuse<'a>>
+    ensures ok { IfOk result (λ when. when_of (first_of name.now (rows_of (found_of words.now))) ≡ Some when) }
+    ensures wrong { wrong_in result ≡ when_wrong flag name.now (rows_of (found_of words.now)) }
 {
-    match when_of(words.get_str("notes")) {
-        Some(notes) => Some((notes, words.get_flag("warnings-are-errors"))),
-        None => None,
+    let word = words.get_str(name);
+    said_by(flag, word, when_of(word))
+}
+
+/// When notes are told, and whether they are errors, by what a subcommand was given.
+pub fn telling_of<'a>(words: &ArgMatches<'a>) -> Result<(When, bool), Misuse<'a>>
+    ensures ok { IfOk result (λ t. Tells (rows_of (found_of words.now)) t.0 t.1) }
+    ensures wrong { wrong_in result ≡ notes_wrong (rows_of (found_of words.now)) }
+{
+    let are_errors = words.get_flag("warnings-are-errors");
+    match given_when(words, Flag::Notes, "notes") {
+        Ok(notes) => Ok((notes, are_errors)),
+        Err(misuse) => Err(misuse),
     }
 }
 
-/// When standard error has colours, by what a subcommand was given; none where the word is another.
-pub fn color_of(words: &ArgMatches<'_>) -> Option<When>
-    ensures { result ≡ when_of (first_of (codes "color") (rows_of (found_of words.now))) }
+/// When standard error has colours, by what a subcommand was given.
+pub fn color_of<'a>(words: &ArgMatches<'a>) -> Result<When, Misuse<'a>>
+    ensures ok { IfOk result (λ color. when_of (first_of (codes "color") (rows_of (found_of words.now))) ≡ Some color) }
+    ensures wrong { wrong_in result ≡ color_wrong (rows_of (found_of words.now)) }
 {
-    when_of(words.get_str("color"))
+    given_when(words, Flag::Color, "color")
+}
+
+// The file of this name; the name `-` is that of standard input.
+fn named_file<'a>(name: Option<&'a str>) -> Option<&'a str>
+    ensures { option_map (λ n. n.now) result ≡ named_file (option_map (λ n. n.now) name.entry) }
+{
+    let Some(name) = name else {
+        return None;
+    };
+    if name == "-" { None } else { Some(name) }
+}
+
+/// The file that a subcommand's script is read from, where one is given.
+pub fn script_of<'a>(words: &ArgMatches<'a>) -> Option<&'a str>
+    ensures { option_map (λ n. n.now) result ≡ named_file (first_of (codes "file") (rows_of (found_of words.now))) }
+{
+    named_file(words.get_str("file"))
+}
+
+/// The subcommand that a manual is of, where one is given.
+pub fn subject_of<'a>(words: &ArgMatches<'a>) -> Option<&'a str>
+    ensures { option_map (λ n. n.now) result ≡ first_of (codes "command") (rows_of (found_of words.now)) }
+{
+    words.get_str("command")
 }

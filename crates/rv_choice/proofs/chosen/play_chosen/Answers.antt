@@ -5,8 +5,8 @@ use Rattle.clap.proofs.WalkLemmas.{one_text-rows}
 use Rattle.rv_choice.specs.Choices.{IsFlag}
 use Rattle.rv_choice.proofs.chosen.play_chosen.Goals as goal
 
-pub returns-clause-some : goal.returns-clause-some
-returns-clause-some c =
+pub returns-clause-ok : goal.returns-clause-ok
+returns-clause-ok c =
     let given = found_of c.args.words.now in
     let is : IsFlag (one_of (codes "all") (rows_of given)) c.get_flag.result =
     (λ e. c.get_flag.ensures.value (one_text-rows given (codes "all") ∙ e), λ e. c.get_flag.ensures.other (one_text-rows given (codes "all") ∙ e)) in

@@ -1,7 +1,7 @@
 use Rattle.std.proofs.Common.{◌≡◌, ◌∙◌, ap, ap₂}
 use Rattle.std.proofs.lemmas.Result.{IfOk-weaker}
 use Rattle.clap.specs.Words.{App, app_of, with_subcommand}
-use Rattle.rv_choice.specs.Choices.{alone, checked, playing, running}
+use Rattle.rv_choice.specs.Choices.{alone, audited, checked, playing, running}
 use Rattle.rv_choice.proofs.Adding.{both}
 use Rattle.rv_choice.proofs.command.command.Goals as goal
 
@@ -16,6 +16,9 @@ returns c =
     let three : app_of c.in_ok-command-3.command ≡ with_subcommand (with_subcommand (with_subcommand alone playing.top) checked.top) running.top =
     both c.run_subcommand.result _ _ _ c.in_ok-command-3.ensures c.run_subcommand.ensures.app
     (λ s p q. p ∙ ap₂ with_subcommand two (ap (λ (a : App). a.top) q)) in
-    IfOk-weaker c.with_added-4.result _ _
-    (λ r h. both c.audit_subcommand.result _ _ _ h c.audit_subcommand.ensures.app
-    (λ s p q. p ∙ ap₂ with_subcommand three (ap (λ (a : App). a.top) q))) c.with_added-4.ensures
+    let four : app_of c.in_ok-command-4.command ≡ with_subcommand (with_subcommand (with_subcommand (with_subcommand alone playing.top) checked.top) running.top) audited.top =
+    both c.audit_subcommand.result _ _ _ c.in_ok-command-4.ensures c.audit_subcommand.ensures.app
+    (λ s p q. p ∙ ap₂ with_subcommand three (ap (λ (a : App). a.top) q)) in
+    IfOk-weaker c.with_added-5.result _ _
+    (λ r h. both c.manual_subcommand.result _ _ _ h c.manual_subcommand.ensures.app
+    (λ s p q. p ∙ ap₂ with_subcommand four (ap (λ (a : App). a.top) q))) c.with_added-5.ensures
