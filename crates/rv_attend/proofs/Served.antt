@@ -30,10 +30,10 @@ only_asked s t crew written input left =
     ∙ ap (λ (r : Reading). record { staff = record s.staff { control = t.staff.control }; written = s.written; input = r; left = t.left }) input
     ∙ ap (λ (l : Known). record { staff = record s.staff { control = t.staff.control }; written = s.written; input = s.input; left = l }) left
 
-unanswered : {C : Type 0} (m n : Moment C) (line : List ℕ) (answer : Option Outcome) (result : Outcome) → answer ≡ None → CarriesOut m line answer n result
-    → Commands m.stage n.stage line result
-unanswered m n line (Some answered) result none same = absurd (cc none)
-unanswered m n line None result none does = subst (λ (x : Moment _). Commands m.stage x.stage line result) (sym does.2) does.1
+unanswered : {C : Type 0} (holds : C → Holding) (m n : Moment C) (line : List ℕ) (answer : Option Outcome) (result : Outcome) → answer ≡ None
+    → CarriesOut (attended holds) m line answer n result → Commands m.stage n.stage line result
+unanswered holds m n line (Some answered) result none same = absurd (cc none)
+unanswered holds m n line None result none does = subst (λ (x : Moment _). Commands m.stage x.stage line result) (sym does.4) does.2
 
 at_none : (answer : Option Outcome) (P : Type 0) → answer ≡ None → IfNone answer P → P
 at_none (Some answered) P none fact = absurd (cc none)
@@ -53,7 +53,7 @@ come_line holds m n result line input left plain comes serves =
         read = input;
         left = left;
         comes = comes;
-        commands = subst (λ (x : Stage). Commands x n.stage line result) is (unanswered serves.heeded n line serves.answer result none.0 serves.carried);
+        commands = subst (λ (x : Stage). Commands x n.stage line result) is (unanswered holds serves.heeded n line serves.answer result none.0 serves.carried);
       },
     )
 

@@ -48,6 +48,7 @@ abbrev pub attended : {C : Type 0} → (C → Holding) → Beside C
 attended holds = record {
   tends = λ m n result. TendsTo holds m n result;
   heeds = λ m line n answer. HeedsTo holds m n answer;
+  hears = λ chores old new. Unit {0};
   leaves = λ chores old new result. IsPlain (holds chores) → (new ≡ old) × (result ≡ Ok Out);
   closes = λ chores errors closed served chores' errors' kept. (opened : Known)
       → Leaving opened (holds chores).file closed.host (holds chores).next served → ClosesFile opened (holds chores').file closed.host kept;

@@ -7,12 +7,14 @@ use crate::console::leave;
 use crate::follower::Follower;
 use crate::tending::{attend, heed};
 use rv_crew::crew::Closed;
-use rv_fault::Failure;
+use rv_fault::{Failure, What};
 use rv_input::Input;
 use rv_run::chores::Chores;
 use rv_run::command::Goes;
 use rv_run::outputs::{KeptFailure, Outputs};
+use rv_shell::Order;
 use rv_staff::Session;
+use rv_step::reading::StepError;
 use std::io::Write;
 use std::sync::Wait;
 use std::time::Clock;
@@ -36,9 +38,14 @@ impl<'a, T: Wait + Clock, W: Write, E: Write, F: Write> Chores<T, W, E> for Foll
         session: &mut Session,
         input: &Input,
         line: &str,
+        read: &Result<Order, StepError>,
         outputs: &mut Outputs<W, E>,
     ) -> Option<Result<Goes, Failure>> {
-        heed(rt, session, self, input, line, outputs)
+        heed(rt, session, self, input, line, read, outputs)
+    }
+
+    fn hear(&self, what: What, errors: &mut E) {
+        self.given.explain_text(what, errors);
     }
 
     fn leave(&self, writer: &mut W) -> Result<Goes, Failure> {

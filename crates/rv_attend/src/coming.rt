@@ -13,9 +13,7 @@ const END_BEHIND_RETURN: &[u8] = b"@end\r\n";
 // Where a unit text ends.
 #[derive(Clone, Copy, Drop)]
 struct TextEnd {
-    // How many bytes stand before the line that ends it.
-    at: usize,
-    // How many there are with that line.
+    // How many bytes there are with the line that ends it.
     behind: usize,
     // Whether that is `@end`; else it isn't UTF-8, and is as the end of input.
     is_whole: bool,
@@ -61,11 +59,7 @@ fn text_end(bytes: &[u8]) -> Option<TextEnd> {
         let behind = at.saturating_add(count);
         let is_whole = is_end(line);
         if is_whole || str::from_utf8(line).is_err() {
-            return Some(TextEnd {
-                at,
-                behind,
-                is_whole,
-            });
+            return Some(TextEnd { behind, is_whole });
         }
         at = behind;
         rest = after;
@@ -73,15 +67,7 @@ fn text_end(bytes: &[u8]) -> Option<TextEnd> {
     None
 }
 
-/// The unit text that bytes begin with, up to its line `@end`; none where that hasn't come.
-pub(crate) fn load_text(bytes: &[u8]) -> Option<&[u8]> {
-    match text_end(bytes) {
-        Some(end) if end.is_whole => bytes.get(..end.at),
-        _ => None,
-    }
-}
-
-/// The same with that line; nothing where it hasn't come.
+/// The unit text that bytes begin with, with its line `@end`; nothing where that hasn't come.
 pub(crate) fn load_bytes(bytes: &[u8]) -> &[u8] {
     match text_end(bytes) {
         Some(end) if end.is_whole => bytes.get(..end.behind).unwrap_or(&[]),

@@ -10,7 +10,9 @@ use rv_console::{Word, word_of};
 use rv_fault::Failure;
 use rv_run::command::{Goes, after};
 use rv_run::leaving::wrote;
+use rv_shell::Order;
 use rv_staff::{Session, say};
+use rv_step::reading::StepError;
 use std::io;
 use std::io::Write;
 use std::sync::Wait;
@@ -80,6 +82,7 @@ pub(crate) fn answer_word<T: Wait, W: Write, F>(
     session: &mut Session,
     follower: &mut Follower<'_, T, F>,
     line: &str,
+    read: &Result<Order, StepError>,
     writer: &mut W,
 ) -> Option<Result<Goes, Failure>>
     ensures plain { follower.old.asked.console ≡ None → (result ≡ None) × (W.contents writer.new ≡ W.contents writer.old) }
@@ -91,7 +94,7 @@ pub(crate) fn answer_word<T: Wait, W: Write, F>(
     let typing = follower.asked.console?;
     match wrote(echo(typing, line, writer)) {
         Ok(()) => {
-            let word = word_of(session.alloc, line)?;
+            let word = word_of(line, read)?;
             Some(show(rt, session, follower, word, writer))
         }
         Err(failure) => Some(Err(failure)),

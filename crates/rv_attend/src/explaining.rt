@@ -1,12 +1,10 @@
 //! Why a command, or a unit text behind `load`, is refused, for people.
 
-use crate::coming::{load_bytes, load_text};
+use crate::coming::load_bytes;
 use rv_explain::explain;
-use rv_fault::{Failure, ScriptFault, What, text_unit};
+use rv_fault::{ScriptFault, What};
 use rv_input::MOST_BYTES;
-use rv_script::unit_text::unit_text;
-use rv_shape::catalogue::Catalogue;
-use rv_shell::{Order, order_of};
+use rv_shell::Order;
 use rv_staff::say;
 use rv_step::reading::StepError;
 use std::alloc::Global;
@@ -21,6 +19,8 @@ pub(crate) struct Given {
     // How many line feeds there are among them.
     lines: usize,
     is_whole: bool,
+    // The line of the last command, where that is a `load` whose unit text was kept behind it.
+    load: Option<usize>,
 }
 
 // How many line feeds there are among bytes.
@@ -28,21 +28,10 @@ fn line_feeds(bytes: &[u8]) -> usize {
     bytes.iter().filter(|byte| **byte == b'\n').count()
 }
 
-// What stands against the unit text behind a command `load`.
-fn fault_of_text(alloc: Global, catalogue: &Catalogue, text: &[u8]) -> Option<What> {
-    let text = str::from_utf8(text).ok()?;
-    let text = unit_text(alloc, text).ok()?;
-    match text_unit(alloc, catalogue, 0, text.as_str()) {
-        Err(Failure::Refused(fault)) => Some(fault.what),
-        _ => None,
-    }
-}
-
-// What stands against a command, behind which these bytes come; nothing where memory was refused.
-fn fault_of(alloc: Global, catalogue: &Catalogue, line: &str, behind: &[u8]) -> Option<What> {
-    match order_of(alloc, line) {
-        Ok(Order::Change(Err(fault))) => Some(What::List(fault)),
-        Ok(Order::Load) => fault_of_text(alloc, catalogue, load_text(behind)?),
+// What stands against a command line that was read so; nothing where memory was refused.
+fn fault_of(read: &Result<Order, StepError>) -> Option<What> {
+    match read {
+        Ok(Order::Change(Err(fault))) => Some(What::List(*fault)),
         Ok(_) => None,
         Err(StepError::BadStep) => Some(What::BadStep),
         Err(StepError::NoMemory) => None,
@@ -57,6 +46,7 @@ impl Given {
             bytes: Vec::new(alloc),
             lines: 0,
             is_whole: true,
+            load: None,
         }
     }
 
@@ -73,12 +63,25 @@ impl Given {
 
     /// Keeps a line that was read.
     pub(crate) fn keep_line(&mut self, line: &str) {
+        self.load = None;
         self.keep(line.as_bytes());
         self.keep(b"\n");
     }
 
+    // Keeps the unit text behind a command `load` at a line, where it came whole with its line `@end`.
+    fn keep_text(&mut self, line: usize, behind: &[u8]) {
+        let text = load_bytes(behind);
+        if text.len() > 0 {
+            self.keep(text);
+            self.load = Some(line);
+        }
+    }
+
     // Explains a fault of the line of this number.
     fn tell<E: Write>(&self, line: usize, what: What, errors: &mut E) {
+        if !self.is_whole {
+            return;
+        }
         let fault = ScriptFault { line, what };
         let explanation = explain(self.alloc, self.bytes.as_slice(), fault);
         if let Ok(text) = format!(in self.alloc; "{fault}\n{explanation}") {
@@ -86,24 +89,28 @@ impl Given {
         }
     }
 
-    /// Keeps a command, behind which these bytes come of the input, and explains what stands against it.
+    /// Keeps a command that was read so, behind which these bytes come of the input, and explains what stands against its line.
     pub(crate) fn explain<E: Write>(
         &mut self,
-        catalogue: &Catalogue,
         line: &str,
+        read: &Result<Order, StepError>,
         behind: &[u8],
         errors: &mut E,
     ) {
         let number = self.lines.saturating_add(1);
         self.keep_line(line);
-        if let Ok(Order::Load) = order_of(self.alloc, line) {
-            self.keep(load_bytes(behind));
+        if let Ok(Order::Load) = read {
+            self.keep_text(number, behind);
         }
-        if !self.is_whole {
-            return;
-        }
-        if let Some(what) = fault_of(self.alloc, catalogue, line, behind) {
+        if let Some(what) = fault_of(read) {
             self.tell(number, what, errors);
+        }
+    }
+
+    /// Explains what stands against the unit text of the last command, where that was kept.
+    pub(crate) fn explain_text<E: Write>(&self, what: What, errors: &mut E) {
+        if let Some(line) = self.load {
+            self.tell(line, what, errors);
         }
     }
 }

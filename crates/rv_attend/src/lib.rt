@@ -16,6 +16,7 @@ mod room;
 mod telling;
 mod tending;
 mod ticking;
+mod viewing;
 mod waiting;
 
 pub use attention::{Attention, Typing};

@@ -4,23 +4,15 @@ ghost use Rattle.std.specs.Prelude.{◌≡◌};
 ghost use Rattle.rv_attend.specs.Chores.{Chores};
 
 use crate::follower::Follower;
+use crate::viewing::view_of;
 use rv_input::Input;
 use rv_notes::change_text;
-use rv_shell::{Order, order_of};
+use rv_shell::Order;
 use rv_staff::{Session, Staff, say};
-use rv_view::View;
+use rv_step::reading::StepError;
 use std::alloc::Global;
 use std::io::Write;
 use std::sync::Wait;
-
-// What is shown of the host, where there is memory for it and an act left.
-#[tactic(auto, using(crate::proofs::Chores::views_chores))]
-fn view_of<T: Wait>(rt: &T, staff: &mut Staff) -> Option<View>
-    ensures chores { Chores staff.old.control staff.new.control }
-    ensures crew { staff.new.crew ≡ staff.old.crew }
-{
-    staff.view(rt).ok()
-}
 
 // Tells the notes on a line of the list that a command is to bring, over the list in force and the units loaded; a halted host
 // takes none.
@@ -29,13 +21,13 @@ fn tell_change<T: Wait, E: Write>(
     rt: &T,
     alloc: Global,
     staff: &mut Staff,
-    line: &str,
+    read: &Result<Order, StepError>,
     errors: &mut E,
 )
     ensures chores { Chores staff.old.control staff.new.control }
     ensures crew { staff.new.crew ≡ staff.old.crew }
 {
-    let Ok(Order::Change(Ok(change))) = order_of(alloc, line) else {
+    let Ok(Order::Change(Ok(change))) = read else {
         return;
     };
     let Some(view) = view_of(rt, staff) else {
@@ -44,7 +36,7 @@ fn tell_change<T: Wait, E: Write>(
     if view.is_halted() {
         return;
     }
-    if let Ok(text) = change_text(alloc, staff.catalogue(), view.list(), &change) {
+    if let Ok(text) = change_text(alloc, staff.catalogue(), view.list(), change) {
         let _ = say(errors, text.as_str());
     }
 }
@@ -55,32 +47,30 @@ fn tell_if<T: Wait, E: Write>(
     rt: &T,
     tells: bool,
     session: &mut Session,
-    line: &str,
+    read: &Result<Order, StepError>,
     errors: &mut E,
 )
     ensures chores { Chores session.old.staff.control session.new.staff.control }
     ensures crew { session.new.staff.crew ≡ session.old.staff.crew }
 {
     if tells {
-        tell_change(rt, session.alloc, &mut session.staff, line, errors);
+        tell_change(rt, session.alloc, &mut session.staff, read, errors);
     }
 }
 
 // Explains what stands against a command, where that is asked for.
 fn explain_if<E: Write, T, F>(
-    session: &Session,
     follower: &mut Follower<'_, T, F>,
     input: &Input,
     line: &str,
+    read: &Result<Order, StepError>,
     errors: &mut E,
 )
     ensures keeper { follower.new.keeper ≡ follower.old.keeper }
     ensures asked { follower.new.asked ≡ follower.old.asked }
 {
     if follower.asked.explains {
-        let behind = input.ahead();
-        let catalogue = session.staff.catalogue();
-        follower.given.explain(catalogue, line, behind, errors);
+        follower.given.explain(line, read, input.ahead(), errors);
     }
 }
 
@@ -101,6 +91,7 @@ pub(crate) fn tell_before<T: Wait, E: Write, F>(
     follower: &mut Follower<'_, T, F>,
     input: &Input,
     line: &str,
+    read: &Result<Order, StepError>,
     errors: &mut E,
 )
     ensures chores { Chores session.old.staff.control session.new.staff.control }
@@ -108,6 +99,6 @@ pub(crate) fn tell_before<T: Wait, E: Write, F>(
     ensures keeper { follower.new.keeper ≡ follower.old.keeper }
     ensures asked { follower.new.asked ≡ follower.old.asked }
 {
-    tell_if(rt, follower.asked.tells, session, line, errors);
-    explain_if(session, follower, input, line, errors);
+    tell_if(rt, follower.asked.tells, session, read, errors);
+    explain_if(follower, input, line, read, errors);
 }

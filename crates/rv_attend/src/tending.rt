@@ -21,7 +21,9 @@ use rv_run::command::{Goes, of_io};
 use rv_run::leaving::wrote;
 use rv_run::outputs::{KeptFailure, Outputs};
 use rv_run::serving::of_run;
+use rv_shell::Order;
 use rv_staff::Session;
+use rv_step::reading::StepError;
 use std::io::Write;
 use std::sync::Wait;
 use std::time::Clock;
@@ -90,6 +92,7 @@ pub(crate) fn heed<T: Wait, W: Write, E: Write, F>(
     follower: &mut Follower<'_, T, F>,
     input: &Input,
     line: &str,
+    read: &Result<Order, StepError>,
     outputs: &mut Outputs<W, E>,
 ) -> Option<Result<Goes, Failure>>
     ensures plain { follower.old.asked.console ≡ None → (result ≡ None) × (W.contents outputs.new.writer ≡ W.contents outputs.old.writer) }
@@ -99,13 +102,21 @@ pub(crate) fn heed<T: Wait, W: Write, E: Write, F>(
     ensures keeper { follower.new.keeper ≡ follower.old.keeper }
     ensures asked { follower.new.asked ≡ follower.old.asked }
 {
-    match answer_word(rt, session, follower, line, &mut outputs.writer) {
+    match answer_word(rt, session, follower, line, read, &mut outputs.writer) {
         Some(answered) => {
             keep_word(follower, line);
             Some(answered)
         }
         None => {
-            tell_before(rt, session, follower, input, line, &mut outputs.errors);
+            tell_before(
+                rt,
+                session,
+                follower,
+                input,
+                line,
+                read,
+                &mut outputs.errors,
+            );
             None
         }
     }

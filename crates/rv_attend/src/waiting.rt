@@ -5,7 +5,7 @@ ghost use Rattle.rv_attend.specs.Attending.{Grows};
 ghost use Rattle.rv_attend.specs.Lasting.{Tends, at};
 
 use crate::coming::{has_command, has_command_now};
-use crate::due::do_chores;
+use crate::due::{do_chores, do_round};
 use crate::follower::Follower;
 use crate::ticking::until_tick;
 use rv_fault::Failure;
@@ -63,10 +63,11 @@ fn hear<T: Wait + Clock>(
     }
 }
 
-// How long the next wait is, in milliseconds, behind one of this length.
-fn longer(found: Found, heard: Heard, millis: u64) -> u64 {
-    match heard {
-        Heard::Nothing if found == Found::Nothing => millis.saturating_mul(2).min(LONGEST),
+// How long the next wait is, in milliseconds, behind one of this length: none where more entries came than were written.
+fn wait_behind(found: Found, heard: Heard, millis: u64) -> u64 {
+    match (found, heard) {
+        (Found::More, _) => 0,
+        (Found::Nothing, Heard::Nothing) => { millis.saturating_mul(2).max(SHORTEST).min(LONGEST) }
         _ => SHORTEST,
     }
 }
@@ -76,7 +77,8 @@ fn unless_stopped<T: Wait + Clock>(source: &Listening<'_, T>, goes: Goes) -> Goe
     if source.is_stopped() { Goes::Out } else { goes }
 }
 
-// Waits once, and then does what is due. Gives whether the run goes on, once that is known.
+// Waits once, and then does what is due, also where more entries came than are written at once: so a command is soon heard.
+// Gives whether the run goes on, once that is known.
 fn wait_once<T: Wait + Clock, E: Write, F: Write>(
     rt: &T,
     session: &mut Session,
@@ -92,9 +94,9 @@ fn wait_once<T: Wait + Clock, E: Write, F: Write>(
     let most = next_wait(rt, &follower.pace, *millis);
     match hear(&mut follower.source, input, most) {
         Ok(Heard::Command) => Ok(Some(Goes::On)),
-        Ok(heard) => match do_chores(rt, session, follower, errors) {
+        Ok(heard) => match do_round(rt, session, follower, errors) {
             Ok(round) => {
-                *millis = longer(round.found, heard, *millis);
+                *millis = wait_behind(round.found, heard, *millis);
                 Ok(unless_on(unless_stopped(&follower.source, round.goes)))
             }
             Err(failure) => Err(failure),

@@ -1,10 +1,12 @@
 -- A command that is no word of its own asks for no page.
-use Rattle.std.proofs.Common.{◌≡◌, ◌∙◌, ap, refl, List, ℕ}
-use Rattle.std.specs.Prelude.{Option, Some, None}
+use Rattle.std.proofs.Common.{◌≡◌, ◌∙◌, ap, refl, List, ℕ, Ok, Err}
+use Rattle.std.specs.Prelude.{Option, Result, Some, None}
 use Rattle.rv_shape.specs.Items.{◌>>=◌}
-use Rattle.rv_shell.specs.Orders.{of_step, or_stepped, order_of, own_order}
+use Rattle.rv_shell.specs.Orders.{IsRead, of_step, or_stepped, order_of, own_order}
 use Rattle.rv_shell.specs.declared.order.Order.{Order}
 use Rattle.rv_step.specs.StepText.{asked_of}
+use Rattle.rv_step.specs.declared.reading.StepError.{StepError}
+use Rattle.rv_console.specs.declared.word.Word.{Word}
 use Rattle.rv_event.specs.declared.entry.Request.TheVariants as Requests
 use Rattle.rv_step.specs.declared.step.Asked.{Asked}
 use Rattle.rv_step.specs.declared.step.Asked.TheVariants as Asks
@@ -31,3 +33,13 @@ stepped (Some asked) = one asked
 
 pub no_page : (words : List (List ℕ)) → own_order words ≡ None → page_of (order_of words) ≡ None
 no_page words none = ap (λ (o : Option Order). page_of (or_stepped o words)) none ∙ stepped (asked_of words)
+
+-- the page that what was read asks for
+abbrev pub page_read : Result Order StepError → Option Word
+page_read (Ok order) = page_of (Some order)
+page_read (Err error) = None
+
+-- it is that of the line
+pub read_page : (words : List (List ℕ)) (read : Result Order StepError) → IsRead words read → page_of (order_of words) ≡ page_read read
+read_page words (Ok order) is = ap page_of is.0
+read_page words (Err error) is = no_page words is.1

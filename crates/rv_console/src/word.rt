@@ -1,13 +1,13 @@
 //! The words that the console has of its own.
 
-ghost use Rattle.std.specs.Prelude.{◌≡◌};
+ghost use Rattle.std.specs.Prelude.{◌≡◌, ℕ, List};
 ghost use Rattle.rv_console.specs.Console.{page_of, single, word_of};
-ghost use Rattle.rv_shell.specs.Orders.{order_of};
+ghost use Rattle.rv_shell.specs.Orders.{IsRead, order_of};
 ghost use Rattle.rv_text.specs.Words.{words};
 
-use rv_shell::{Order, order_of};
+use rv_shell::Order;
+use rv_step::reading::StepError;
 use rv_text::next_word;
-use std::alloc::Global;
 
 /// What a line asks of the console.
 #[derive(Clone, Copy, Drop)]
@@ -46,25 +46,25 @@ fn single(word: &str) -> Option<Word>
 }
 
 // The page that a command asks for, if it does.
-#[tactic(auto, using(crate::proofs::Paging::no_page))]
-fn page_of(alloc: Global, line: &str) -> Option<Word>
-    ensures { result ≡ page_of (order_of (words line.now)) }
+#[tactic(auto, using(crate::proofs::Paging::read_page))]
+fn page_of(read: &Result<Order, StepError>) -> Option<Word>
+    ensures { (words : List (List ℕ)) → IsRead words read.now → result ≡ page_of (order_of words) }
 {
-    match order_of(alloc, line) {
-        Ok(Order::Journal(from)) => Some(Word::Page(from)),
+    match read {
+        Ok(Order::Journal(from)) => Some(Word::Page(*from)),
         _ => None,
     }
 }
 
-/// What a line asks of the console, if it does.
-pub fn word_of(alloc: Global, line: &str) -> Option<Word>
-    ensures { result ≡ word_of (words line.now) }
+/// What a line asks of the console, if it does; as a command it was read so (`order_of`).
+pub fn word_of(line: &str, read: &Result<Order, StepError>) -> Option<Word>
+    ensures { IsRead (words line.now) read.now → result ≡ word_of (words line.now) }
 {
     let Some((word, rest)) = next_word(line) else {
         return Some(Word::Blank);
     };
     match next_word(rest) {
-        Some(_) => page_of(alloc, line),
+        Some(_) => page_of(read),
         None => single(word),
     }
 }

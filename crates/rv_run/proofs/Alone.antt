@@ -13,7 +13,7 @@ use Rattle.rv_run.specs.Beside.{Ended, IsAlone, IsOfRun, Moment, OnlyFlushes, no
 use Rattle.rv_run.specs.Commanding.{Commands}
 use Rattle.rv_run.specs.Finishing.{Counts, Finishes, Goes as GoesThrough, GoesOnBy, Plays, Served, ServesIf, TellsLost, Unclosed}
 use Rattle.rv_run.specs.FinishingBeside.{CountsWith, FinishesWith, GoesOnByWith, GoesWith, PlaysWith, ServesIfWith, UnclosedWith}
-use Rattle.rv_run.specs.ServingBeside.{CarriesOut, ServesAllWith, ServesIfOn, ServesLine, ServesNextWith, ServesOneWith, ServesUpToWith, StopsBehindWith, reads}
+use Rattle.rv_run.specs.ServingBeside.{CarriesOut, HearsIf, ServesAllWith, ServesIfOn, ServesLine, ServesNextWith, ServesOneWith, ServesUpToWith, StopsBehindWith, reads}
 use Rattle.rv_run.specs.ServingLines.{Flushes, ServesAll, ServesNext, ServesOne, ServesUpTo, most_commands}
 use Rattle.rv_run.specs.Staging.{Comes, GoesOn, Outcome, Stage}
 
@@ -28,11 +28,18 @@ went (Err failure) goes is = absurd (cc is)
 
 -- A command
 
-carried : {C : Type 0} (m n : Moment C) (line : List ℕ) (answer : Option Outcome) (result : Outcome) → answer ≡ None → CarriesOut m line answer n result
+unheard : {C : Type 0} (chores : C) (old new : Known) → HearsIf no_chores chores old new → new ≡ old
+unheard chores old new (inl same) = same
+unheard chores old new (inr same) = same
+
+carried : {C : Type 0} (m n : Moment C) (line : List ℕ) (answer : Option Outcome) (result : Outcome) → answer ≡ None → CarriesOut no_chores m line answer n result
     → Commands m.stage n.stage line result × (n.errors ≡ m.errors)
 carried m n line (Some answered) result none same = absurd (cc none)
 carried m n line None result none does =
-    (subst (λ (x : Moment _). Commands m.stage x.stage line result) (sym does.2) does.1, ap (λ (x : Moment _). x.errors) does.2)
+    (
+      subst (λ (x : Moment _). Commands m.stage x.stage line result) (sym does.4) does.2,
+      ap (λ (x : Moment _). x.errors) does.4 ∙ unheard m.chores m.errors does.1 does.3,
+    )
 
 commanded : {C : Type 0} (m n : Moment C) (line : List ℕ) (result : Outcome) → ServesLine no_chores m n line result
     → Commands m.stage n.stage line result × (n.errors ≡ m.errors)

@@ -37,10 +37,12 @@ pub record Moment (C : Type 0) : Type 0 where
 abbrev pub moment : {C : Type 0} → C → Staffed → Known → Reading → Known → Known → Moment C
 moment chores staff written input left errors = record { chores = chores; stage = stage staff written input left; errors = errors }
 
--- What is done until the next command comes, with a line that came, where no line comes any more, and of the host that was closed.
+-- What is done until the next command comes, with a line that came, of what stands against a unit text, where no line comes any more,
+-- and of the host that was closed.
 pub record Beside (C : Type 0) : Type 1 where
   pub tends : Moment C → Moment C → Result Goes KeptFailure → Type 0
   pub heeds : Moment C → List ℕ → Moment C → Option Outcome → Type 0
+  pub hears : C → Known → Known → Type 0
   pub leaves : C → Known → Known → Outcome → Type 0
   pub closes : C → Known → Closed → Ended → C → Known → Ended → Type 0
 
@@ -56,6 +58,7 @@ abbrev pub no_chores : {C : Type 0} → Beside C
 no_chores = record {
   tends = λ m n result. OnlyFlushes m n result;
   heeds = λ m line n answer. (n ≡ m) × (answer ≡ None);
+  hears = λ chores old new. new ≡ old;
   leaves = λ chores old new result. (new ≡ old) × (result ≡ Ok Out);
   closes = λ chores errors closed served chores' errors' kept. (errors' ≡ errors) × (kept ≡ served);
 }

@@ -10,17 +10,22 @@ use Rattle.rv_run.specs.Commanding.{Commands}
 use Rattle.rv_run.specs.ServingLines.{most_commands}
 use Rattle.rv_run.specs.Staging.{Comes, Fails, Outcome, Stage}
 
+-- what stands against a unit text is heard, if anything does
+abbrev pub HearsIf : {C : Type 0} → Beside C → C → Known → Known → Type 0
+HearsIf does chores old new = (new ≡ old) ⊎ does.hears chores old new
+
 -- a line is carried out as a command, unless it was answered
-abbrev pub CarriesOut : {C : Type 0} → Moment C → List ℕ → Option Outcome → Moment C → Outcome → Type 0
-CarriesOut m line (Some answered) n result = (n ≡ m) × (result ≡ answered)
-CarriesOut m line None n result = (t : Stage) × Commands m.stage t line result × (n ≡ record m { stage = t })
+abbrev pub CarriesOut : {C : Type 0} → Beside C → Moment C → List ℕ → Option Outcome → Moment C → Outcome → Type 0
+CarriesOut does m line (Some answered) n result = (n ≡ m) × (result ≡ answered)
+CarriesOut does m line None n result =
+    (t : Stage) × (told : Known) × Commands m.stage t line result × HearsIf does m.chores m.errors told × (n ≡ record m { stage = t; errors = told })
 
 -- it is looked at first
 pub record ServesLine {C : Type 0} (does : Beside C) (m n : Moment C) (line : List ℕ) (result : Outcome) : Type 0 where
   pub heeded : Moment C
   pub answer : Option Outcome
   pub heeds : does.heeds m line heeded answer
-  pub carried : CarriesOut heeded line answer n result
+  pub carried : CarriesOut does heeded line answer n result
 
 -- more of the input was read
 abbrev pub reads : {C : Type 0} → Moment C → Reading → Known → Moment C

@@ -7,9 +7,11 @@ ghost use Rattle.rv_staff.specs.Saying.{Known};
 use crate::command::{Goes, of_io};
 use crate::outputs::{KeptFailure, Outputs};
 use rv_crew::crew::Closed;
-use rv_fault::Failure;
+use rv_fault::{Failure, What};
 use rv_input::Input;
+use rv_shell::Order;
 use rv_staff::Session;
+use rv_step::reading::StepError;
 use std::io::Write;
 
 /// What is done beside the commands of a run.
@@ -29,13 +31,14 @@ pub trait Chores<T, W: Write, E: Write> {
             (moment self.new session.new.staff (W.contents outputs.new.writer) input.new left (E.contents outputs.new.errors))
             result };
 
-    /// Looks at a line before it is carried out. None where it is to be carried out as a command.
+    /// Looks at a line, and at what it was read as, before it is carried out. None where it is to be carried out as a command.
     fn heed(
         &mut self,
         rt: &T,
         session: &mut Session,
         input: &Input,
         line: &str,
+        read: &Result<Order, StepError>,
         outputs: &mut Outputs<W, E>,
     ) -> Option<Result<Goes, Failure>>
         ensures { (left : Known) → does.heeds
@@ -43,6 +46,10 @@ pub trait Chores<T, W: Write, E: Write> {
             line.now
             (moment self.new session.new.staff (W.contents outputs.new.writer) input.now left (E.contents outputs.new.errors))
             result };
+
+    /// Hears what stands against the unit text of a command `load`, before that is said.
+    fn hear(&self, what: What, errors: &mut E)
+        ensures { does.hears self.now (E.contents errors.old) (E.contents errors.new) };
 
     /// Ends the run where no command comes any more.
     fn leave(&self, writer: &mut W) -> Result<Goes, Failure>
@@ -85,10 +92,13 @@ impl<T, W: Write, E: Write> Chores<T, W, E> for NoChores {
         _session: &mut Session,
         _input: &Input,
         _line: &str,
+        _read: &Result<Order, StepError>,
         _outputs: &mut Outputs<W, E>,
     ) -> Option<Result<Goes, Failure>> {
         None
     }
+
+    fn hear(&self, _what: What, _errors: &mut E) {}
 
     fn leave(&self, _writer: &mut W) -> Result<Goes, Failure> {
         Ok(Goes::Out)

@@ -3,13 +3,19 @@
 ghost use Rattle.std.specs.Prelude.{◌≡◌, ℕ, List, Err};
 ghost use Rattle.rv_fault.specs.Written.{IsNoFault};
 ghost use Rattle.rv_run.specs.Commanding.{Behind, Commands, LoadsNext, LoadsText, SaysFault, StartsOn, Welcomes, goes_behind};
+ghost use Rattle.rv_run.specs.ServingBeside.{HearsIf};
 ghost use Rattle.rv_run.specs.Staging.{GoesOn, IsSaid, SaysOn, stage};
+ghost use Rattle.rv_shell.specs.Orders.{IsRead};
+ghost use Rattle.rv_text.specs.Words.{words};
 
+use crate::chores::Chores;
+use crate::outputs::Outputs;
 use rv_event::entry::Answer;
 use rv_fault::{Failure, ScriptFault, What, text_unit};
 use rv_input::{Input, InputFault};
-use rv_shell::{LineFault, Next, Shell};
+use rv_shell::{LineFault, Next, Order, Shell};
 use rv_staff::{Hires, NO_MEMORY, Session, raise, say, start_threads};
+use rv_step::reading::StepError;
 use rv_turn::Worn;
 use std::alloc::Global;
 use std::io;
@@ -114,41 +120,57 @@ fn welcome<H: Hires, W: Write>(
     start_on(hires, session, goes, writer)
 }
 
+// Has it heard what stands against a unit text, where that is no want of memory.
+fn hear<T, W: Write, E: Write, C: Chores<T, W, E>>(chores: &C, failure: &Failure, errors: &mut E)
+    ensures { HearsIf C.does chores.now (E.contents errors.old) (E.contents errors.new) }
+{
+    if let Failure::Refused(fault) = failure {
+        chores.hear(fault.what, errors);
+    }
+}
+
 // Loads the unit of a text.
-fn load<T: Wait, H: Hires, W: Write>(
+fn load<T: Wait, H: Hires, W: Write, E: Write, C: Chores<T, W, E>>(
     rt: &T,
     hires: &H,
     session: &mut Session,
+    chores: &C,
     text: &str,
-    writer: &mut W,
+    outputs: &mut Outputs<W, E>,
 ) -> Result<Goes, Failure>
-    ensures { LoadsText session.old.staff session.new.staff (W.contents writer.old) (W.contents writer.new) text.now result }
+    ensures loads { LoadsText session.old.staff session.new.staff (W.contents outputs.old.writer) (W.contents outputs.new.writer) text.now result }
+    ensures hears { HearsIf C.does chores.now (E.contents outputs.old.errors) (E.contents outputs.new.errors) }
 {
     match text_unit(session.alloc, session.staff.catalogue(), NO_LINE, text) {
         Ok(unit) => {
             let answer = session.staff.load(rt, unit);
-            welcome(hires, session, answer, writer)
+            welcome(hires, session, answer, &mut outputs.writer)
         }
-        Err(failure) => complain(session.alloc, failure, writer),
+        Err(failure) => {
+            hear::<T, W, E, C>(chores, &failure, &mut outputs.errors);
+            complain(session.alloc, failure, &mut outputs.writer)
+        }
     }
 }
 
 // Loads the unit of the text that follows; the end of input before its last line ends the run.
-fn load_next<T: Wait, H: Hires, R: Read, W: Write>(
+fn load_next<T: Wait, H: Hires, R: Read, W: Write, E: Write, C: Chores<T, W, E>>(
     rt: &T,
     hires: &H,
     session: &mut Session,
+    chores: &C,
     input: &mut Input,
     reader: &mut R,
-    writer: &mut W,
+    outputs: &mut Outputs<W, E>,
 ) -> Result<Goes, Failure>
-    ensures { LoadsNext
-        (stage session.old.staff (W.contents writer.old) input.old (R.remaining reader.old))
-        (stage session.new.staff (W.contents writer.new) input.new (R.remaining reader.new))
+    ensures loads { LoadsNext
+        (stage session.old.staff (W.contents outputs.old.writer) input.old (R.remaining reader.old))
+        (stage session.new.staff (W.contents outputs.new.writer) input.new (R.remaining reader.new))
         result }
+    ensures hears { HearsIf C.does chores.now (E.contents outputs.old.errors) (E.contents outputs.new.errors) }
 {
     match input.unit_text(reader) {
-        Ok(Some(text)) => load(rt, hires, session, text.as_str(), writer),
+        Ok(Some(text)) => load(rt, hires, session, chores, text.as_str(), outputs),
         Ok(None) => Ok(Goes::Out),
         Err(fault) => Err(of_input(fault)),
     }
@@ -188,29 +210,33 @@ pub fn after<W: Write>(next: Result<Next, LineFault>, writer: &mut W) -> Result<
     }
 }
 
-/// Carries out a command line.
-pub fn command<T: Wait, H: Hires, R: Read, W: Write>(
+/// Carries out a command line as it was read (`order_of`).
+pub fn command<T: Wait, H: Hires, R: Read, W: Write, E: Write, C: Chores<T, W, E>>(
     rt: &T,
     hires: &H,
     session: &mut Session,
+    chores: &C,
     input: &mut Input,
     reader: &mut R,
-    writer: &mut W,
-    line: &str,
+    outputs: &mut Outputs<W, E>,
+    read: Result<Order, StepError>,
 ) -> Result<Goes, Failure>
-    ensures { Commands
-        (stage session.old.staff (W.contents writer.old) input.old (R.remaining reader.old))
-        (stage session.new.staff (W.contents writer.new) input.new (R.remaining reader.new))
-        line.now
+    ensures commands { (line : List ℕ) → IsRead (words line) read → Commands
+        (stage session.old.staff (W.contents outputs.old.writer) input.old (R.remaining reader.old))
+        (stage session.new.staff (W.contents outputs.new.writer) input.new (R.remaining reader.new))
+        line
         result }
+    ensures hears { HearsIf C.does chores.now (E.contents outputs.old.errors) (E.contents outputs.new.errors) }
 {
     let shell = Shell::new(session.alloc);
-    let next = session.staff.line(rt, &shell, line, writer);
+    let next = session
+        .staff
+        .carry_out(rt, &shell, read, &mut outputs.writer);
     match next {
-        Ok(Next::Load) => load_next(rt, hires, session, input, reader, writer),
-        Ok(Next::Raise(line)) => said(raise(rt, session, line, writer)),
+        Ok(Next::Load) => load_next(rt, hires, session, chores, input, reader, outputs),
+        Ok(Next::Raise(line)) => said(raise(rt, session, line, &mut outputs.writer)),
         Ok(Next::Go) => Ok(Goes::On),
         Ok(Next::Quit) => Ok(Goes::Out),
-        Err(fault) => after_fault(fault, writer),
+        Err(fault) => after_fault(fault, &mut outputs.writer),
     }
 }

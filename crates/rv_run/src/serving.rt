@@ -11,6 +11,7 @@ use crate::leaving::wrote;
 use crate::outputs::{KeptFailure, Outputs};
 use rv_fault::Failure;
 use rv_input::Input;
+use rv_shell::order_of;
 use rv_staff::{Hires, Session, start_threads};
 use std::io::{Read, Write};
 use std::sync::Wait;
@@ -29,7 +30,7 @@ pub fn of_run<X>(done: Result<X, Failure>) -> Result<X, KeptFailure>
     }
 }
 
-// Carries out a line as a command, unless it is answered beside the commands.
+// Reads a line, and carries it out as a command, unless it is answered beside the commands.
 fn serve_line<T: Threads + Wait, H: Hires, R: Read, W: Write, E: Write, C: Chores<T, W, E>>(
     rt: &T,
     hires: &H,
@@ -46,9 +47,10 @@ fn serve_line<T: Threads + Wait, H: Hires, R: Read, W: Write, E: Write, C: Chore
         line.now
         result }
 {
-    match chores.heed(rt, session, input, line, outputs) {
+    let read = order_of(session.alloc, line);
+    match chores.heed(rt, session, input, line, &read, outputs) {
         Some(answered) => answered,
-        None => command(rt, hires, session, input, reader, &mut outputs.writer, line),
+        None => command(rt, hires, session, &*chores, input, reader, outputs, read),
     }
 }
 

@@ -1,5 +1,5 @@
 -- What is told and written makes what a line does.
-use Rattle.std.proofs.Common.{subst, sym, refl, MatchResult, ◌≡◌, ℕ, List, Ok, Err, inl, inr}
+use Rattle.std.proofs.Common.{subst, sym, refl, MatchResult, ◌≡◌, ℕ, List, Option, Ok, Err, inl, inr}
 use Rattle.std.specs.Prelude.{Result}
 use Rattle.rv_event.specs.declared.entry.Answer.{Answer}
 use Rattle.rv_host.specs.Pages.{Item}
@@ -16,7 +16,11 @@ use Rattle.rv_behind.specs.declared.event.Reply.TheVariants as Gives
 use Rattle.rv_shell.specs.declared.shell.Next.{Next}
 use Rattle.rv_shell.specs.declared.shell.LineFault.{LineFault}
 use Rattle.rv_shell.specs.declared.shell.LineFault.TheVariants.{NoMemory, Write, Worn}
-use Rattle.rv_shell.specs.Serving.{Written, Writes, RequestsOrWorn, ReadsOrWorn, answer_line, of_page}
+use Rattle.rv_step.specs.declared.reading.StepError.{StepError}
+use Rattle.rv_step.specs.declared.reading.StepError.TheVariants as Steps
+use Rattle.rv_shell.specs.Orders.{IsRead}
+use Rattle.rv_shell.specs.declared.order.Order.{Order}
+use Rattle.rv_shell.specs.Serving.{Carries, CarriesRead, Written, Writes, RequestsOrWorn, ReadsOrWorn, Serves, answer_line, of_page}
 use Rattle.rv_keep.specs.PageText.{page_text}
 
 -- a request was told, and its answer is written
@@ -49,3 +53,10 @@ pages_by old new v w from page (Err Worn) told written = absurd written
 pub page_fails : (old : Written) (v w : Passing) (from : ℕ) (fault : PageFault) → PageFailed v from fault w → ReadsOrWorn old old v w from (Err (of_page fault))
 page_fails old v w from PageFaults.NoMemory failed = inl (failed, refl)
 page_fails old v w from PageFaults.Worn failed = (failed, refl)
+
+-- what was read of a line is carried out, and so the line is
+pub read_serves : (old new : Written) (v w : Passing) (words : List (List ℕ)) (read : Result Order StepError) (result : Result Next LineFault)
+    → IsRead words read → CarriesRead old new v w read result → Serves old new v w words result
+read_serves old new v w words (Ok order) result is carries = inr (subst (λ (o : Option Order). Carries old new v w o result) (sym is.0) carries)
+read_serves old new v w words (Err Steps.BadStep) result is carries = inr (subst (λ (o : Option Order). Carries old new v w o result) (sym is.0) carries)
+read_serves old new v w words (Err Steps.NoMemory) result is carries = inl (carries.0, carries.1, carries.2, is.1)

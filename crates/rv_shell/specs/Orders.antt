@@ -1,11 +1,12 @@
 -- What a command line of the operator asks (own). Keywords heed case.
-use Rattle.std.specs.Prelude.{ℕ, ℤ, pos, negsuc, nat_lt, if◌then◌else◌, List, [], ◌∷◌, codes, Option, Some, None}
+use Rattle.std.specs.Prelude.{◌≡◌, ℕ, ℤ, pos, negsuc, nat_lt, if◌then◌else◌, List, [], ◌∷◌, codes, Option, Some, None, OnErr, Result}
 use Rattle.std.specs.Str.{bytes_eq}
 use Rattle.rv_shape.specs.Items.{◌>>=◌}
 use Rattle.rv_event.specs.declared.entry.Request.TheVariants as Requests
 use Rattle.rv_step.specs.declared.step.Asked.{Asked}
 use Rattle.rv_step.specs.declared.step.Asked.TheVariants as Asks
-use Rattle.rv_step.specs.StepText.{asked_of}
+use Rattle.rv_step.specs.StepText.{Gives, asked_of}
+use Rattle.rv_step.specs.declared.reading.StepError.{StepError}
 use Rattle.rv_text.specs.Numbers.{integer_of}
 use Rattle.rv_shell.specs.declared.order.Order.{Order}
 use Rattle.rv_shell.specs.declared.order.Order.TheVariants.{Change, Tick, Halt, Raise, Load, Journal, Quit}
@@ -47,3 +48,7 @@ or_stepped None words = asked_of words >>= of_step
 -- what the words of a line ask; a blank line is no command
 abbrev pub order_of : List (List ℕ) → Option Order
 order_of words = or_stepped (own_order words) words
+
+-- A line is read as what its words ask, unless memory ran out for one that is no command of its own.
+abbrev pub IsRead : List (List ℕ) → Result Order StepError → Type 0
+IsRead words read = Gives read (order_of words) × OnErr read (own_order words ≡ None)

@@ -22,6 +22,8 @@ use Rattle.rv_port.specs.declared.fault.PageFault.{PageFault}
 use Rattle.rv_port.specs.declared.fault.PageFault.TheVariants as PageFaults
 use Rattle.rv_behind.specs.declared.event.Ask.{Ask}
 use Rattle.rv_behind.specs.declared.event.Reply.TheVariants as Gives
+use Rattle.rv_step.specs.declared.reading.StepError.{StepError}
+use Rattle.rv_step.specs.declared.reading.StepError.TheVariants as Steps
 use Rattle.rv_shell.specs.Orders.{order_of, own_order}
 use Rattle.rv_shell.specs.declared.order.Order.{Order}
 use Rattle.rv_shell.specs.declared.order.Order.TheVariants as Orders
@@ -131,6 +133,12 @@ Obeys old new v w Orders.Quit result = TellsCaller old new v w Nexts.Quit result
 abbrev pub Carries : Written → Written → Passing → Passing → Option Order → Result Next LineFault → Type 0
 Carries old new v w (Some order) result = Obeys old new v w order result
 Carries old new v w None result = (w ≡ v) × Prints old new (codes "bad command" ++ 10 ∷ []) result
+
+-- what a line does that was read so; without memory to read it nothing is asked or written
+abbrev pub CarriesRead : Written → Written → Passing → Passing → Result Order StepError → Result Next LineFault → Type 0
+CarriesRead old new v w (Ok order) result = Obeys old new v w order result
+CarriesRead old new v w (Err Steps.BadStep) result = Carries old new v w None result
+CarriesRead old new v w (Err Steps.NoMemory) result = (w ≡ v) × (new ≡ old) × (result ≡ Err NoMemory)
 
 -- there was no memory to read the words of a line, and nothing is asked or written; else the line is carried out
 abbrev pub Serves : Written → Written → Passing → Passing → List (List ℕ) → Result Next LineFault → Type 0

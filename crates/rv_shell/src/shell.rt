@@ -3,7 +3,7 @@
 ghost use Rattle.std.specs.Prelude.{◌≡◌, ℕ, List, Err, IfOk, MatchResult, string_bytes};
 ghost use Rattle.rv_text.specs.Words.{words};
 ghost use Rattle.rv_behind.specs.Events.{catalogue_of};
-ghost use Rattle.rv_shell.specs.Serving.{Obeys, Prints, ReadsOrWorn, Serves, Writes, answer_line, fault_line, of_page};
+ghost use Rattle.rv_shell.specs.Serving.{CarriesRead, Obeys, Prints, ReadsOrWorn, Serves, Writes, answer_line, fault_line, of_page};
 
 use crate::order::{Order, order_of};
 use rv_access::ListFault;
@@ -121,7 +121,9 @@ pub struct Shell {
 
 impl Shell {
     /// A shell that takes the memory of texts from here.
-    pub fn new(alloc: Global) -> Shell {
+    pub fn new(alloc: Global) -> Shell
+        ensures { result.alloc ≡ alloc }
+    {
         Shell { alloc }
     }
 
@@ -201,15 +203,37 @@ impl Shell {
         }
     }
 
-    /// Carries out a command line, which comes without its line feed: one request of the operator, whose answer is
-    /// written; for `journal` one page, whose entries are written; for `load`, `raise` and `quit` nothing is asked, and
-    /// the caller is told. A line that is no command, or whose line of the list is none, sends nothing, and that is
-    /// written. The caller flushes.
+    /// Carries out a command line as it was read (`order_of`): one request of the operator, whose answer is written; for
+    /// `journal` one page, whose entries are written; for `load`, `raise` and `quit` nothing is asked, and the caller is
+    /// told. A line that is no command, or whose line of the list is none, sends nothing, and that is written. The caller
+    /// flushes.
     ///
     /// # Errors
     /// `NoMemory` where the line couldn't be read, and nothing was asked, or where the text of an answer or of a page
     /// couldn't be made, and nothing is written of it. `Write` where writing failed. `Worn` where the control has no act
     /// left.
+    pub fn carry_out<R: Wait, W: Write>(
+        &self,
+        rt: &R,
+        control: &mut Control,
+        read: Result<Order, StepError>,
+        writer: &mut W,
+    ) -> Result<Next, LineFault>
+        ensures carries { CarriesRead (W.contents writer.old) (W.contents writer.new) control.old control.new read result }
+        ensures turn { control.new.turn ≡ control.old.turn }
+    {
+        match read {
+            Ok(order) => self.obey(rt, control, order, writer),
+            Err(StepError::BadStep) => put(writer, "bad command\n"),
+            Err(StepError::NoMemory) => Err(LineFault::NoMemory),
+        }
+    }
+
+    /// Reads a command line, which comes without its line feed, and carries it out.
+    ///
+    /// # Errors
+    /// As `carry_out`.
+    #[tactic(auto, using(crate::proofs::Serving::read_serves))]
     pub fn line<R: Wait, W: Write>(
         &self,
         rt: &R,
@@ -220,10 +244,6 @@ impl Shell {
         ensures serves { Serves (W.contents writer.old) (W.contents writer.new) control.old control.new (words line.now) result }
         ensures turn { control.new.turn ≡ control.old.turn }
     {
-        match order_of(self.alloc, line) {
-            Ok(order) => self.obey(rt, control, order, writer),
-            Err(StepError::BadStep) => put(writer, "bad command\n"),
-            Err(StepError::NoMemory) => Err(LineFault::NoMemory),
-        }
+        self.carry_out(rt, control, order_of(self.alloc, line), writer)
     }
 }

@@ -1,7 +1,6 @@
 //! A host that runs: its operator and the crew of its threads, which are of one turn.
 
 ghost use Rattle.std.specs.Prelude.{◌≡◌, ◌<◌, ◌^◌, [], Err, IfErr, IfOk, IfSome, List, MatchResult, length};
-ghost use Rattle.rv_text.specs.Words.{words};
 ghost use Rattle.rv_turn.specs.Passes.{Acted, IsWorn};
 ghost use Rattle.rv_behind.specs.Acting.{Does};
 ghost use Rattle.rv_behind.specs.Events.{by, catalogue_of};
@@ -19,7 +18,7 @@ ghost use Rattle.rv_follow.specs.Following.{IsKept, Looked, Reads};
 ghost use Rattle.rv_keep.specs.Keeping.{Known};
 ghost use Rattle.rv_crew.specs.Crews.{IsClosedBy};
 ghost use Rattle.rv_crew.specs.Teams.{IsOfTurn};
-ghost use Rattle.rv_shell.specs.Serving.{Serves, Writes, answer_line};
+ghost use Rattle.rv_shell.specs.Serving.{CarriesRead, Writes, answer_line};
 ghost use Rattle.rv_staff.specs.Ending.{Closes, Ended};
 ghost use Rattle.rv_crew.specs.Hiring.{hired};
 ghost use Rattle.rv_staff.specs.Staffs.{AreOf, no_crew};
@@ -38,7 +37,8 @@ use rv_port::control::Control;
 use rv_port::fault::{PageFault, PortFault};
 use rv_port::port::Port;
 use rv_shape::catalogue::Catalogue;
-use rv_shell::{LineFault, Next, Shell};
+use rv_shell::{LineFault, Next, Order, Shell};
+use rv_step::reading::StepError;
 use rv_tally::Tally;
 use rv_turn::Worn;
 use rv_view::View;
@@ -121,19 +121,19 @@ impl Staff {
         self.control.catalogue()
     }
 
-    /// Carries out a command line of the operator.
+    /// Carries out a command line of the operator as it was read.
     #[tactic(auto, using(crate::proofs::OneTurn::moved))]
-    pub fn line<R: Wait, W: Write>(
+    pub fn carry_out<R: Wait, W: Write>(
         &mut self,
         rt: &R,
         shell: &Shell,
-        line: &str,
+        read: Result<Order, StepError>,
         writer: &mut W,
     ) -> Result<Next, LineFault>
-        ensures serves { Serves (W.contents writer.old) (W.contents writer.new) self.old.control self.new.control (words line.now) result }
+        ensures carries { CarriesRead (W.contents writer.old) (W.contents writer.new) self.old.control self.new.control read result }
         ensures crew { self.new.crew ≡ self.old.crew }
     {
-        shell.line(rt, &mut self.control, line, writer)
+        shell.carry_out(rt, &mut self.control, read, writer)
     }
 
     /// Answers a word of the console; entries by unit are those of the tally.

@@ -1,30 +1,11 @@
-use Rattle.std.proofs.Common.{◌∙◌, refl}
-use Rattle.rv_attend.proofs.Chores.{chores_on, no_chores}
+use Rattle.std.proofs.Common.{◌∙◌}
+use Rattle.rv_attend.proofs.Chores.{chores_on}
 use Rattle.rv_attend.proofs.due.do_chores.Goals as goal
 
-pub loop-init : goal.loop-init
-loop-init g c = (λ opened kept. kept, no_chores _ _ refl, refl, refl)
-
-pub loop-preserved : goal.loop-preserved
-loop-preserved g c = (
-  λ opened kept. c.in-Ok.ensures.0 opened (c.loop.invariant.0 opened kept),
-  chores_on _ _ _ c.loop.invariant.1 c.do_round.ensures.1,
-  c.do_round.ensures.2 ∙ c.loop.invariant.2,
-  c.do_round.ensures.3 ∙ c.loop.invariant.3,
-)
-
-pub returns-then-is_over : goal.returns-then-is_over
-returns-then-is_over g c = (
-  λ opened kept. c.in-Ok.ensures.0 opened (c.loop.invariant.0 opened kept),
-  chores_on _ _ _ c.loop.invariant.1 c.do_round.ensures.1,
-  c.do_round.ensures.2 ∙ c.loop.invariant.2,
-  c.do_round.ensures.3 ∙ c.loop.invariant.3,
-)
-
-pub returns-in-Err : goal.returns-in-Err
-returns-in-Err g c = (
-  λ opened kept. c.in-Err.ensures.0 opened (c.loop.invariant.0 opened kept),
-  chores_on _ _ _ c.loop.invariant.1 c.do_round.ensures.1,
-  c.do_round.ensures.2 ∙ c.loop.invariant.2,
-  c.do_round.ensures.3 ∙ c.loop.invariant.3,
+pub returns-in-Ok : goal.returns-in-Ok
+returns-in-Ok g c = (
+  λ opened kept. c.catch_up.ensures.0 opened (c.in-Ok.ensures.0 opened kept),
+  chores_on _ _ _ c.do_round.ensures.1 c.catch_up.ensures.1,
+  c.catch_up.ensures.2 ∙ c.do_round.ensures.2,
+  c.catch_up.ensures.3 ∙ c.do_round.ensures.3,
 )

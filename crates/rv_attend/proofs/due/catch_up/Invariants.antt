@@ -1,6 +1,6 @@
 use Rattle.std.specs.Prelude.{Ok}
 use Rattle.rv_attend.specs.Lasting.{Tends, at}
-use Rattle.rv_attend.proofs.due.do_chores.Given as goal
+use Rattle.rv_attend.proofs.due.catch_up.Given as goal
 
 abbrev pub invariant-loop : goal.invariant-loop
 invariant-loop g l =
