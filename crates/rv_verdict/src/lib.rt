@@ -10,6 +10,9 @@ mod script;
 mod texts;
 mod with_ends;
 
+pub use given::Given;
 pub use judging::{Audited, audit, audit_file};
 pub use rv_audit::observer::{Nobody, Watch};
+pub use said::say;
+pub use script::{audit_over, script_of};
 pub use with_ends::{Explained, audit_explained, audit_file_explained};

@@ -1,0 +1,11 @@
+use Rattle.std.proofs.Common.{◌∙◌, ap, ap₂}
+use Rattle.std.proofs.lemmas.Result.{IfOk-weaker}
+use Rattle.clap.specs.Words.{App, with_subcommand}
+use Rattle.rv_inquiry.proofs.Adding.{both}
+use Rattle.rv_inquiry.proofs.command.command.Goals as goal
+
+pub returns : goal.returns
+returns c =
+    IfOk-weaker c.with_added.result _ _
+    (λ r h. both c.refusals.result _ _ _ h c.refusals.ensures.app
+    (λ s p q. p ∙ ap₂ with_subcommand c.program_alone-command.ensures (ap (λ (a : App). a.top) q))) c.with_added.ensures

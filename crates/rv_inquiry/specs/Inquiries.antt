@@ -1,0 +1,90 @@
+-- The command line of `ravenreview` (own): `refusals`, which may be given `--journal FILE` and, with it, `--torn`, and `--since WHEN`,
+-- `--by CALLER` and `--of CALLED`. What words come to is what `clap` says of this command.
+use Rattle.std.specs.Prelude.{◌≡◌, ℕ, Bool, true, false, ◌==◌, nat_lt, if◌then◌else◌, List, Option, Some, None, codes, option_map, length}
+use Rattle.std.specs.List.{after_first, before_first, position_or_len}
+use Rattle.std.specs.Borrow.{Bor}
+use Rattle.std.specs.Str.{bytes_eq}
+use Rattle.clap.specs.Words.{App, Row, Rule, new_app, new_rule, subcommand_of, with_rule, with_subcommand}
+use Rattle.clap.specs.Simple.{on_top}
+use Rattle.clap.specs.Walk.{Text, first_of, one_of}
+use Rattle.clap.specs.declared.builder.action.ArgAction.TheVariants.{Set, SetTrue}
+use Rattle.rv_text.specs.Numbers.{natural_of}
+use Rattle.rv_inquiry.specs.declared.inquiry.From.{From}
+use Rattle.rv_inquiry.specs.declared.inquiry.From.TheVariants as Froms
+use Rattle.rv_inquiry.specs.declared.inquiry.Inquiry.{Inquiry}
+
+-- a flag
+abbrev pub flag_rule : Text → Rule
+flag_rule name = record (new_rule name) { long = Some name; action = Some SetTrue }
+
+-- a flag with a value
+abbrev pub value_rule : Text → Rule
+value_rule name = record (new_rule name) { long = Some name; action = Some Set; value_names = 1 }
+
+-- each may be given a file, and that its end was cut off
+abbrev pub with_journal : App → App
+with_journal app = with_rule (with_rule app (value_rule (codes "journal"))) (flag_rule (codes "torn"))
+
+-- and which entries are asked for
+abbrev pub with_filter : App → App
+with_filter app =
+    with_rule (with_rule (with_rule app (value_rule (codes "since"))) (value_rule (codes "by"))) (value_rule (codes "of"))
+
+abbrev pub refusals_app : App
+refusals_app = with_filter (with_journal (new_app (codes "refusals")))
+
+-- the program, of which one subcommand must be named
+abbrev pub versioned : App
+versioned = on_top (λ s. record s { has_version = true }) (new_app (codes "ravenreview"))
+
+abbrev pub alone : App
+alone = on_top (λ s. record s { subcommand_required = true }) versioned
+
+abbrev pub program : App
+program = with_subcommand alone refusals_app.top
+
+-- the text of a flag, as a flag
+abbrev pub IsFlag : Option Text → Bool → Type 0
+IsFlag text flag = (text ≡ Some (codes "true") → flag ≡ true) × (text ≡ Some (codes "false") → flag ≡ false)
+
+-- since when, by the two parts of a word: `entry` or `tick`, and a number
+abbrev pub from_parts : Text → Option ℕ → Option From
+from_parts kind None = None
+from_parts kind (Some number) =
+    if bytes_eq kind (codes "entry") then Some (Froms.Entry number)
+    else if bytes_eq kind (codes "tick") then Some (Froms.Tick number)
+    else None
+
+abbrev pub is_colon : ℕ → Bool
+is_colon byte = byte == 58
+
+-- the parts stand on both sides of the first colon
+abbrev pub from_word : Text → Option From
+from_word word =
+    if nat_lt (position_or_len is_colon word) (length word)
+    then from_parts (before_first is_colon word) (natural_of (after_first is_colon word))
+    else None
+
+-- since when, by the word that is given, if it is one of these
+abbrev pub from_of : Option Text → Option From
+from_of None = Some Froms.Start
+from_of (Some word) = from_word word
+
+abbrev pub text_in : Option (Bor Text) → Option Text
+text_in word = option_map (λ (w : Bor Text). w.now) word
+
+-- what `refusals` was given is asked
+pub record IsRefusals (rows : List Row) (asked : Inquiry) : Type 0 where
+  pub journal : text_in asked.journal ≡ first_of (codes "journal") rows
+  pub torn : IsFlag (one_of (codes "torn") rows) asked.takes_torn
+  pub since : from_of (first_of (codes "since") rows) ≡ Some asked.since
+  pub by : text_in asked.by ≡ first_of (codes "by") rows
+  pub of : text_in asked.of ≡ first_of (codes "of") rows
+
+-- a subcommand with what it was given is asked
+abbrev pub IsInquiry : Text × List Row → Inquiry → Type 0
+IsInquiry found asked = (found.0 ≡ codes "refusals") × IsRefusals found.1 asked
+
+-- so it is of words
+abbrev pub Asks : List Text → Inquiry → Type 0
+Asks words asked = (found : Text × List Row) × (subcommand_of program words ≡ Some found) × IsInquiry found asked

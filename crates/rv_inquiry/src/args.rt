@@ -1,0 +1,79 @@
+//! The arguments of the subcommands.
+
+ghost use Rattle.std.specs.Prelude.{◌≡◌, false, IfOk};
+ghost use Rattle.clap.specs.Words.{app_of, rule_of};
+ghost use Rattle.clap.specs.declared.builder.command.Command.TheViews.{out-Command as fields_of};
+ghost use Rattle.rv_inquiry.specs.Inquiries.{flag_rule, value_rule, with_journal, with_filter};
+
+use clap::{Arg, ArgAction, Command};
+use std::alloc::{AllocError, Global};
+
+// A flag.
+fn flag<'a>(alloc: Global, name: &'a str, help: &'a str) -> Arg<'a>
+    ensures rule { rule_of result ≡ flag_rule name.now }
+    ensures local { result.global ≡ false }
+{
+    Arg::new(alloc, name)
+        .long(name)
+        .help(help)
+        .action(ArgAction::SetTrue)
+}
+
+// An argument with a value that has a name.
+fn valued<'a>(alloc: Global, name: &'a str, value: &'a str, help: &'a str) -> Arg<'a>
+    ensures rule { rule_of result ≡ value_rule name.now }
+    ensures local { result.global ≡ false }
+{
+    Arg::new(alloc, name)
+        .long(name)
+        .value_name(value)
+        .help(help)
+        .action(ArgAction::Set)
+}
+
+/// A subcommand that may be given the file of a journal, and that its end was cut off.
+pub fn over_journal<'a>(alloc: Global, command: Command<'a>) -> Result<Command<'a>, AllocError>
+    requires { (fields_of command).has_globals ≡ false }
+    ensures app { IfOk result (λ c. app_of c ≡ with_journal (app_of command.entry)) }
+    ensures local { IfOk result (λ c. (fields_of c).has_globals ≡ false) }
+{
+    let journal = valued(
+        alloc,
+        "journal",
+        "FILE",
+        "Review the journal in this file, of any length, instead of one in the script",
+    );
+    let torn = flag(
+        alloc,
+        "torn",
+        "With --journal: take a last line without its line feed as cut off by a crash",
+    );
+    command.arg(journal)?.arg(torn)
+}
+
+/// A subcommand that may be told which entries are asked for.
+pub fn filtered<'a>(alloc: Global, command: Command<'a>) -> Result<Command<'a>, AllocError>
+    requires { (fields_of command).has_globals ≡ false }
+    ensures app { IfOk result (λ c. app_of c ≡ with_filter (app_of command.entry)) }
+    ensures local { IfOk result (λ c. (fields_of c).has_globals ≡ false) }
+{
+    let since = valued(
+        alloc,
+        "since",
+        "WHEN",
+        "Leave out what was before entry:N or tick:N",
+    );
+    let by = valued(
+        alloc,
+        "by",
+        "CALLER",
+        "Leave out other callers than this task Unit.Task, or the tasks of this unit",
+    );
+    let of = valued(
+        alloc,
+        "of",
+        "CALLED",
+        "Leave out calls of others than this unit, Unit.Object or Unit.Object.Operation",
+    );
+    command.arg(since)?.arg(by)?.arg(of)
+}

@@ -1,0 +1,8 @@
+//! The command line of `ravenreview`: what its words ask.
+#![tactic(auto)]
+
+mod args;
+mod command;
+pub mod inquiry;
+pub mod read;
+mod values;

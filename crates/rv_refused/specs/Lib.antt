@@ -1,0 +1,5 @@
+pub mod Filters
+pub mod Following
+pub mod Kept
+pub mod Looking
+pub mod Refusals

@@ -1,0 +1,15 @@
+//! Questions after an incident, answered by an observer of a journal's audit.
+//!
+//! A review judges first. On a journal that isn't legal it says what an audit says, and nothing else; of a legal one it says nothing of
+//! the verdict, only what was asked. Whatever it says it keeps in memory until the whole journal is found legal, since standard input
+//! can't be read twice, and a file may change between two reads.
+#![tactic(auto)]
+
+mod refused;
+mod review;
+mod reviewing;
+
+pub use refused::{refusals, refusals_file};
+pub use rv_audit::observer::{Nobody, Watch};
+pub use rv_refused::{Filter, Since};
+pub use rv_verdict::Audited;
