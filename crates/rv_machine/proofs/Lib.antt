@@ -11,3 +11,4 @@ pub mod CopySteps
 pub mod CallSteps
 pub mod NextSteps
 pub mod Together
+pub mod RunSteps

@@ -20,6 +20,7 @@ pub mod outcomes;
 pub mod pile;
 pub mod point;
 mod returns;
+mod running;
 pub mod select;
 pub mod stack;
 mod stacking;
