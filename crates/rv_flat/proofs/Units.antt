@@ -1,7 +1,7 @@
 -- Lists of what stands in a table.
 use Rattle.std.proofs.Common.{◌≡◌, refl, ap, sym, ◌∙◌, subst, arith, ℕ, zero, suc, ◌+◌, ◌≤◌, ◌<◌, List, [], ◌∷◌, ◌++◌, length, map, take, get_or, Option, Some, None}
 use Rattle.std.proofs.Math.Seq.{take-suc}
-use Rattle.std.proofs.lemmas.List.{map-append}
+use Rattle.std.proofs.lemmas.List.{map-append, append_assoc, append-nil}
 use Rattle.rv_code.specs.Bodies as t
 use Rattle.rv_flat.specs.declared.body.FlatBody.{FlatBody}
 use Rattle.rv_flat.specs.declared.unit.FlatObject.{FlatObject}
@@ -114,6 +114,28 @@ take_all (r ∷ rs) (suc i) le = ap (λ z. r ∷ z) (take_all rs i (omega (arith
 
 pub standing_all : {R F X : Type 0} (IsIn : ℕ → F → Type 0) (view : List Tree → F → X) (of : R → X) (a b : List Tree) (fs : List F) (rs : List R) (i : ℕ) → length rs ≤ i → Standing (λ n. Every (IsIn n)) (λ us. map (view us)) a b fs (map of (take i rs)) → Standing (λ n. Every (IsIn n)) (λ us. map (view us)) a b fs (map of rs)
 standing_all IsIn view of a b fs rs i le h = subst (λ z. Standing (λ n. Every (IsIn n)) (λ us. map (view us)) a b fs (map of z)) (take_all rs i le) h
+
+-- the same, behind others that stand
+pub standing_behind : {R F X : Type 0} (IsIn : ℕ → F → Type 0) (view : List Tree → F → X) (of : R → X) (a b c : List Tree) (fs gs : List F) (rs : List R) (i : ℕ) (r : R) (f : F) (xs : List X) → Lasting IsIn view → i < length rs → r ≡ get_or rs i r → gs ≡ fs ++ f ∷ [] → Standing (λ n. Every (IsIn n)) (λ us. map (view us)) a b fs (xs ++ map of (take i rs)) → Standing IsIn view b c f (of r) → Standing (λ n. Every (IsIn n)) (λ us. map (view us)) a c gs (xs ++ map of (take (i + 1) rs))
+standing_behind IsIn view of a b c fs gs rs i r f xs l lt at is h k =
+    let e : i + 1 ≡ suc i = omega arith in
+    let taken : take (i + 1) rs ≡ take i rs ++ r ∷ [] =
+    ap (λ n. take n rs) e ∙ (take-suc rs i r lt ∙ ap (λ z. take i rs ++ z ∷ []) (sym at)) in
+    let mapped : xs ++ map of (take (i + 1) rs) ≡ xs ++ map of (take i rs) ++ of r ∷ [] =
+    ap (λ z. xs ++ map of z) taken ∙ (ap (λ z. xs ++ z) (map-append of (take i rs) (r ∷ [])) ∙ sym (append_assoc xs (map of (take i rs)) (of r ∷ []))) in
+    subst (λ z. Standing (λ n. Every (IsIn n)) (λ us. map (view us)) a c gs z) (sym mapped)
+    (subst (λ z. Standing (λ n. Every (IsIn n)) (λ us. map (view us)) a c z (xs ++ map of (take i rs) ++ of r ∷ [])) (sym is)
+    (standing_more IsIn view a b c fs (xs ++ map of (take i rs)) f (of r) l h k))
+
+pub standing_start : {R F X : Type 0} (IsIn : ℕ → F → Type 0) (view : List Tree → F → X) (of : R → X) (a b : List Tree) (fs : List F) (rs : List R) (xs : List X) → Standing (λ n. Every (IsIn n)) (λ us. map (view us)) a b fs xs → Standing (λ n. Every (IsIn n)) (λ us. map (view us)) a b fs (xs ++ map of (take 0 rs))
+standing_start IsIn view of a b fs rs xs h = subst (λ z. Standing (λ n. Every (IsIn n)) (λ us. map (view us)) a b fs z) (sym (append-nil xs)) h
+
+pub standing_end : {R F X : Type 0} (IsIn : ℕ → F → Type 0) (view : List Tree → F → X) (of : R → X) (a b : List Tree) (fs : List F) (rs : List R) (i : ℕ) (xs : List X) → length rs ≤ i → Standing (λ n. Every (IsIn n)) (λ us. map (view us)) a b fs (xs ++ map of (take i rs)) → Standing (λ n. Every (IsIn n)) (λ us. map (view us)) a b fs (xs ++ map of rs)
+standing_end IsIn view of a b fs rs i xs le h = subst (λ z. Standing (λ n. Every (IsIn n)) (λ us. map (view us)) a b fs (xs ++ map of z)) (take_all rs i le) h
+
+-- nothing stands anywhere
+pub standing_empty : {F X : Type 0} (IsIn : ℕ → F → Type 0) (view : List Tree → F → X) (ts : List Tree) (fs : List F) → fs ≡ [] → Standing (λ n. Every (IsIn n)) (λ us. map (view us)) ts ts fs []
+standing_empty IsIn view ts fs is = subst (λ z. Standing (λ n. Every (IsIn n)) (λ us. map (view us)) ts ts z []) (sym is) (standing_none IsIn view ts)
 
 -- an object by the bodies of its operations
 pub object_stands : (a b : List Tree) (o : FlatObject) (xs : List t.Body) → Standing (λ n. Every (IsAmong n)) (λ us. map (body_in us)) a b o.operations.items xs → Standing IsObjectAmong object_in a b o xs

@@ -1,10 +1,12 @@
 //! The bodies of a unit over one table.
 
-ghost use Rattle.std.specs.Prelude.{◌≡◌, IfOk, map};
+ghost use Rattle.std.specs.Prelude.{◌≡◌, ◌++◌, List, Option, IfOk, OnOk, map};
+ghost use Rattle.rv_code.specs.Bodies.{Body as Meant};
 ghost use Rattle.rv_code.specs.BodyView.{body_view, object_view, maybe_body_view, unit_view};
 ghost use Rattle.rv_flat.specs.FlatView.{IsAmong, body_in};
 ghost use Rattle.rv_flat.specs.FlatUnits.{Standing, Every, IsObjectAmong, IsTaskAmong, object_in, task_in, flat_view};
 ghost use Rattle.rv_flat.specs.Tables.{trees};
+ghost use Rattle.rv_flat.specs.Trees.{Tree};
 
 use crate::body::FlatBody;
 use crate::code::Code;
@@ -52,19 +54,20 @@ fn add_object(
     Ok(FlatObject { operations })
 }
 
-fn add_objects(
+/// Adds the bodies of objects to a table, and their numbers behind others that stand in it. Err where memory was refused.
+pub fn add_objects(
     code: &mut Code,
     alloc: Global,
     objects: &Vec<ObjectBodies>,
-) -> Result<Vec<FlatObject>, AllocError>
-    ensures { IfOk result (λ flat. Standing (λ n. Every (IsObjectAmong n)) (λ ts. map (object_in ts)) (trees code.old) (trees code.new) flat.items (map object_view objects.now.items)) }
+    flat: &mut Vec<FlatObject>,
+) -> Result<(), AllocError>
+    ensures { OnOk result ((a : List Tree) (xs : List (List Meant)) → Standing (λ n. Every (IsObjectAmong n)) (λ ts. map (object_in ts)) a (trees code.old) flat.old.items xs → Standing (λ n. Every (IsObjectAmong n)) (λ ts. map (object_in ts)) a (trees code.new) flat.new.items (xs ++ map object_view objects.now.items)) }
 {
-    let mut flat = Vec::new(alloc);
     for object in objects {
         let added = add_object(code, alloc, object)?;
         flat.push(added)?;
     }
-    Ok(flat)
+    Ok(())
 }
 
 fn add_task(code: &mut Code, task: &Option<Body>) -> Result<Option<FlatBody>, AllocError>
@@ -79,19 +82,19 @@ fn add_task(code: &mut Code, task: &Option<Body>) -> Result<Option<FlatBody>, Al
     }
 }
 
-fn add_tasks(
+/// Adds the bodies of tasks to a table, and their numbers behind others that stand in it. Err where memory was refused.
+pub fn add_tasks(
     code: &mut Code,
-    alloc: Global,
     tasks: &Vec<Option<Body>>,
-) -> Result<Vec<Option<FlatBody>>, AllocError>
-    ensures { IfOk result (λ flat. Standing (λ n. Every (IsTaskAmong n)) (λ ts. map (task_in ts)) (trees code.old) (trees code.new) flat.items (map maybe_body_view tasks.now.items)) }
+    flat: &mut Vec<Option<FlatBody>>,
+) -> Result<(), AllocError>
+    ensures { OnOk result ((a : List Tree) (xs : List (Option Meant)) → Standing (λ n. Every (IsTaskAmong n)) (λ ts. map (task_in ts)) a (trees code.old) flat.old.items xs → Standing (λ n. Every (IsTaskAmong n)) (λ ts. map (task_in ts)) a (trees code.new) flat.new.items (xs ++ map maybe_body_view tasks.now.items)) }
 {
-    let mut flat = Vec::new(alloc);
     for task in tasks {
         let added = add_task(code, task)?;
         flat.push(added)?;
     }
-    Ok(flat)
+    Ok(())
 }
 
 impl FlatUnit {
@@ -100,8 +103,10 @@ impl FlatUnit {
         ensures { IfOk result (λ flat. flat_view flat ≡ unit_view unit.now) }
     {
         let mut code = Code::new(alloc);
-        let objects = add_objects(&mut code, alloc, &unit.objects)?;
-        let tasks = add_tasks(&mut code, alloc, &unit.tasks)?;
+        let mut objects = Vec::new(alloc);
+        let mut tasks = Vec::new(alloc);
+        add_objects(&mut code, alloc, &unit.objects, &mut objects)?;
+        add_tasks(&mut code, &unit.tasks, &mut tasks)?;
         Ok(FlatUnit {
             code,
             objects,

@@ -1,30 +1,50 @@
--- A call inside the object.
-use Rattle.std.proofs.Common.{◌≡◌, sym, ap, ◌∙◌, ℕ, suc, ◌-◌, ℤ, pos, List, ◌∷◌, replicate, Bool, Option, Some, None, Err}
+-- Calls, and the bodies that they begin.
+use Rattle.std.proofs.Common.{◌≡◌, ◌<◌, ◌+◌, ◌*◌, refl, sym, ap, subst, ◌∙◌, arith, ℕ, suc, ◌-◌, ℤ, pos, List, ◌∷◌, replicate, Bool, true, false, Option, Some, None, Ok, Err}
 use Rattle.std.specs.Prelude.{reverse}
 use Rattle.rv_event.specs.declared.entry.Exception.TheVariants.{ProgramError}
+use Rattle.rv_event.specs.declared.entry.Exit.{Exit}
+use Rattle.rv_event.specs.declared.entry.Request.{Request}
+use Rattle.rv_code.specs.declared.expression.Callee.{Callee}
 use Rattle.rv_code.specs.declared.expression.Callee.TheVariants as callee
-use Rattle.rv_code.specs.Bodies.{Body}
+use Rattle.rv_code.specs.Bodies.{Body, UnitBodies}
 use Rattle.rv_exec.specs.declared.activation.Activation.{Activation}
 use Rattle.rv_exec.specs.declared.setting.Setting.{Setting}
+use Rattle.rv_exec.specs.declared.end.Asked.{Asked}
+use Rattle.rv_exec.specs.declared.end.Asked.TheVariants as asked
+use Rattle.rv_exec.specs.declared.end.Cause.{Cause}
 use Rattle.rv_exec.specs.declared.end.Cause.TheVariants as cause
-use Rattle.rv_exec.specs.Activations.{opened, bound}
+use Rattle.rv_exec.specs.Activations.{opened, bound, spent, refilled}
 use Rattle.rv_exec.specs.Bodies.{operation_of}
-use Rattle.rv_exec.specs.Calls.{Outcome, end_of, exit_of}
-use Rattle.rv_event.specs.declared.entry.Request.{Request}
-use Rattle.rv_event.specs.declared.entry.Exit.{Exit}
+use Rattle.rv_exec.specs.Calls.{Outcome, internal, is_past, end_of, exit_of}
 use Rattle.rv_flat.specs.declared.unit.FlatUnit.{FlatUnit}
 use Rattle.rv_flat.specs.FlatUnits.{flat_view}
-use Rattle.rv_frames.specs.Frames.{Frame, calls, comes, closes, listed, exited, ends_of, declares, opening, closing, resuming, inner_setting, meant}
+use Rattle.rv_frames.specs.Frames.{Frame, Control, calls, enters, asks_of, comes, closes, listed, reaches, outside, exited, ends_of, declares, opening, closing, resuming, answering, performing, completing, inner_setting, body_setting, denoted}
 use Rattle.rv_frames.proofs.Pushes.{calls_push}
 use Rattle.rv_frames.proofs.Arrivals.{calls_arrive}
 use Rattle.rv_frames.proofs.AtOnce.{calls_at_once}
 use Rattle.rv_frames.proofs.Rests.{calls_rest}
+use Rattle.rv_machine.proofs.Meetings.{taken_up}
+use Rattle.rv_machine.proofs.Steps.{one_less}
+use Rattle.rv_machine.proofs.MovesLeft.{called_least, called_more, called_grow, operation_moves}
 use Rattle.rv_machine.specs.declared.frame.Frame as m
 use Rattle.rv_machine.specs.declared.frame.Frame.TheVariants as frame
+use Rattle.rv_machine.specs.declared.machine.Machine.{Machine}
 use Rattle.rv_machine.specs.declared.pile.Pile.{Pile}
 use Rattle.rv_machine.specs.declared.stack.Stack.{Stack}
+use Rattle.rv_machine.specs.Machines.{MovesTo}
+use Rattle.rv_machine.specs.Moves.{called_moves, body_moves, level, waiting_moves}
+use Rattle.rv_machine.specs.Points.{MovesOn, Apart}
 use Rattle.rv_machine.specs.Stacks.{body_or, first_of, rest_of, frames_with, waiting, set_aside, below}
 
+-- one move, and another behind it
+pub then_to : (u : FlatUnit) (from : Control) (before : List Frame) (s : Setting) (to : Control) (after : List Frame) (t : Setting) (new : Machine)
+    → MovesOn (flat_view u) from before s to after t → MovesTo u to after t new → MovesTo u from before s new
+then_to u from before s to after t new one other = record {
+  same = one.same ∙ other.same;
+  less = let a = one.less in let b = other.less in omega (arith, a, b);
+}
+
+-- what a frame that is put on top of the others stands for
 pub resuming_on : (u : FlatUnit) (old between new : Stack) (s : Setting) (x a : Activation)
     → between.frames ≡ old.frames → set_aside between ≡ x ∷ set_aside old → x ≡ a
     → waiting new ≡ frame.Resuming s ∷ waiting between → new.activations ≡ between.activations
@@ -36,65 +56,221 @@ resuming_on u old between new s x a same aside is on kept =
     ∙ (ap (λ (as_they : List Activation). resuming s (first_of as_they) ∷ frames_with u (waiting between) (rest_of as_they)) waits
     ∙ ap (λ (p : Pile m.Frame). resuming s a ∷ frames_with u (reverse p.items.items) (set_aside old)) same)
 
-pub call_overruns : (u : FlatUnit) (s : Setting) (operation : ℕ) (values : List ℤ) (a : Activation) (fs after : List Frame)
-    → s.nested ≡ 0 → after ≡ resuming s a ∷ fs
-    → meant (flat_view u) (comes (closes (Err cause.Overrun) a.components a.steps)) after s ≡ meant (flat_view u) (calls (callee.Internal operation) values a) fs s
-call_overruns u s operation values a fs after none put =
-    ap (λ (gs : List Frame). meant (flat_view u) (comes (closes (Err cause.Overrun) a.components a.steps)) gs s) put
-    ∙ (sym ((calls_at_once (flat_view u) (resuming s a ∷ fs) s).too_deep operation values a.components a.steps none)
-    ∙ sym ((calls_push (flat_view u) fs s).inner_call operation values a))
+pub answering_on : (u : FlatUnit) (old between new : Stack) (x a : Activation)
+    → between.frames ≡ old.frames → set_aside between ≡ x ∷ set_aside old → x ≡ a
+    → waiting new ≡ frame.Answering ∷ waiting between → new.activations ≡ between.activations
+    → below u new ≡ answering a ∷ below u old
+unfolding frames_with
+answering_on u old between new x a same aside is on kept =
+    let waits : set_aside new ≡ a ∷ set_aside old = ap (λ (p : Pile Activation). reverse p.items.items) kept ∙ (aside ∙ ap (λ (y : Activation). y ∷ set_aside old) is) in
+    ap (λ (fs : List m.Frame). frames_with u fs (set_aside new)) on
+    ∙ (ap (λ (as_they : List Activation). answering (first_of as_they) ∷ frames_with u (waiting between) (rest_of as_they)) waits
+    ∙ ap (λ (p : Pile m.Frame). answering a ∷ frames_with u (reverse p.items.items) (set_aside old)) same)
 
-pub call_bodiless : (u : FlatUnit) (s : Setting) (operation : ℕ) (values : List ℤ) (a : Activation) (fs after : List Frame)
-    → s.nested ≡ suc (s.nested - 1) → operation_of (flat_view u) s.object operation ≡ None → after ≡ resuming s a ∷ fs
-    → meant (flat_view u) (comes (closes (Err (cause.Raised ProgramError)) a.components a.steps)) after s ≡ meant (flat_view u) (calls (callee.Internal operation) values a) fs s
-call_bodiless u s operation values a fs after some none put =
-    ap (λ (gs : List Frame). meant (flat_view u) (comes (closes (Err (cause.Raised ProgramError)) a.components a.steps)) gs s) put
-    ∙ (sym ((calls_at_once (flat_view u) (resuming s a ∷ fs) s).no_body operation values a.components a.steps (s.nested - 1) some none)
-    ∙ sym ((calls_push (flat_view u) fs s).inner_call operation values a))
+pub performing_on : (u : FlatUnit) (old new : Stack) (held : ℕ) (values : List ℤ)
+    → waiting new ≡ frame.Performing held values ∷ waiting old → new.activations ≡ old.activations
+    → below u new ≡ performing held values ∷ below u old
+unfolding frames_with
+performing_on u old new held values on same =
+    ap (λ fs. frames_with u fs (set_aside new)) on ∙ ap (λ (kept : Pile Activation). performing held values ∷ frames_with u (waiting old) (reverse kept.items.items)) same
 
-pub call_begins : (u : FlatUnit) (s t : Setting) (operation : ℕ) (values : List ℤ) (a x : Activation) (body : Body) (fs gs hs after : List Frame)
-    → s.nested ≡ suc (s.nested - 1) → operation_of (flat_view u) s.object operation ≡ Some body
-    → x ≡ opened (bound body.parameters 0 0 values (replicate 132 (pos 0))) a.components a.steps 0 → t ≡ inner_setting s (s.nested - 1)
-    → gs ≡ resuming s a ∷ fs → hs ≡ closing (body_or (operation_of (flat_view u) s.object operation)) ∷ gs → after ≡ opening body.statements body.handlers ∷ hs
-    → meant (flat_view u) (declares body.declarations x) after t ≡ meant (flat_view u) (calls (callee.Internal operation) values a) fs s
-call_begins u s t operation values a x body fs gs hs after some found begins setting one two three =
-    let put : after ≡ opening body.statements body.handlers ∷ closing body ∷ resuming s a ∷ fs =
-    three ∙ ap (λ (ks : List Frame). opening body.statements body.handlers ∷ ks) (two ∙ (ap (λ (o : Option Body). closing (body_or o) ∷ gs) found ∙ ap (λ (ks : List Frame). closing body ∷ ks) one)) in
-    ap (λ (ks : List Frame). meant (flat_view u) (declares body.declarations x) ks t) put
-    ∙ (ap (λ (y : Activation). meant (flat_view u) (declares body.declarations y) (opening body.statements body.handlers ∷ closing body ∷ resuming s a ∷ fs) t) begins
-    ∙ (ap (λ (z : Setting). meant (flat_view u) (declares body.declarations (opened (bound body.parameters 0 0 values (replicate 132 (pos 0))) a.components a.steps 0)) (opening body.statements body.handlers ∷ closing body ∷ resuming s a ∷ fs) z) setting
-    ∙ sym ((calls_push (flat_view u) fs s).inner_body operation values a (s.nested - 1) body some found)))
+pub completing_on : (u : FlatUnit) (old new : Stack) (is_function : Bool) (t : Setting)
+    → waiting new ≡ frame.Completing is_function t ∷ waiting old → new.activations ≡ old.activations
+    → below u new ≡ completing is_function t ∷ below u old
+unfolding frames_with
+completing_on u old new is_function t on same =
+    ap (λ fs. frames_with u fs (set_aside new)) on ∙ ap (λ (kept : Pile Activation). completing is_function t ∷ frames_with u (waiting old) (reverse kept.items.items)) same
 
+-- what waits below a call doesn't look at the setting of the body that is called
+apart_resuming : (bodies : UnitBodies) (t : Setting) (a : Activation) (fs : List Frame) → Apart bodies (resuming t a ∷ fs)
+unfolding denoted
+apart_resuming bodies t a fs = record { same = λ r s now. refl; left = λ n k. refl }
+
+pub apart_completing : (bodies : UnitBodies) (is_function : Bool) (t : Setting) (fs : List Frame) → Apart bodies (completing is_function t ∷ fs)
+unfolding denoted
+apart_completing bodies is_function t fs = record { same = λ r s now. refl; left = λ n k. refl }
+
+-- a body begins, or there is none
+pub enter_overruns : (u : FlatUnit) (s : Setting) (operation : ℕ) (values components : List ℤ) (steps : ℕ) (fs : List Frame)
+    → s.nested ≡ 0 → MovesOn (flat_view u) (enters operation values components steps) fs s (comes (closes (Err cause.Overrun) components steps)) fs s
+enter_overruns u s operation values components steps fs none = record {
+  same = (calls_at_once (flat_view u) fs s).too_deep operation values components steps none;
+  less = let l = called_least (flat_view u) (level s) in omega (arith, l);
+}
+
+pub enter_bodiless : (u : FlatUnit) (s : Setting) (operation : ℕ) (values components : List ℤ) (steps : ℕ) (fs : List Frame)
+    → (s.nested ≡ 0 → ⊥) → operation_of (flat_view u) s.object operation ≡ None
+    → MovesOn (flat_view u) (enters operation values components steps) fs s (comes (closes (Err (cause.Raised ProgramError)) components steps)) fs s
+enter_bodiless u s operation values components steps fs some none = record {
+  same = (calls_at_once (flat_view u) fs s).no_body operation values components steps (s.nested - 1) (one_less s.nested some) none;
+  less = let l = called_least (flat_view u) (level s) in omega (arith, l);
+}
+
+begins_less : (bodies : UnitBodies) (s : Setting) (operation : ℕ) (body : Body) (fs : List Frame)
+    → s.nested ≡ suc (s.nested - 1) → operation_of bodies s.object operation ≡ Some body → Apart bodies fs
+    → body_moves (called_moves bodies (level (inner_setting s (s.nested - 1)))) body + waiting_moves bodies fs (level (inner_setting s (s.nested - 1))) + 1
+    < called_moves bodies (level s) + waiting_moves bodies fs (level s)
+begins_less bodies s operation body fs some found apart =
+    let up : level s ≡ suc (level (inner_setting s (s.nested - 1))) = omega (arith, some) in
+    let call : called_moves bodies (level s) ≡ called_moves bodies (suc (level (inner_setting s (s.nested - 1)))) = ap (λ (n : ℕ). called_moves bodies n) up in
+    let more = called_more bodies (level (inner_setting s (s.nested - 1))) in
+    let is_among = operation_moves (called_moves bodies (level (inner_setting s (s.nested - 1)))) bodies s.object operation body found in
+    let same = apart.left (level (inner_setting s (s.nested - 1))) (level s) in
+    omega (arith, call, more, is_among, same)
+
+pub enter_begins : (u : FlatUnit) (s t : Setting) (operation : ℕ) (values components : List ℤ) (steps : ℕ) (x : Activation) (body : Body) (fs gs after : List Frame)
+    → (s.nested ≡ 0 → ⊥) → operation_of (flat_view u) s.object operation ≡ Some body
+    → x ≡ opened (bound body.parameters 0 0 values (replicate 132 (pos 0))) components steps 0 → t ≡ inner_setting s (s.nested - 1)
+    → gs ≡ closing (body_or (operation_of (flat_view u) s.object operation)) ∷ fs → after ≡ opening body.statements body.handlers ∷ gs
+    → Apart (flat_view u) fs
+    → MovesOn (flat_view u) (enters operation values components steps) fs s (declares body.declarations x) after t
+enter_begins u s t operation values components steps x body fs gs after some found begins setting one two apart =
+    let put : after ≡ opening body.statements body.handlers ∷ closing body ∷ fs =
+    two ∙ ap (λ (ks : List Frame). opening body.statements body.handlers ∷ ks) (one ∙ ap (λ (o : Option Body). closing (body_or o) ∷ fs) found) in
+    let fewer = begins_less (flat_view u) s operation body fs (one_less s.nested some) found apart in
+    let base : MovesOn (flat_view u) (enters operation values components steps) fs s (declares body.declarations (opened (bound body.parameters 0 0 values (replicate 132 (pos 0))) components steps 0)) (opening body.statements body.handlers ∷ closing body ∷ fs) (inner_setting s (s.nested - 1)) = record {
+      same = (calls_at_once (flat_view u) fs s).body operation values components steps (s.nested - 1) body (one_less s.nested some) found (λ now. apart.same s (inner_setting s (s.nested - 1)) now);
+      less = omega (arith, fewer);
+    } in
+    subst (λ (ks : List Frame). MovesOn (flat_view u) (enters operation values components steps) fs s (declares body.declarations x) ks t) (sym put)
+    (subst (λ (y : Activation). MovesOn (flat_view u) (enters operation values components steps) fs s (declares body.declarations y) (opening body.statements body.handlers ∷ closing body ∷ fs) t) (sym begins)
+    (subst (λ (z : Setting). MovesOn (flat_view u) (enters operation values components steps) fs s (declares body.declarations (opened (bound body.parameters 0 0 values (replicate 132 (pos 0))) components steps 0)) (opening body.statements body.handlers ∷ closing body ∷ fs) z) (sym setting) base))
+
+-- a call inside the object
+pub inside_called : (u : FlatUnit) (s : Setting) (operation : ℕ) (values : List ℤ) (a : Activation) (fs after : List Frame) (new : Machine)
+    → after ≡ resuming s a ∷ fs
+    → (Apart (flat_view u) after → MovesTo u (enters operation values a.components a.steps) after s new)
+    → MovesTo u (calls (callee.Internal operation) values a) fs s new
+inside_called u s operation values a fs after new put begun =
+    let begins : Apart (flat_view u) (resuming s a ∷ fs) → MovesTo u (enters operation values a.components a.steps) (resuming s a ∷ fs) s new =
+    subst (λ (gs : List Frame). Apart (flat_view u) gs → MovesTo u (enters operation values a.components a.steps) gs s new) put begun in
+    then_to u (calls (callee.Internal operation) values a) fs s (enters operation values a.components a.steps) (resuming s a ∷ fs) s new
+    (record { same = (calls_push (flat_view u) fs s).inner_call operation values a; less = omega arith })
+    (begins (apart_resuming (flat_view u) s a fs))
+
+pub internal_is : (c : Callee) (n : ℕ) → internal c ≡ Some n → c ≡ callee.Internal n
+internal_is (callee.Internal k) n is = let e : k ≡ n = cc in ap (λ (x : ℕ). callee.Internal x) e
+internal_is other n is = cc
+
+-- a call that is asked of the host, or that isn't
+pub call_unasked : (u : FlatUnit) (s : Setting) (c : Callee) (values : List ℤ) (a b : Activation) (fs : List Frame)
+    → internal c ≡ None → spent s.is_task a ≡ None → b ≡ a
+    → MovesOn (flat_view u) (calls c values a) fs s (comes (listed (Err cause.Overrun) b)) fs s
+call_unasked u s c values a b fs other none same =
+    subst (λ (x : Activation). MovesOn (flat_view u) (calls c values a) fs s (comes (listed (Err cause.Overrun) x)) fs s) (sym same)
+    (record { same = (calls_push (flat_view u) fs s).no_request_left c values a other none; less = omega arith })
+
+pub call_past : (u : FlatUnit) (s : Setting) (c : Callee) (values : List ℤ) (a b : Activation) (fs after : List Frame)
+    → internal c ≡ None → spent s.is_task a ≡ Some b → is_past s.held c ≡ true → after ≡ answering b ∷ fs
+    → MovesOn (flat_view u) (calls c values a) fs s (comes (outside (Err (cause.Raised ProgramError)))) after s
+call_past u s c values a b fs after other took past put =
+    let l = called_least (flat_view u) (level s) in
+    subst (λ (gs : List Frame). MovesOn (flat_view u) (calls c values a) fs s (comes (outside (Err (cause.Raised ProgramError)))) gs s) (sym put)
+    (record { same = (calls_at_once (flat_view u) fs s).past_limit c values a b other took past; less = omega (arith, l) })
+
+pub call_asks : (u : FlatUnit) (s : Setting) (c : Callee) (values : List ℤ) (a b : Activation) (fs between after : List Frame)
+    → internal c ≡ None → spent s.is_task a ≡ Some b → is_past s.held c ≡ false → between ≡ answering b ∷ fs → after ≡ performing s.held values ∷ between
+    → MovesOn (flat_view u) (calls c values a) fs s (asks_of c values) after s
+call_asks u s c values a b fs between after other took past one two =
+    let put : after ≡ performing s.held values ∷ answering b ∷ fs = two ∙ ap (λ (gs : List Frame). performing s.held values ∷ gs) one in
+    let grow = called_grow (flat_view u) (s.held * 66) s.nested in
+    let up : level s ≡ suc (s.held * 66 + s.nested) = omega arith in
+    let call : called_moves (flat_view u) (level s) ≡ called_moves (flat_view u) (suc (s.held * 66 + s.nested)) = ap (λ (n : ℕ). called_moves (flat_view u) n) up in
+    let more = called_more (flat_view u) (s.held * 66 + s.nested) in
+    subst (λ (gs : List Frame). MovesOn (flat_view u) (calls c values a) fs s (asks_of c values) gs s) (sym put)
+    (record { same = (calls_push (flat_view u) fs s).outer_call c values a b other took past; less = omega (arith, grow, call, more) })
+
+-- what a body comes to
 pub met_resuming : (u : FlatUnit) (old new : Stack) (s t : Setting) (g : m.Frame) (outcome : Outcome) (components : List ℤ) (steps : ℕ) (a x : Activation)
     → g ≡ frame.Resuming t → new.frames ≡ old.frames → a ≡ first_of (set_aside old) → set_aside new ≡ rest_of (set_aside old)
     → x ≡ record a { components = components; steps = steps }
-    → meant (flat_view u) (comes (listed outcome x)) (below u new) t
-    ≡ meant (flat_view u) (comes (closes outcome components steps)) (frames_with u (g ∷ waiting old) (set_aside old)) s
+    → MovesOn (flat_view u) (comes (closes outcome components steps)) (frames_with u (g ∷ waiting old) (set_aside old)) s (comes (listed outcome x)) (below u new) t
 unfolding frames_with
 met_resuming u old new s t g outcome components steps a x is same first rest resumes =
-    let under : below u new ≡ frames_with u (waiting old) (rest_of (set_aside old)) =
-    ap (λ (kept : List Activation). frames_with u (waiting new) kept) rest ∙ ap (λ (p : Pile m.Frame). frames_with u (reverse p.items.items) (rest_of (set_aside old))) same in
-    ap (λ (fs : List Frame). meant (flat_view u) (comes (listed outcome x)) fs t) under
-    ∙ (ap (λ (y : Activation). meant (flat_view u) (comes (listed outcome y)) (frames_with u (waiting old) (rest_of (set_aside old))) t) (resumes ∙ ap (λ (y : Activation). record y { components = components; steps = steps }) first)
-    ∙ (sym ((calls_arrive (flat_view u) (frames_with u (waiting old) (rest_of (set_aside old))) s).inner_call t (first_of (set_aside old)) outcome components steps)
-    ∙ sym (ap (λ (z : m.Frame). meant (flat_view u) (comes (closes outcome components steps)) (frames_with u (z ∷ waiting old) (set_aside old)) s) is)))
+    subst (λ (fs : List Frame). MovesOn (flat_view u) (comes (closes outcome components steps)) (frames_with u (g ∷ waiting old) (set_aside old)) s (comes (listed outcome x)) fs t) (sym (taken_up u old new same rest))
+    (subst (λ (y : Activation). MovesOn (flat_view u) (comes (closes outcome components steps)) (frames_with u (g ∷ waiting old) (set_aside old)) s (comes (listed outcome y)) (frames_with u (waiting old) (rest_of (set_aside old))) t) (sym (resumes ∙ ap (λ (y : Activation). record y { components = components; steps = steps }) first))
+    (subst (λ (z : m.Frame). MovesOn (flat_view u) (comes (closes outcome components steps)) (frames_with u (z ∷ waiting old) (set_aside old)) s (comes (listed outcome (record (first_of (set_aside old)) { components = components; steps = steps }))) (frames_with u (waiting old) (rest_of (set_aside old))) t) (sym is)
+    (record { same = (calls_arrive (flat_view u) (frames_with u (waiting old) (rest_of (set_aside old))) s).inner_call t (first_of (set_aside old)) outcome components steps; less = omega arith })))
 
 pub met_completing : (u : FlatUnit) (old : Stack) (s t : Setting) (g : m.Frame) (is_function : Bool) (outcome : Outcome) (components : List ℤ) (steps : ℕ) (request : Request)
     → g ≡ frame.Completing is_function t → request ≡ end_of is_function outcome components
-    → meant (flat_view u) (ends_of request outcome) (below u old) t
-    ≡ meant (flat_view u) (comes (closes outcome components steps)) (frames_with u (g ∷ waiting old) (set_aside old)) s
+    → MovesOn (flat_view u) (comes (closes outcome components steps)) (frames_with u (g ∷ waiting old) (set_aside old)) s (ends_of request outcome) (below u old) t
 unfolding frames_with
 met_completing u old s t g is_function outcome components steps request is asks =
-    ap (λ (r : Request). meant (flat_view u) (ends_of r outcome) (below u old) t) asks
-    ∙ (sym ((calls_arrive (flat_view u) (below u old) s).ended is_function t outcome components steps)
-    ∙ sym (ap (λ (z : m.Frame). meant (flat_view u) (comes (closes outcome components steps)) (frames_with u (z ∷ waiting old) (set_aside old)) s) is))
+    subst (λ (r : Request). MovesOn (flat_view u) (comes (closes outcome components steps)) (frames_with u (g ∷ waiting old) (set_aside old)) s (ends_of r outcome) (below u old) t) (sym asks)
+    (subst (λ (z : m.Frame). MovesOn (flat_view u) (comes (closes outcome components steps)) (frames_with u (z ∷ waiting old) (set_aside old)) s (ends_of (end_of is_function outcome components) outcome) (below u old) t) (sym is)
+    (record { same = (calls_arrive (flat_view u) (below u old) s).ended is_function t outcome components steps; less = omega arith }))
 
 pub met_exiting : (u : FlatUnit) (old : Stack) (s : Setting) (g : m.Frame) (outcome : Outcome) (components : List ℤ) (steps : ℕ) (exit : Exit)
     → g ≡ frame.Exiting → exit ≡ exit_of outcome
-    → meant (flat_view u) (comes (exited exit components)) (below u old) s
-    ≡ meant (flat_view u) (comes (closes outcome components steps)) (frames_with u (g ∷ waiting old) (set_aside old)) s
+    → MovesOn (flat_view u) (comes (closes outcome components steps)) (frames_with u (g ∷ waiting old) (set_aside old)) s (comes (exited exit components)) (below u old) s
 unfolding frames_with
 met_exiting u old s g outcome components steps exit is exits =
-    ap (λ (x : Exit). meant (flat_view u) (comes (exited x components)) (below u old) s) exits
-    ∙ (sym ((calls_rest (flat_view u) (below u old) s).exit outcome components steps)
-    ∙ sym (ap (λ (z : m.Frame). meant (flat_view u) (comes (closes outcome components steps)) (frames_with u (z ∷ waiting old) (set_aside old)) s) is))
+    subst (λ (x : Exit). MovesOn (flat_view u) (comes (closes outcome components steps)) (frames_with u (g ∷ waiting old) (set_aside old)) s (comes (exited x components)) (below u old) s) (sym exits)
+    (subst (λ (z : m.Frame). MovesOn (flat_view u) (comes (closes outcome components steps)) (frames_with u (z ∷ waiting old) (set_aside old)) s (comes (exited (exit_of outcome) components)) (below u old) s) (sym is)
+    (record { same = (calls_rest (flat_view u) (below u old) s).exit outcome components steps; less = omega arith }))
+
+-- what a request comes to
+pub started_past : (u : FlatUnit) (s : Setting) (held object operation : ℕ) (is_function : Bool) (values components : List ℤ) (fs : List Frame)
+    → held ≡ 0
+    → MovesOn (flat_view u) (comes (reaches (asked.Started object operation is_function components))) (performing held values ∷ fs) s (comes (outside (Err (cause.Raised ProgramError)))) fs s
+started_past u s held object operation is_function values components fs none =
+    subst (λ (h : ℕ). MovesOn (flat_view u) (comes (reaches (asked.Started object operation is_function components))) (performing h values ∷ fs) s (comes (outside (Err (cause.Raised ProgramError)))) fs s) (sym none)
+    (record { same = (calls_rest (flat_view u) fs s).started_past object operation is_function values components; less = omega arith })
+
+started_so : (u : FlatUnit) (s : Setting) (held object operation : ℕ) (is_function : Bool) (values components : List ℤ) (fs : List Frame)
+    → MovesOn (flat_view u) (comes (reaches (asked.Started object operation is_function components))) (performing (suc held) values ∷ fs) s (enters operation values components 100000) (completing is_function s ∷ fs) (body_setting object held)
+started_so u s held object operation is_function values components fs =
+    let up : suc held * 66 ≡ level (body_setting object held) = omega arith in
+    let call : called_moves (flat_view u) (suc held * 66) ≡ called_moves (flat_view u) (level (body_setting object held)) = ap (λ (n : ℕ). called_moves (flat_view u) n) up in
+    record { same = (calls_arrive (flat_view u) fs s).started held object operation is_function values components; less = omega (arith, call) }
+
+pub started_begins : (u : FlatUnit) (s t : Setting) (held object operation : ℕ) (is_function : Bool) (values components : List ℤ) (fs after : List Frame) (new : Machine)
+    → (held ≡ 0 → ⊥) → t ≡ body_setting object (held - 1) → after ≡ completing is_function s ∷ fs
+    → (Apart (flat_view u) after → MovesTo u (enters operation values components 100000) after t new)
+    → MovesTo u (comes (reaches (asked.Started object operation is_function components))) (performing held values ∷ fs) s new
+started_begins u s t held object operation is_function values components fs after new some setting put begun =
+    let begins : Apart (flat_view u) (completing is_function s ∷ fs) → MovesTo u (enters operation values components 100000) (completing is_function s ∷ fs) (body_setting object (held - 1)) new =
+    subst (λ (z : Setting). Apart (flat_view u) (completing is_function s ∷ fs) → MovesTo u (enters operation values components 100000) (completing is_function s ∷ fs) z new) setting
+    (subst (λ (gs : List Frame). Apart (flat_view u) gs → MovesTo u (enters operation values components 100000) gs t new) put begun) in
+    subst (λ (h : ℕ). MovesTo u (comes (reaches (asked.Started object operation is_function components))) (performing h values ∷ fs) s new) (sym (one_less held some))
+    (then_to u (comes (reaches (asked.Started object operation is_function components))) (performing (suc (held - 1)) values ∷ fs) s (enters operation values components 100000) (completing is_function s ∷ fs) (body_setting object (held - 1)) new
+    (started_so u s (held - 1) object operation is_function values components fs)
+    (begins (apart_completing (flat_view u) is_function s fs)))
+
+pub request_gives : (u : FlatUnit) (s : Setting) (what : Asked) (held : ℕ) (values given : List ℤ) (fs : List Frame)
+    → what ≡ asked.Given given
+    → MovesOn (flat_view u) (comes (reaches what)) (performing held values ∷ fs) s (comes (outside (Ok given))) fs s
+request_gives u s what held values given fs is =
+    subst (λ (x : Asked). MovesOn (flat_view u) (comes (reaches x)) (performing held values ∷ fs) s (comes (outside (Ok given))) fs s) (sym is)
+    (record { same = (calls_rest (flat_view u) fs s).given held values given; less = omega arith })
+
+pub request_abandoned : (u : FlatUnit) (s : Setting) (what : Asked) (held : ℕ) (values : List ℤ) (why : Cause) (fs : List Frame)
+    → what ≡ asked.Abandoned why
+    → MovesOn (flat_view u) (comes (reaches what)) (performing held values ∷ fs) s (comes (outside (Err why))) fs s
+request_abandoned u s what held values why fs is =
+    subst (λ (x : Asked). MovesOn (flat_view u) (comes (reaches x)) (performing held values ∷ fs) s (comes (outside (Err why))) fs s) (sym is)
+    (record { same = (calls_rest (flat_view u) fs s).abandoned held values why; less = omega arith })
+
+pub request_starts : (u : FlatUnit) (s : Setting) (what known : Asked) (before : List Frame) (new : Machine)
+    → what ≡ known → MovesTo u (comes (reaches known)) before s new → MovesTo u (comes (reaches what)) before s new
+request_starts u s what known before new is moves = subst (λ (x : Asked). MovesTo u (comes (reaches x)) before s new) (sym is) moves
+
+pub met_performing : (u : FlatUnit) (old : Stack) (s : Setting) (g : m.Frame) (what : Asked) (held : ℕ) (values : List ℤ) (new : Machine)
+    → g ≡ frame.Performing held values
+    → MovesTo u (comes (reaches what)) (performing held values ∷ below u old) s new
+    → MovesTo u (comes (reaches what)) (frames_with u (g ∷ waiting old) (set_aside old)) s new
+unfolding frames_with
+met_performing u old s g what held values new is moves =
+    subst (λ (z : m.Frame). MovesTo u (comes (reaches what)) (frames_with u (z ∷ waiting old) (set_aside old)) s new) (sym is) moves
+
+-- what a call of another object comes to
+pub met_answering : (u : FlatUnit) (old new : Stack) (s : Setting) (g : m.Frame) (outcome : Outcome) (a x : Activation)
+    → g ≡ frame.Answering → new.frames ≡ old.frames → a ≡ first_of (set_aside old) → set_aside new ≡ rest_of (set_aside old) → x ≡ refilled s.is_task a
+    → MovesOn (flat_view u) (comes (outside outcome)) (frames_with u (g ∷ waiting old) (set_aside old)) s (comes (listed outcome x)) (below u new) s
+unfolding frames_with
+met_answering u old new s g outcome a x is same first rest refills =
+    subst (λ (fs : List Frame). MovesOn (flat_view u) (comes (outside outcome)) (frames_with u (g ∷ waiting old) (set_aside old)) s (comes (listed outcome x)) fs s) (sym (taken_up u old new same rest))
+    (subst (λ (y : Activation). MovesOn (flat_view u) (comes (outside outcome)) (frames_with u (g ∷ waiting old) (set_aside old)) s (comes (listed outcome y)) (frames_with u (waiting old) (rest_of (set_aside old))) s) (sym (refills ∙ ap (λ (y : Activation). refilled s.is_task y) first))
+    (subst (λ (z : m.Frame). MovesOn (flat_view u) (comes (outside outcome)) (frames_with u (z ∷ waiting old) (set_aside old)) s (comes (listed outcome (refilled s.is_task (first_of (set_aside old))))) (frames_with u (waiting old) (rest_of (set_aside old))) s) (sym is)
+    (record { same = (calls_arrive (flat_view u) (frames_with u (waiting old) (rest_of (set_aside old))) s).outer_call (first_of (set_aside old)) outcome; less = omega arith })))

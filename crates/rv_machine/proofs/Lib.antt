@@ -1,3 +1,4 @@
+pub mod MovesLeft
 pub mod Steps
 pub mod ExpressionSteps
 pub mod StatementSteps
@@ -8,3 +9,6 @@ pub mod Meetings
 pub mod Starts
 pub mod CopySteps
 pub mod CallSteps
+pub mod NextSteps
+pub mod Together
+pub mod RunSteps

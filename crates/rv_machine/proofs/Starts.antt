@@ -9,10 +9,10 @@ use Rattle.rv_exec.specs.declared.end.Cause.TheVariants as cause
 use Rattle.rv_exec.specs.Activations.{opened, bound}
 use Rattle.rv_exec.specs.Blocks.{operation_run_at}
 use Rattle.rv_exec.specs.Bodies.{task_of, operation_of}
-use Rattle.rv_exec.specs.Tasks.{task_run, task_meaning, task_setting}
+use Rattle.rv_exec.specs.Tasks.{task_run, task_meaning, task_setting, line_run}
 use Rattle.rv_flat.specs.declared.unit.FlatUnit.{FlatUnit}
 use Rattle.rv_flat.specs.FlatUnits.{flat_view}
-use Rattle.rv_frames.specs.Frames.{Frame, declares, quits_of, comes, closes, opening, closing, exiting, quitting, quit, exit, body_setting, inner_setting, denoted, meant}
+use Rattle.rv_frames.specs.Frames.{Frame, declares, quits_of, fires, out, comes, closes, opening, closing, exiting, quitting, quit, exit, body_setting, inner_setting, denoted, meant}
 use Rattle.rv_frames.proofs.Begins.{runs_begin}
 use Rattle.rv_frames.proofs.AtOnce.{calls_at_once}
 use Rattle.rv_machine.specs.declared.stack.Stack.{Stack}
@@ -67,3 +67,8 @@ body_missing u s held object operation values components before after none at em
     ∙ (ap (λ (z : Setting). meant (flat_view u) (comes (closes (Err (cause.Raised ProgramError)) components 100000)) (exiting ∷ []) z) at
     ∙ (sym ((calls_at_once (flat_view u) (exiting ∷ []) (body_setting object (16 - held))).no_body operation values components 100000 64 refl none)
     ∙ (runs_begin (flat_view u)).operation held object operation values components))
+
+pub line_starts : (u : FlatUnit) (object operation : ℕ) (s : Setting) (fs : List Frame)
+    → fs ≡ [] → meant (flat_view u) (fires object operation) fs s ≡ and_then (line_run (flat_view u) object operation) (out ended)
+line_starts u object operation s fs empty =
+    ap (λ (gs : List Frame). meant (flat_view u) (fires object operation) gs s) empty ∙ (runs_begin (flat_view u)).line object operation s

@@ -1,5 +1,5 @@
 -- Where a machine is, and what it still does (own).
-use Rattle.std.specs.Prelude.{◌≡◌, List}
+use Rattle.std.specs.Prelude.{◌≡◌, ◌<◌, ℕ, List}
 use Rattle.rv_code.specs.Bodies.{UnitBodies}
 use Rattle.rv_exec.specs.declared.activation.Activation.{Activation}
 use Rattle.rv_exec.specs.declared.setting.Setting.{Setting}
@@ -7,7 +7,8 @@ use Rattle.rv_exec.specs.declared.end.End.{End}
 use Rattle.rv_exec.specs.declared.end.End.TheVariants as ends
 use Rattle.rv_flat.specs.Trees.{Tree, tree_at, as_expression, as_expressions, as_links, as_statement, as_statements, as_branches, as_alternatives, as_declarations}
 use Rattle.rv_frames.specs.Frames as f
-use Rattle.rv_frames.specs.Frames.{Frame, Control, meant}
+use Rattle.rv_frames.specs.Frames.{Frame, Control, Now, denoted, meant}
+use Rattle.rv_machine.specs.Moves.{moves_left, waiting_moves}
 use Rattle.rv_machine.specs.declared.point.Point.{Point}
 use Rattle.rv_machine.specs.declared.point.Point.TheVariants as point
 
@@ -25,7 +26,6 @@ control ts (point.Turns n e ss) a = f.turns_of n (as_expression (tree_at ts e)) 
 control ts (point.Counts count ss) a =
     f.counts count.left count.values.is_reverse count.values.low count.values.high count.values.slot (as_statements (tree_at ts ss)) a
 control ts (point.Declares ds) a = f.declares (as_declarations (tree_at ts ds)) a
-control ts (point.Enters operation values components steps) a = f.enters operation values components steps
 control ts (point.Asks callee values) a = f.asks_of callee values
 control ts (point.Waits callee) a = f.waits callee
 control ts (point.Ends request outcome) a = f.ends_of request outcome
@@ -40,17 +40,30 @@ control ts (point.Outside outcome) a = f.comes (f.outside outcome)
 control ts (point.Exited e components) a = f.comes (f.exited e components)
 control ts (point.Quitted e) a = f.comes (f.quitted e)
 
--- in each setting the run still does the same, at the one point with the one frames and at the other with the others
+-- from one point, with these frames and in this setting, to another: the run still does the same, and less of it is left
+pub record MovesOn (bodies : UnitBodies) (from : Control) (before : List Frame) (s : Setting) (to : Control) (after : List Frame) (t : Setting) : Type 0 where
+  pub same : meant bodies from before s ≡ meant bodies to after t
+  pub less : moves_left bodies to after t < moves_left bodies from before s
+
+-- what waits in these frames is the same in each setting
+pub record Apart (bodies : UnitBodies) (fs : List Frame) : Type 0 where
+  pub same : (s t : Setting) (now : Now) → denoted bodies fs s now ≡ denoted bodies fs t now
+  pub left : (n m : ℕ) → waiting_moves bodies fs n ≡ waiting_moves bodies fs m
+
+-- the same for any bodies and in each setting
 pub record Leads (from : Control) (before : List Frame) (to : Control) (after : List Frame) : Type 0 where
   pub same : (bodies : UnitBodies) (s : Setting) → meant bodies from before s ≡ meant bodies to after s
+  pub less : (bodies : UnitBodies) (s : Setting) → moves_left bodies to after s < moves_left bodies from before s
 
--- the same in one setting
+-- in one setting
 pub record LeadsIn (s : Setting) (from : Control) (before : List Frame) (to : Control) (after : List Frame) : Type 0 where
   pub same : (bodies : UnitBodies) → meant bodies from before s ≡ meant bodies to after s
+  pub less : (bodies : UnitBodies) → moves_left bodies to after s < moves_left bodies from before s
 
--- the same from one setting to another
+-- from one setting to another
 pub record LeadsAcross (s : Setting) (from : Control) (before : List Frame) (t : Setting) (to : Control) (after : List Frame) : Type 0 where
   pub same : (bodies : UnitBodies) → meant bodies from before s ≡ meant bodies to after t
+  pub less : (bodies : UnitBodies) → moves_left bodies to after t < moves_left bodies from before s
 
 -- how a loop ends whose turn ends so (5.7)
 abbrev pub left_by : End → End

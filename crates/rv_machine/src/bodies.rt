@@ -4,7 +4,7 @@ ghost use Rattle.std.specs.Prelude.{◌≡◌, ◌≤◌, ◌-◌, [], pos, repl
 ghost use Rattle.rv_exec.specs.Asking.{ended, and_then};
 ghost use Rattle.rv_exec.specs.Blocks.{operation_run_at};
 ghost use Rattle.rv_flat.specs.FlatUnits.{flat_view};
-ghost use Rattle.rv_frames.specs.Frames.{exit, body_setting};
+ghost use Rattle.rv_frames.specs.Frames.{exit};
 ghost use Rattle.rv_machine.specs.Machines.{stands};
 ghost use Rattle.rv_machine.specs.Stacks.{waiting, HasRoom};
 
@@ -17,23 +17,9 @@ use crate::stack::Stack;
 use rv_event::entry::Exception;
 use rv_exec::activation::MOST_STEPS;
 use rv_exec::end::Cause;
-use rv_exec::setting::{MOST_HELD, MOST_NESTED, Setting};
+use rv_exec::machine::of_operation;
 use rv_flat::unit::FlatUnit;
 use rv_value::{Args, Scalars};
-
-// What a body's call runs in, whose actor holds so many objects, this one with them.
-fn of_body(held: usize, object: usize) -> Setting
-    ensures { result ≡ body_setting object (16 - held) }
-{
-    let most = MOST_HELD as usize;
-    Setting {
-        object,
-        held: if held < most { (most - held) as u32 } else { 0 },
-        nested: MOST_NESTED,
-        is_task: false,
-        handling: None,
-    }
-}
 
 impl Machine {
     /// A machine at the start of the body of an operation that has started, with these values and components; its actor holds
@@ -51,7 +37,7 @@ impl Machine {
         requires room { HasRoom 3 stack }
         ensures { stands unit.now result ≡ and_then (operation_run_at (flat_view unit.now) held object number values components) (exit ended) }
     {
-        let setting = of_body(held, object);
+        let setting = of_operation(held, object);
         let mut frames = stack;
         frames.push_exiting();
         match operation(unit, object, number) {

@@ -1,20 +1,22 @@
-//! A call inside the object: its body begins, and comes back (6.4).
+//! Calls: inside the object the body of the operation begins; another is asked of the host (6.4, 9.5).
 
-ghost use Rattle.std.specs.Prelude.{◌≡◌, ◌≤◌, ◌<◌, ◌-◌, ◌∷◌, [], pos, replicate, length};
+ghost use Rattle.std.specs.Prelude.{◌≡◌, ◌≤◌, ◌<◌, ◌-◌, ◌∷◌, [], pos, replicate, length, None};
 ghost use Rattle.rv_exec.specs.Activations.{opened, bound};
+ghost use Rattle.rv_exec.specs.Calls.{internal};
 ghost use Rattle.rv_flat.specs.FlatUnits.{flat_view};
-ghost use Rattle.rv_frames.specs.Frames.{calls, comes, closes, meant, inner_setting};
-ghost use Rattle.rv_machine.specs.Machines.{stands};
-ghost use Rattle.rv_machine.specs.Stacks.{below, frames_with, waiting, set_aside, HasRoom, HasSpace};
+ghost use Rattle.rv_frames.specs.Frames.{calls, enters, inner_setting};
+ghost use Rattle.rv_machine.specs.Machines.{MovesTo};
+ghost use Rattle.rv_machine.specs.Points.{Apart};
+ghost use Rattle.rv_machine.specs.Stacks.{below, HasRoom, HasSpace};
 
-use crate::frame::{EndFrame, Frame};
+use crate::frame::EndFrame;
 use crate::machine::Machine;
 use crate::outcomes::operation;
 use crate::point::Point;
 use rv_code::{Callee, MOST_SLOTS};
 use rv_event::entry::Exception;
 use rv_exec::activation::Activation;
-use rv_exec::asks::{end_of, exit_of};
+use rv_exec::asks::{internal, is_past};
 use rv_exec::end::Cause;
 use rv_exec::setting::Setting;
 use rv_flat::body::FlatBody;
@@ -57,18 +59,6 @@ pub(crate) fn no_activation() -> Activation {
     }
 }
 
-// The activation of a caller whose call is over: the call worked on the same components, and took of the same steps.
-fn resumed(caller: &Activation, components: Scalars, steps: u32) -> Activation
-    ensures { result ≡ record caller.now { components = components; steps = steps } }
-{
-    Activation {
-        slots: caller.slots,
-        components,
-        steps,
-        requests: caller.requests,
-    }
-}
-
 /// What the body of a call inside the object runs in.
 pub(crate) fn inner(setting: &Setting) -> Setting
     ensures { result ≡ inner_setting setting.now (setting.now.nested - 1) }
@@ -87,110 +77,88 @@ pub(crate) fn inner(setting: &Setting) -> Setting
 }
 
 impl Machine {
-    /// A call inside the object: what it comes to waits, and the declarations of its body begin, where it has one and one
-    /// more call may nest (6.4).
-    pub fn call_inside(&mut self, unit: &FlatUnit, number: usize, values: Args)
-        requires room { HasRoom 3 self.old.stack }
-        requires space { HasSpace self.old.stack }
-        ensures { stands unit.now self.new ≡ meant (flat_view unit.now) (calls (Callee.Internal number) values self.old.activation) (below unit.now self.old.stack) self.old.setting }
+    /// An operation's body begins on these values, components and steps, in this setting: its declarations are next, where it has
+    /// a body and one more call may nest (6.4, 9.5.1).
+    pub(crate) fn begin(
+        &mut self,
+        unit: &FlatUnit,
+        setting: Setting,
+        number: usize,
+        values: Args,
+        components: Scalars,
+        steps: u32,
+    )
+        requires { HasRoom 2 self.old.stack }
+        ensures { Apart (flat_view unit.now) (below unit.now self.old.stack) → MovesTo unit.now (enters number values components steps) (below unit.now self.old.stack) setting self.new }
     {
-        self.stack.set_aside(copy_of(&self.activation));
-        self.stack.push_resuming(self.setting);
-        if self.setting.nested == 0 {
-            self.point = Point::Closes(
-                Err(Cause::Overrun),
-                self.activation.components,
-                self.activation.steps,
-            );
+        self.setting = setting;
+        if setting.nested == 0 {
+            self.point = Point::Closes(Err(Cause::Overrun), components, steps);
             return;
         }
-        match operation(unit, self.setting.object, number) {
+        match operation(unit, setting.object, number) {
             None => {
-                self.point = Point::Closes(
-                    Err(Cause::Raised(Exception::ProgramError)),
-                    self.activation.components,
-                    self.activation.steps,
-                );
+                let outcome = Err(Cause::Raised(Exception::ProgramError));
+                self.point = Point::Closes(outcome, components, steps);
             }
             Some(body) => {
                 self.stack
-                    .push_end(EndFrame::Closing(self.setting.object, number));
+                    .push_end(EndFrame::Closing(setting.object, number));
                 self.stack
                     .push_end(EndFrame::Opening(body.statements, body.handlers));
-                self.activation = begun(
-                    body,
-                    values,
-                    self.activation.components,
-                    self.activation.steps,
-                );
-                self.setting = inner(&self.setting);
+                self.activation = begun(body, values, components, steps);
+                self.setting = inner(&setting);
                 self.point = Point::Declares(body.declarations);
             }
         }
     }
 
-    /// A call with these values: inside the object its body begins. At another call nothing moves.
-    pub fn call(&mut self, unit: &FlatUnit, callee: Callee, values: Args)
+    /// A call inside the object: what it comes to waits, and its body begins (6.4).
+    fn call_inside(&mut self, unit: &FlatUnit, number: usize, values: Args)
         requires room { HasRoom 3 self.old.stack }
         requires space { HasSpace self.old.stack }
-        ensures { stands unit.now self.new ≡ meant (flat_view unit.now) (calls callee values self.old.activation) (below unit.now self.old.stack) self.old.setting }
+        ensures { MovesTo unit.now (calls (Callee.Internal number) values self.old.activation) (below unit.now self.old.stack) self.old.setting self.new }
     {
-        match callee {
-            Callee::Internal(number) => self.call_inside(unit, number, values),
-            _ => {
-                self.point = Point::Calls(callee, values);
-            }
-        }
+        let setting = self.setting;
+        let components = self.activation.components;
+        let steps = self.activation.steps;
+        self.stack.set_aside(copy_of(&self.activation));
+        self.stack.push_resuming(setting);
+        self.begin(unit, setting, number, values, components, steps);
     }
 
-    /// What a body comes to comes to this frame, which was on top: to the call inside the object that waits for it, or to the
-    /// end of an operation (6.4, 9.5.1).
-    fn body_meets(
-        &mut self,
-        unit: &FlatUnit,
-        frame: Frame,
-        outcome: Result<Args, Cause>,
-        components: Scalars,
-        steps: u32,
-    )
-        ensures { stands unit.now self.new ≡ meant (flat_view unit.now) (comes (closes outcome components steps)) (frames_with unit.now (frame ∷ waiting self.old.stack) (set_aside self.old.stack)) self.old.setting }
+    /// A call of another object, a delay or Clock: it waits, and is asked of the host, where the actor may make it (9.5).
+    fn call_outside(&mut self, unit: &FlatUnit, callee: Callee, values: Args)
+        requires other { internal callee ≡ None }
+        requires room { HasRoom 3 self.old.stack }
+        requires space { HasSpace self.old.stack }
+        ensures { MovesTo unit.now (calls callee values self.old.activation) (below unit.now self.old.stack) self.old.setting self.new }
     {
-        match frame {
-            Frame::Resuming(setting) => {
-                let caller = self.stack.take_up();
-                self.activation = resumed(&caller, components, steps);
-                self.setting = setting;
-                self.point = Point::Listed(outcome);
-            }
-            Frame::Completing(is_function, setting) => {
-                self.setting = setting;
-                self.point = Point::Ends(end_of(is_function, &outcome, components), outcome);
-            }
-            Frame::Exiting => {
-                self.point = Point::Exited(exit_of(&outcome), components);
-            }
-            _ => {
-                self.pass(unit, frame);
-                self.point = Point::Closes(outcome, components, steps);
-            }
+        let _ = unit;
+        let setting = self.setting;
+        if !self.activation.spend(setting.is_task) {
+            self.point = Point::Listed(Err(Cause::Overrun));
+            return;
         }
+        self.stack.set_aside(copy_of(&self.activation));
+        self.stack.push_answering();
+        if is_past(setting.held, callee) {
+            self.point = Point::Outside(Err(Cause::Raised(Exception::ProgramError)));
+            return;
+        }
+        self.stack.push_performing(setting.held, values);
+        self.point = Point::Asks(callee, values);
     }
 
-    /// What a body comes to comes to the frame on top.
-    pub fn body_comes(
-        &mut self,
-        unit: &FlatUnit,
-        outcome: Result<Args, Cause>,
-        components: Scalars,
-        steps: u32,
-    )
-        ensures { stands unit.now self.new ≡ meant (flat_view unit.now) (comes (closes outcome components steps)) (below unit.now self.old.stack) self.old.setting }
+    /// A call with these values (6.4, 9.5).
+    pub(crate) fn call(&mut self, unit: &FlatUnit, callee: Callee, values: Args)
+        requires room { HasRoom 3 self.old.stack }
+        requires space { HasSpace self.old.stack }
+        ensures { MovesTo unit.now (calls callee values self.old.activation) (below unit.now self.old.stack) self.old.setting self.new }
     {
-        match self.stack.pop() {
-            None => {
-                self.point = Point::Closes(outcome, components, steps);
-            }
-            Some(frame) => self.body_meets(unit, frame, outcome, components, steps),
+        match internal(callee) {
+            Some(number) => self.call_inside(unit, number, values),
+            None => self.call_outside(unit, callee, values),
         }
     }
 }

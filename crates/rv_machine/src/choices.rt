@@ -1,23 +1,14 @@
 //! Which alternative of a case statement, and which handler of a body, is chosen, in a unit's table.
 
 ghost use Rattle.std.specs.Prelude.{◌≡◌, IfSome, IsNone, Some, None};
-ghost use Rattle.rv_exec.specs.Choices.{covers, covered, names, named, handler_of};
+ghost use Rattle.rv_exec.specs.Choices.{covered, named, handler_of};
 ghost use Rattle.rv_flat.specs.Tables.{trees};
 ghost use Rattle.rv_flat.specs.Trees.{tree_at, as_statements, as_choices, as_handlers, as_exceptions};
 
 use crate::nodes::{choices_at, exceptions_at, handlers_at};
-use rv_code::{Choice, ExceptionChoice};
 use rv_event::entry::Exception;
+use rv_exec::choices::{covers, names};
 use rv_flat::code::Code;
-
-fn covers(choice: Choice, value: i64) -> bool
-    ensures { result ≡ covers choice value }
-{
-    match choice {
-        Choice::Values(low, high) => low <= value && value <= high,
-        Choice::Others => true,
-    }
-}
 
 /// Whether one of the choices covers the value (3.8.1).
 pub fn covered(code: &Code, choices: usize, value: i64) -> bool
@@ -31,26 +22,6 @@ pub fn covered(code: &Code, choices: usize, value: i64) -> bool
         rest = choice.rest;
     }
     false
-}
-
-fn names(choice: ExceptionChoice, exception: Exception) -> bool
-    ensures { result ≡ names choice exception }
-{
-    match choice {
-        ExceptionChoice::Others => true,
-        ExceptionChoice::Named(Exception::ConstraintError) => match exception {
-            Exception::ConstraintError => true,
-            _ => false,
-        },
-        ExceptionChoice::Named(Exception::ProgramError) => match exception {
-            Exception::ProgramError => true,
-            _ => false,
-        },
-        ExceptionChoice::Named(Exception::AccessDenied) => match exception {
-            Exception::AccessDenied => true,
-            _ => false,
-        },
-    }
 }
 
 fn named(code: &Code, choices: usize, exception: Exception) -> bool

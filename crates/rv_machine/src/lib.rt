@@ -3,22 +3,28 @@
 //! choice.
 #![tactic(auto)]
 
+mod answers;
 mod bodies;
 mod calls;
 mod choices;
+mod coming;
 mod copying;
 pub mod ends;
 pub mod expressions;
 pub mod frame;
 pub mod machine;
 mod moves;
+pub mod next;
 pub mod nodes;
 pub mod outcomes;
 pub mod pile;
 pub mod point;
+mod returns;
+mod running;
 pub mod select;
 pub mod stack;
 mod stacking;
 pub mod statements;
+pub mod table;
 mod tasks;
 pub mod values;

@@ -1,16 +1,16 @@
 //! What the end of a body comes to (6.4.1, 6.5), by the bodies of a unit's table.
 
 ghost use Rattle.std.specs.Prelude.{◌≡◌, IfSome, IsNone, Some, None, []};
-ghost use Rattle.rv_exec.specs.Blocks.{function_outcome, procedure_outcome, outcome_of};
+ghost use Rattle.rv_exec.specs.Blocks.{outcome_of};
 ghost use Rattle.rv_exec.specs.Bodies.{operation_of, task_of};
 ghost use Rattle.rv_flat.specs.FlatUnits.{flat_view};
 ghost use Rattle.rv_flat.specs.FlatView.{body_in};
 ghost use Rattle.rv_flat.specs.Tables.{trees};
 ghost use Rattle.rv_machine.specs.Stacks.{body_or};
 
-use rv_event::entry::Exception;
 use rv_exec::activation::Activation;
 use rv_exec::end::{Cause, End};
+use rv_exec::outcome::{function_outcome, procedure_outcome};
 use rv_flat::body::FlatBody;
 use rv_flat::unit::FlatUnit;
 use rv_value::Args;
@@ -44,25 +44,6 @@ pub fn task(unit: &FlatUnit, actor: usize) -> Option<&FlatBody>
     match unit.tasks.get(actor - FIRST_TASK)? {
         Some(body) => Some(body),
         None => None,
-    }
-}
-
-fn function_outcome(end: End) -> Result<Args, Cause>
-    ensures { result ≡ function_outcome end }
-{
-    match end {
-        End::Return(Some(value)) => Ok(Args::from_slice(&[value])),
-        End::Abandoned(cause) => Err(cause),
-        _ => Err(Cause::Raised(Exception::ProgramError)),
-    }
-}
-
-fn procedure_outcome(end: End, values: Args) -> Result<Args, Cause>
-    ensures { result ≡ procedure_outcome end values }
-{
-    match end {
-        End::Abandoned(cause) => Err(cause),
-        _ => Ok(values),
     }
 }
 

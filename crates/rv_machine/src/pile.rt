@@ -1,6 +1,6 @@
 //! Elements one on top of another, in room that is taken at first.
 
-ghost use Rattle.std.specs.Prelude.{◌≡◌, ◌≤◌, ◌<◌, ◌+◌, ◌∷◌, [], IfOk, IfSome, IsNone, IsTrue, length, reverse};
+ghost use Rattle.std.specs.Prelude.{◌≡◌, ◌≤◌, ◌<◌, ◌+◌, ◌∷◌, [], IfOk, IfSome, IsNone, IsTrue, IsFalse, length, reverse};
 ghost use Rattle.std.specs.Vec.{vec_capacity};
 
 use std::alloc::{AllocError, Global};
@@ -17,15 +17,25 @@ impl<T: Drop> Pile<T> {
     /// No elements, with room for that many. Err where memory was refused.
     pub fn reserve(alloc: Global, capacity: usize) -> Result<Pile<T>, AllocError>
         ensures empty { IfOk result (λ p. reverse p.items.items ≡ []) }
+        ensures length { IfOk result (λ p. length p.items.items ≡ 0) }
         ensures capacity { IfOk result (λ p. p.capacity ≡ capacity) }
     {
         let items = Vec::with_capacity(alloc, capacity)?;
         Ok(Pile { items, capacity })
     }
 
+    /// Whether there are no elements.
+    pub fn is_empty(&self) -> bool
+        ensures yes { IsTrue result → reverse self.now.items.items ≡ [] }
+        ensures no { IsFalse result → reverse self.now.items.items ≡ [] → ⊥ }
+    {
+        self.items.is_empty()
+    }
+
     /// Whether there is room for so many more.
     pub fn has_room(&self, more: usize) -> bool
-        ensures { IsTrue result → length self.now.items.items + more ≤ self.now.capacity }
+        ensures yes { IsTrue result → length self.now.items.items + more ≤ self.now.capacity }
+        ensures no { IsFalse result → length self.now.items.items + more ≤ self.now.capacity → ⊥ }
     {
         more <= self.capacity && self.items.len() <= self.capacity - more
     }

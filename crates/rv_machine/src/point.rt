@@ -31,8 +31,6 @@ pub enum Point {
     Counts(Count, usize),
     /// Declarations (3.11).
     Declares(usize),
-    /// An operation of the setting's object, on these values, components and steps (6.4).
-    Enters(usize, Args, Scalars, u32),
     /// The first request of a call of another object, and the resume of one that waits (9.5).
     Asks(Callee, Args),
     Waits(Callee),

@@ -1,6 +1,6 @@
 //! The stack of a machine: frames and activations are put on it and taken off.
 
-ghost use Rattle.std.specs.Prelude.{◌≡◌, ◌≤◌, ◌<◌, ◌+◌, ◌∷◌, [], IfOk, IfSome, IsNone, IsTrue, length};
+ghost use Rattle.std.specs.Prelude.{◌≡◌, ◌≤◌, ◌<◌, ◌+◌, ◌∷◌, [], IfOk, IfSome, IsNone, IsTrue, IsFalse, length};
 ghost use Rattle.rv_machine.specs.Stacks.{waiting, set_aside, first_of, rest_of, HasRoom, HasSpace};
 
 use crate::frame::{Count, EndFrame, Frame, OperandFrame, ValueFrame, ValuesFrame};
@@ -18,7 +18,8 @@ impl Stack {
     pub fn new(alloc: Global) -> Result<Stack, AllocError>
         ensures frames { IfOk result (λ s. waiting s ≡ []) }
         ensures activations { IfOk result (λ s. set_aside s ≡ []) }
-        ensures room { IfOk result (λ s. s.frames.capacity ≡ 262144) }
+        ensures room { IfOk result (λ s. HasRoom 4 s) }
+        ensures space { IfOk result (λ s. HasSpace s) }
     {
         let frames = Pile::reserve(alloc, MOST_FRAMES)?;
         let activations = Pile::reserve(alloc, MOST_ACTIVATIONS)?;
@@ -32,8 +33,17 @@ impl Stack {
     pub fn is_roomy(&self) -> bool
         ensures frames { IsTrue result → HasRoom 4 self.now }
         ensures activations { IsTrue result → HasSpace self.now }
+        ensures full { IsFalse result → HasRoom 4 self.now → HasSpace self.now → ⊥ }
     {
         self.frames.has_room(4) && self.activations.has_room(1)
+    }
+
+    /// Whether nothing waits.
+    pub fn is_empty(&self) -> bool
+        ensures yes { IsTrue result → waiting self.now ≡ [] }
+        ensures no { IsFalse result → waiting self.now ≡ [] → ⊥ }
+    {
+        self.frames.is_empty()
     }
 
     /// A frame of an expression is put on top.

@@ -1,9 +1,9 @@
-//! A machine for a task: it starts at the task's declarations, moves, and quits (9.2, 9.3).
+//! A machine for a task: it starts at the task's declarations (9.2).
 
 ghost use Rattle.std.specs.Prelude.{◌≡◌, ◌≤◌, [], pos, replicate, IfOk};
 ghost use Rattle.rv_exec.specs.Activations.{opened};
 ghost use Rattle.rv_exec.specs.Asking.{ended, and_then};
-ghost use Rattle.rv_exec.specs.Tasks.{task_run, task_setting};
+ghost use Rattle.rv_exec.specs.Tasks.{task_run};
 ghost use Rattle.rv_flat.specs.FlatUnits.{flat_view};
 ghost use Rattle.rv_frames.specs.Frames.{quit};
 ghost use Rattle.rv_machine.specs.Machines.{stands};
@@ -16,23 +16,10 @@ use crate::point::Point;
 use crate::stack::Stack;
 use rv_code::MOST_SLOTS;
 use rv_exec::activation::{Activation, MOST_STEPS};
-use rv_exec::setting::{MOST_HELD, MOST_NESTED, Setting};
+use rv_exec::machine::of_task;
 use rv_flat::unit::FlatUnit;
 use rv_value::{Args, Scalars};
 use std::alloc::{AllocError, Global};
-
-// What a task's own body runs in.
-fn of_task() -> Setting
-    ensures { result ≡ task_setting }
-{
-    Setting {
-        object: 0,
-        held: MOST_HELD,
-        nested: MOST_NESTED,
-        is_task: true,
-        handling: None,
-    }
-}
 
 // A task's own body before its declarations.
 fn of_budget(requests: u32) -> Activation
@@ -49,7 +36,8 @@ fn of_budget(requests: u32) -> Activation
 impl Machine {
     /// Takes all memory that a run needs: an empty stack. Err where memory was refused.
     pub fn reserve(alloc: Global) -> Result<Stack, AllocError>
-        ensures { IfOk result (λ stack. waiting stack ≡ []) }
+        ensures empty { IfOk result (λ stack. waiting stack ≡ []) }
+        ensures room { IfOk result (λ stack. HasRoom 4 stack) }
     {
         Stack::new(alloc)
     }
@@ -79,20 +67,6 @@ impl Machine {
                 setting: of_task(),
                 stack,
             },
-        }
-    }
-
-    /// Moves so many times at most, and as long as the stack has room.
-    pub fn proceed(&mut self, unit: &FlatUnit, most: u32)
-        ensures { stands unit.now self.new ≡ stands unit.now self.old }
-    {
-        let mut left = most;
-        'moves: while left > 0 {
-            left -= 1;
-            if !self.stack.is_roomy() {
-                return;
-            }
-            self.advance(unit);
         }
     }
 }

@@ -1,15 +1,14 @@
 //! The value of an expression comes to what waits for it.
 
 ghost use Rattle.std.specs.Prelude.{◌≡◌, ◌∷◌, List, Ok, Err, pos};
-ghost use Rattle.rv_exec.specs.Statements.{exit_where};
 ghost use Rattle.rv_flat.specs.Tables.{trees};
 ghost use Rattle.rv_flat.specs.Trees.{tree_at, as_expressions};
 ghost use Rattle.rv_frames.specs.Frames.{Frame as Waiting, arguing, comes, valued, listed, done};
-ghost use Rattle.rv_frames.specs.Rests.{is_next};
 ghost use Rattle.rv_machine.specs.Points.{control, Leads};
 ghost use Rattle.rv_machine.specs.Stacks.{below, operand_frame, value_frame, values_frame, HasRoom};
 
 use crate::copying::copy_back;
+use crate::ends::is_next;
 use crate::frame::{Count, EndFrame, OperandFrame, ValueFrame, ValuesFrame};
 use crate::point::Point;
 use crate::stack::Stack;
@@ -17,6 +16,7 @@ use rv_event::entry::Exception;
 use rv_exec::activation::{Activation, join, value_at};
 use rv_exec::end::{Cause, End};
 use rv_exec::operators::{is_true, prefix_of, result_of, within};
+use rv_exec::outcome::exit_where;
 use rv_exec::ranges::{Scheme, Values, fits, span};
 use rv_flat::unit::FlatUnit;
 use rv_value::Args;
@@ -73,23 +73,6 @@ pub fn take_argument(
     let mut values = before;
     join(&mut values, value);
     Point::Argues(arguments, values)
-}
-
-// How `exit when` ends (5.7).
-fn exit_where(value: i64) -> End
-    ensures { result ≡ exit_where value }
-{
-    if is_true(value) { End::Exit } else { End::Next }
-}
-
-// Whether the next statement follows.
-fn is_next(end: End) -> bool
-    ensures { result ≡ is_next end }
-{
-    match end {
-        End::Next => true,
-        _ => false,
-    }
 }
 
 // The condition of a loop: a turn takes a step (5.5).

@@ -1,3 +1,5 @@
+use Rattle.std.proofs.Common.{arith}
+use Rattle.rv_machine.proofs.MovesLeft.{turns_fit}
 use Rattle.rv_machine.proofs.Steps.{value_on, values_on}
 use Rattle.rv_machine.proofs.StatementSteps.{null_ends, assigns, chooses, selects, loops, loops_over, exits, returns_none, returns_one, raises, reraises, calls_of}
 use Rattle.rv_machine.proofs.statements.run.Goals as goal
@@ -15,7 +17,7 @@ pub returns-in-Case : goal.returns-in-Case
 returns-in-Case c = selects _ _ _ _ _ _ _ c.in-Case.ensures (value_on c.args.unit.now c.args.stack.now c.push_value-in-Case.new.self _ c.push_value-in-Case.ensures.frames c.push_value-in-Case.ensures.activations)
 
 pub returns-in-While : goal.returns-in-While
-returns-in-While c = loops _ _ _ _ _ _ _ c.in-While.ensures c.most_turns.ensures
+returns-in-While c = loops _ _ _ _ _ _ _ c.in-While.ensures c.most_turns.ensures (turns_fit _ (omega arith))
 
 pub returns-in-For : goal.returns-in-For
 returns-in-For c = loops_over _ _ _ _ _ _ _ _ _ _ _ c.in-For.ensures (value_on c.args.unit.now c.args.stack.now c.push_value-in-For.new.self _ c.push_value-in-For.ensures.frames c.push_value-in-For.ensures.activations)

@@ -1,6 +1,8 @@
+use Rattle.std.proofs.Common.{refl}
 use Rattle.rv_frames.specs.Frames.{closes}
+use Rattle.rv_machine.specs.declared.point.Point.TheVariants as point
 use Rattle.rv_machine.proofs.CallSteps.{met_resuming, met_completing, met_exiting}
-use Rattle.rv_machine.proofs.Meetings.{takes_no_body}
+use Rattle.rv_machine.proofs.Meetings.{passed, takes_no_body}
 use Rattle.rv_machine.proofs.machine.Machine.body_meets.Goals as goal
 
 pub returns-in-Resuming : goal.returns-in-Resuming
@@ -13,4 +15,4 @@ pub returns-in-Exiting : goal.returns-in-Exiting
 returns-in-Exiting c = met_exiting c.args.unit.now c.args.self.now.stack c.args.self.now.setting _ c.args.outcome c.args.components c.args.steps _ c.in-Exiting.is c.exit_of.ensures
 
 pub returns-in_default : goal.returns-in_default
-returns-in_default c = c.pass.ensures.below (closes c.args.outcome c.args.components c.args.steps) (takes_no_body _ c.in_default.not-Resuming c.in_default.not-Completing c.in_default.not-Exiting)
+returns-in_default c = passed c.args.unit.now (closes c.args.outcome c.args.components c.args.steps) (closes c.args.outcome c.args.components c.args.steps) _ _ (record c.pass.new.self { point = point.Closes c.args.outcome c.args.components c.args.steps }) refl refl (c.pass.ensures.below (closes c.args.outcome c.args.components c.args.steps) (takes_no_body _ c.in_default.not-Resuming c.in_default.not-Completing c.in_default.not-Exiting))

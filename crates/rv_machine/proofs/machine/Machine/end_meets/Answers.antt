@@ -1,9 +1,9 @@
-use Rattle.std.proofs.Common.{◌∙◌, ap}
+use Rattle.std.proofs.Common.{ap, refl}
 use Rattle.rv_exec.specs.declared.activation.Activation.{Activation}
-use Rattle.rv_flat.specs.FlatUnits.{flat_view}
-use Rattle.rv_frames.specs.Frames.{comes, done, meant}
+use Rattle.rv_frames.specs.Frames.{done}
 use Rattle.rv_machine.specs.Stacks.{below}
-use Rattle.rv_machine.proofs.Meetings.{across, met_end, met_count, met_handling, takes_no_end}
+use Rattle.rv_machine.specs.declared.point.Point.TheVariants as point
+use Rattle.rv_machine.proofs.Meetings.{across, met_end, met_count, met_handling, passed, takes_no_end}
 use Rattle.rv_machine.proofs.machine.Machine.end_meets.Goals as goal
 
 pub returns-in-End : goal.returns-in-End
@@ -16,4 +16,4 @@ pub returns-in-Handling : goal.returns-in-Handling
 returns-in-Handling c = met_handling c.args.unit.now c.args.self.now.stack (record c.args.self.now { point = c.handle-self.result; setting = c.handle-self.new.setting; stack = c.handle-self.new.stack }) (done c.args.end c.args.self.now.activation) c.args.self.now.setting _ _ c.in-Handling.is c.handle-self.ensures
 
 pub returns-in_default : goal.returns-in_default
-returns-in_default c = ap (λ (x : Activation). meant (flat_view c.args.unit.now) (comes (done c.args.end x)) (below c.args.unit.now c.pass.new.self.stack) c.pass.new.self.setting) c.pass.ensures.same ∙ c.pass.ensures.below (done c.args.end c.args.self.now.activation) (takes_no_end _ c.in_default.not-End c.in_default.not-Counting c.in_default.not-Handling)
+returns-in_default c = passed c.args.unit.now (done c.args.end c.args.self.now.activation) (done c.args.end c.pass.new.self.activation) _ _ (record c.pass.new.self { point = point.Done c.args.end }) refl (ap (λ (x : Activation). done c.args.end x) c.pass.ensures.same) (c.pass.ensures.below (done c.args.end c.args.self.now.activation) (takes_no_end _ c.in_default.not-End c.in_default.not-Counting c.in_default.not-Handling))

@@ -1,9 +1,9 @@
-use Rattle.std.proofs.Common.{◌∙◌, ap}
+use Rattle.std.proofs.Common.{ap, refl}
 use Rattle.rv_exec.specs.declared.activation.Activation.{Activation}
-use Rattle.rv_flat.specs.FlatUnits.{flat_view}
-use Rattle.rv_frames.specs.Frames.{comes, valued, meant}
+use Rattle.rv_frames.specs.Frames.{valued}
 use Rattle.rv_machine.specs.Stacks.{below}
-use Rattle.rv_machine.proofs.Meetings.{across, met_operand, met_argument, met_value, takes_no_value}
+use Rattle.rv_machine.specs.declared.point.Point.TheVariants as point
+use Rattle.rv_machine.proofs.Meetings.{across, met_operand, met_argument, met_value, passed, takes_no_value}
 use Rattle.rv_machine.proofs.machine.Machine.value_meets.Goals as goal
 
 pub returns-in-Operand : goal.returns-in-Operand
@@ -16,4 +16,4 @@ pub returns-in-Value : goal.returns-in-Value
 returns-in-Value c = met_value c.args.unit.now c.args.self.now.stack (record c.args.self.now { point = c.part_comes-self.result; activation = c.part_comes-self.new.activation; stack = c.part_comes-self.new.stack }) (valued c.args.value c.args.self.now.activation) c.args.self.now.setting _ _ c.in-Value.is (across _ _ _ _ _ c.part_comes-self.ensures)
 
 pub returns-in_default : goal.returns-in_default
-returns-in_default c = ap (λ (x : Activation). meant (flat_view c.args.unit.now) (comes (valued c.args.value x)) (below c.args.unit.now c.pass.new.self.stack) c.pass.new.self.setting) c.pass.ensures.same ∙ c.pass.ensures.below (valued c.args.value c.args.self.now.activation) (takes_no_value _ c.in_default.not-Operand c.in_default.not-Arguing c.in_default.not-Value)
+returns-in_default c = passed c.args.unit.now (valued c.args.value c.args.self.now.activation) (valued c.args.value c.pass.new.self.activation) _ _ (record c.pass.new.self { point = point.Valued c.args.value }) refl (ap (λ (x : Activation). valued c.args.value x) c.pass.ensures.same) (c.pass.ensures.below (valued c.args.value c.args.self.now.activation) (takes_no_value _ c.in_default.not-Operand c.in_default.not-Arguing c.in_default.not-Value))

@@ -1,0 +1,12 @@
+use Rattle.std.proofs.Common.{refl}
+use Rattle.rv_frames.specs.Frames.{reaches}
+use Rattle.rv_machine.specs.declared.point.Point.TheVariants as point
+use Rattle.rv_machine.proofs.CallSteps.{met_performing}
+use Rattle.rv_machine.proofs.Meetings.{passed, takes_no_request}
+use Rattle.rv_machine.proofs.machine.Machine.request_meets.Goals as goal
+
+pub returns-in-Performing : goal.returns-in-Performing
+returns-in-Performing c = met_performing c.args.unit.now c.args.self.now.stack c.args.self.now.setting _ c.args.asked _ _ c.perform.new.self c.in-Performing.is c.perform.ensures
+
+pub returns-in_default : goal.returns-in_default
+returns-in_default c = passed c.args.unit.now (reaches c.args.asked) (reaches c.args.asked) _ _ (record c.pass.new.self { point = point.Reaches c.args.asked }) refl refl (c.pass.ensures.below (reaches c.args.asked) (takes_no_request _ c.in_default.not-Performing))

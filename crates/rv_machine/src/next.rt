@@ -1,0 +1,128 @@
+//! A machine runs up to the next request, or to the end.
+
+ghost use Rattle.std.specs.Prelude.{◌≡◌, ◌≤◌, ◌<◌, [], IsTrue, IsFalse, Some, None, true};
+ghost use Rattle.rv_machine.specs.Machines.{stands, left, question, is_coming, final_at, OnAsks, OnEnded, OnFull, AsksNow, EndsNow};
+ghost use Rattle.rv_machine.specs.Stacks.{waiting, HasRoom, HasSpace};
+
+use crate::machine::Machine;
+use crate::point::Point;
+use rv_event::entry::{Exit, Request};
+use rv_exec::asks::{is_stuck, request_of};
+use rv_exec::end::Cause;
+use rv_flat::unit::FlatUnit;
+use rv_value::{Args, Scalars};
+
+/// How a run ended.
+#[derive(Clone, Copy)]
+pub enum Final {
+    /// The body of an operation: how it exits, and the components as it leaves them.
+    Exited(Exit, Scalars),
+    /// A task.
+    Quitted(Exit),
+    /// What a line's handler came to.
+    Outside(Result<Args, Cause>),
+    /// What no run that was started comes to.
+    Other,
+}
+
+/// What a run comes to next.
+#[derive(Clone, Copy)]
+pub enum Next {
+    /// It asks this request, and goes on by its answer.
+    Asks(Request),
+    /// It has ended.
+    Ended(Final),
+    /// The stack has no room for another move.
+    Full,
+}
+
+impl Machine {
+    /// What is asked where the machine stands, or `None` where nothing is asked.
+    pub fn question(&self) -> Option<Request>
+        ensures { result ≡ question self.now.point }
+    {
+        match self.point {
+            Point::Asks(callee, values) => Some(request_of(callee, values)),
+            Point::Waits(_) => Some(Request::Resume),
+            Point::Ends(request, outcome) => {
+                if is_stuck(&outcome) {
+                    None
+                } else {
+                    Some(request)
+                }
+            }
+            Point::Quits(outcome) => {
+                if is_stuck(&outcome) {
+                    None
+                } else {
+                    Some(Request::Quit)
+                }
+            }
+            Point::Fires(_, _) => Some(Request::Fire),
+            _ => None,
+        }
+    }
+
+    // Whether something comes to the frame on top.
+    fn is_coming(&self) -> bool
+        ensures { result ≡ is_coming self.now.point }
+    {
+        match self.point {
+            Point::Valued(_)
+            | Point::Listed(_)
+            | Point::Done(_)
+            | Point::Closes(_, _, _)
+            | Point::Reaches(_)
+            | Point::Outside(_)
+            | Point::Exited(_, _)
+            | Point::Quitted(_) => true,
+            _ => false,
+        }
+    }
+
+    // Whether something comes, and nothing waits for it.
+    fn is_over(&self) -> bool
+        ensures yes { IsTrue result → is_coming self.now.point ≡ true }
+        ensures empty { IsTrue result → waiting self.now.stack ≡ [] }
+        ensures no { IsFalse result → is_coming self.now.point ≡ true → waiting self.now.stack ≡ [] → ⊥ }
+    {
+        self.is_coming() && self.stack.is_empty()
+    }
+
+    // How the run ended, where it has.
+    fn end(&self) -> Final
+        ensures { result ≡ final_at self.now.point }
+    {
+        match self.point {
+            Point::Exited(exit, components) => Final::Exited(exit, components),
+            Point::Quitted(exit) => Final::Quitted(exit),
+            Point::Outside(outcome) => Final::Outside(outcome),
+            _ => Final::Other,
+        }
+    }
+
+    /// Moves up to the next request, or to the end of the run. What the machine stands for stays, and at a request, and at an end,
+    /// it stays where it is. It takes no memory.
+    pub fn next(&mut self, unit: &FlatUnit) -> Next
+        ensures same { stands unit.now self.new ≡ stands unit.now self.old }
+        ensures asks { OnAsks result (λ request. AsksNow (stands unit.now self.new) request) }
+        ensures question { OnAsks result (λ request. question self.new.point ≡ Some request) }
+        ensures room { OnAsks result (λ request. HasRoom 4 self.new.stack) }
+        ensures ended { OnEnded result (λ how. EndsNow (stands unit.now self.new) how) }
+        ensures full { OnFull result (HasRoom 4 self.new.stack → HasSpace self.new.stack → ⊥) }
+        ensures left { left unit.now self.new ≤ left unit.now self.old }
+    {
+        'moves: loop {
+            if !self.stack.is_roomy() {
+                return Next::Full;
+            }
+            if let Some(request) = self.question() {
+                return Next::Asks(request);
+            }
+            if self.is_over() {
+                return Next::Ended(self.end());
+            }
+            self.advance(unit);
+        }
+    }
+}
