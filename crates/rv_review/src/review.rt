@@ -11,12 +11,11 @@ ghost use Rattle.rv_review.specs.Reviews.{Reviews, is_legal};
 use rv_audit::lines::judge_lines;
 use rv_audit::observer::{Observer, Watch};
 use rv_audit::verdict::Verdict;
-use rv_verdict::{audit_over, say};
 use rv_fault::{Failure, put};
 use rv_history::limits::Limits;
 use rv_shape::catalogue::Catalogue;
 use rv_shape::shape::UnitShape;
-use rv_verdict::Audited;
+use rv_verdict::{Audited, audit_over, say};
 use std::alloc::{AllocError, Global};
 use std::io::{Read, Write};
 

@@ -12,13 +12,12 @@ ghost use Rattle.rv_script.specs.Whole.{most_bytes};
 
 use crate::review::{Review, judge};
 use rv_audit::observer::{Nobody, Watch};
-use rv_verdict::script_of;
 use rv_fault::Failure;
 use rv_history::limits::Limits;
 use rv_script::unit_text::unit_text;
 use rv_script::{read_script, text_of};
 use rv_shape::shape::UnitShape;
-use rv_verdict::Audited;
+use rv_verdict::{Audited, script_of};
 use std::alloc::Global;
 use std::io::{Read, Write};
 
