@@ -1,5 +1,5 @@
 -- An attended run, from its first threads to the end of its file.
-use Rattle.std.proofs.Common.{◌≡◌, ℕ, Bool, Ok, Err, IfOk, inl, inr, sym, subst}
+use Rattle.std.proofs.Common.{ℕ, Bool, Ok, Err, IfOk, inl, inr, sym, subst}
 use Rattle.rv_follow.specs.Following.{ClosesFile, IsKept}
 use Rattle.rv_history.specs.History.{History}
 use Rattle.rv_keep.specs.Keeping.{Known}

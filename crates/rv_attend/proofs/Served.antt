@@ -1,10 +1,10 @@
 -- Without a console the lines of what came are served as commands, each behind what was due.
-use Rattle.std.proofs.Common.{◌≡◌, ◌∙◌, ◌≤◌, ℕ, arith, zero, suc, Bool, true, false, List, Option, Some, None, Ok, Err, inl, inr, refl, sym, ap, subst, le_of_lt}
+use Rattle.std.proofs.Common.{◌≡◌, ◌∙◌, ℕ, arith, zero, suc, Bool, true, false, List, Option, Some, None, Ok, Err, inl, inr, refl, sym, ap, subst, le_of_lt}
 use Rattle.std.specs.Prelude.{◌⊎◌, IfNone, Result}
 use Rattle.rv_crew.specs.Teams.{Team}
 use Rattle.rv_input.specs.Coming.{GivesLine, Reading}
 use Rattle.rv_staff.specs.Saying.{Known}
-use Rattle.rv_run.specs.Beside.{Ended, IsOfRun, Moment}
+use Rattle.rv_run.specs.Beside.{Ended, Moment}
 use Rattle.rv_run.specs.Commanding.{Commands}
 use Rattle.rv_run.specs.Finishing.{Served}
 use Rattle.rv_run.specs.FinishingBeside.{GoesOnByWith, GoesWith, ServesIfWith}
@@ -14,8 +14,8 @@ use Rattle.rv_run.specs.declared.command.Goes.{Goes}
 use Rattle.rv_run.specs.declared.command.Goes.TheVariants.{On, Out}
 use Rattle.rv_run.specs.declared.outputs.KeptFailure.{KeptFailure}
 use Rattle.rv_attend.specs.Attending.{AttendedAll, AttendedBy, AttendedIf, AttendedOne, AttendedUpTo, GoesAttended, ServesBehind, ServesCome}
-use Rattle.rv_attend.specs.Holding.{HeedsTo, Holding, IsPlain, attended, state_of}
-use Rattle.rv_attend.specs.Lasting.{Lasts, State}
+use Rattle.rv_attend.specs.Holding.{Holding, IsPlain, attended, state_of}
+use Rattle.rv_attend.specs.Lasting.{State}
 use Rattle.rv_attend.proofs.Chores.{no_chores}
 use Rattle.rv_attend.proofs.Lasted.{up_to_lasts}
 
