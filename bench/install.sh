@@ -53,11 +53,14 @@ due "nothing is proved" 126 'ravenhost: --install asks for the proved program, a
     --install "$folder/prefix"
 holds "nothing is installed then" test -z "$(ls "$folder/prefix")"
 
-# stand_in WORD: a program, younger than the sources, that says the word and its own words.
+review=$folder/clone/crates/ravenreview/out/ravenreview
+
+# stand_in WORD: a program, younger than the sources, that says the word and its own words; and one for questions about journals.
 stand_in() {
-    mkdir -p "${program%/*}"
+    mkdir -p "${program%/*}" "${review%/*}"
     printf '#!/bin/sh\necho %s "$@"\n%065536d\n' "$1" 0 | sed 's/^0*$/#&/' >"$program"
-    chmod 700 "$program"
+    cp "$program" "$review"
+    chmod 700 "$program" "$review"
     echo "rattle-kit-0" >"$program.kit"
 }
 stand_in proved
@@ -74,9 +77,10 @@ cp "$folder/out" "$folder/places"
 while read -r place; do holds "${place#"$folder/"} is there" test -f "$place"; done <"$folder/places"
 holds "nothing else is there" diff <(find "$folder/prefix" ! -type d | sort) <(sort "$folder/places")
 holds "the program may be run by all" test "$(stat -c %a "$folder/prefix/bin/ravenhost")" = 755
-holds "the others may be read by all" test "$(find "$folder/prefix" -type f ! -perm 644 | wc -l)" = 2
+holds "the others may be read by all" test "$(find "$folder/prefix" -type f ! -perm 644 | wc -l)" = 3
 holds "all folders may be entered" test -z "$(find "$folder/prefix" -mindepth 1 -type d ! -perm 755)"
 holds "the program" cmp "$program" "$folder/prefix/bin/ravenhost"
+holds "the program for questions" cmp "$review" "$folder/prefix/bin/ravenreview"
 share=$folder/prefix/share
 for pair in docs/ravenhost.1:man/man1/ravenhost.1 manual/ravenhost.bash:bash-completion/completions/ravenhost \
     manual/_ravenhost:zsh/site-functions/_ravenhost manual/vim/syntax/raven.vim:vim/vimfiles/syntax/raven.vim \
