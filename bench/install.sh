@@ -234,7 +234,7 @@ due "a source newer than it" 126 "$newer" --install "$folder/prefix"
 
 # What is installed as shells and the editor find it, with a program that is no script.
 if command -v zsh >/dev/null && command -v vim >/dev/null && command -v python3 >/dev/null; then
-    cp "$(type -P true)" "$program"
+    cp "$(type -P true)" "$program" && cp "$(type -P true)" "$review"
     due "a program that is no script" 0 "" --install "$folder/whole"
     holds "completions of what is installed" "$top/bench/complete_words.py" "$folder/whole" "$launcher"
     echo "$folder/whole/share/doc/ravenhost/examples/plant.raven" >"$folder/files"
