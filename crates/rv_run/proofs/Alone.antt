@@ -35,11 +35,10 @@ unheard chores old new (inr same) = same
 carried : {C : Type 0} (m n : Moment C) (line : List ℕ) (answer : Option Outcome) (result : Outcome) → answer ≡ None → CarriesOut no_chores m line answer n result
     → Commands m.stage n.stage line result × (n.errors ≡ m.errors)
 carried m n line (Some answered) result none same = absurd (cc none)
-carried m n line None result none does =
-    (
-      subst (λ (x : Moment _). Commands m.stage x.stage line result) (sym does.4) does.2,
-      ap (λ (x : Moment _). x.errors) does.4 ∙ unheard m.chores m.errors does.1 does.3,
-    )
+carried m n line None result none does = (
+  subst (λ (x : Moment _). Commands m.stage x.stage line result) (sym does.4) does.2,
+  ap (λ (x : Moment _). x.errors) does.4 ∙ unheard m.chores m.errors does.1 does.3,
+)
 
 commanded : {C : Type 0} (m n : Moment C) (line : List ℕ) (result : Outcome) → ServesLine no_chores m n line result
     → Commands m.stage n.stage line result × (n.errors ≡ m.errors)
