@@ -14,7 +14,7 @@ use Rattle.rv_history.specs.Due.{out}
 use Rattle.rv_history.specs.Legal.{Legal, out_load}
 use Rattle.rv_access.specs.Changes.{changed}
 use Rattle.rv_history.specs.Steps.{MayLackMemory, due_change}
-use Rattle.rv_host.specs.Pages.{page}
+use Rattle.rv_host.specs.Pages.{marked_page, page}
 use Rattle.rv_view.specs.Views.{shown}
 use Rattle.std.specs.Arc.{arc_value}
 use Rattle.rv_code.specs.Bodies as Code
@@ -101,6 +101,7 @@ Changed c log change r after =
 abbrev pub changes : Ask → Bool
 changes (Wants.Step q) = false
 changes (Wants.Read from) = false
+changes (Wants.Entries from) = false
 changes Wants.View = false
 changes Wants.Bodies = false
 changes ask = true
@@ -139,6 +140,8 @@ Due c log a (Wants.Change change) (Gives.Answered r b lent) after =
     IfOperator (a == 0) (Changed c log change r after) r log after
 Due c log a (Wants.Read from) (Gives.Read p) after = (p ≡ page (history_at c log) from) × (after ≡ log)
 Due c log a (Wants.Read from) Gives.Unread after = after ≡ log
+Due c log a (Wants.Entries from) (Gives.Entries marked) after = (marked.items ≡ marked_page (history_at c log) from) × (after ≡ log)
+Due c log a (Wants.Entries from) Gives.Unread after = after ≡ log
 Due c log a Wants.View (Gives.Viewed view) after = (view ≡ shown (history_at c log)) × (after ≡ log)
 Due c log a Wants.View Gives.Unread after = after ≡ log
 Due c log a Wants.Bodies (Gives.Bodies lent) after = IsLent log (lent_view lent) × (after ≡ log)

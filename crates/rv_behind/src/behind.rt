@@ -44,7 +44,10 @@ fn starts(answer: &Answer) -> bool {
 fn is_change(ask: &Ask) -> bool
     ensures { result ≡ changes ask.now }
 {
-    !matches!(ask, Ask::Step(_) | Ask::Read(_) | Ask::View | Ask::Bodies)
+    !matches!(
+        ask,
+        Ask::Step(_) | Ask::Read(_) | Ask::Entries(_) | Ask::View | Ask::Bodies
+    )
 }
 
 impl Behind {
@@ -148,6 +151,18 @@ impl Behind {
         }
     }
 
+    // The entries of a page. No text is made, so that others don't wait for it.
+    fn entries(&self, actor: u64, from: usize) -> Reply
+        ensures { Does self.now.host.value.limits (log_in self.now.host.value (arc_value self.now.bodies)) actor (Ask.Entries from) result (log_in self.now.host.value (arc_value self.now.bodies)) }
+    {
+        let host = &*self.host;
+        host.replays();
+        match host.marked(self.alloc, from) {
+            Ok(marked) => Reply::Entries(marked),
+            Err(_) => Reply::Unread,
+        }
+    }
+
     // What is shown.
     fn view(&self, actor: u64) -> Reply
         ensures { Does self.now.host.value.limits (log_in self.now.host.value (arc_value self.now.bodies)) actor Ask.View result (log_in self.now.host.value (arc_value self.now.bodies)) }
@@ -169,6 +184,7 @@ impl Behind {
         match ask {
             Ask::Step(request) => self.request(actor, request),
             Ask::Read(from) => self.read(actor, *from),
+            Ask::Entries(from) => self.entries(actor, *from),
             Ask::View => self.view(actor),
             Ask::Bodies => self.give_bodies(actor),
             _ => unreachable!(),

@@ -33,7 +33,7 @@ use Rattle.rv_behind.specs.declared.event.Ask.TheVariants as Wants
 use Rattle.rv_behind.specs.declared.event.Reply.{Reply}
 use Rattle.rv_behind.specs.Events.{by, history_at}
 use Rattle.rv_behind.specs.declared.event.Event.{Event}
-use Rattle.rv_behind.specs.declared.event.Event.TheVariants.{Asks, Loads, Lists}
+use Rattle.rv_behind.specs.declared.event.Event.TheVariants.{Asks}
 use Rattle.rv_accounts.specs.Explained.{ExplainedEnd, Explained}
 use Rattle.rv_accounts.specs.Seen.{asked_at}
 use Rattle.rv_accounts.proofs.Growing.{asks_grow, others_stay}

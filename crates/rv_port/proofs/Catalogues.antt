@@ -1,26 +1,19 @@
 -- The catalogue is that of the operator's own events.
 use Rattle.std.proofs.Common.{◌≡◌, ⊎_elim, ℕ, Bool, true, false, eqb, List, [], ◌∷◌, ◌++◌, reverse, if◌then◌else◌, ap, sym, refl, ◌∙◌}
 use Rattle.std.specs.Prelude.{Some, None}
-use Rattle.std.proofs.lemmas.List.{reverse-append, append-nil}
-use Rattle.atomic_table.specs.Seated.{TableId}
-use Rattle.rv_shape.specs.Shape.{Shape}
+use Rattle.std.proofs.lemmas.List.{reverse-append}
 use Rattle.rv_history.specs.declared.limits.Limits.{Limits}
-use Rattle.rv_history.specs.Legal.{Legal}
-use Rattle.rv_history.specs.History.{History}
 use Rattle.rv_turn.specs.Histories.{mine}
-use Rattle.rv_turn.specs.Passes.{opening_of}
-use Rattle.rv_code.specs.declared.body.UnitBodies.{UnitBodies}
-use Rattle.rv_behind.specs.Events.{by, log_of, shapes_of, catalogue_of}
-use Rattle.rv_behind.specs.Acting.{BodiesFit, Due}
+use Rattle.rv_behind.specs.Events.{by, shapes_of, catalogue_of}
+use Rattle.rv_behind.specs.Acting.{Due}
 use Rattle.rv_behind.specs.Adding.{MayAdd, due_adds}
-use Rattle.rv_port.specs.Controls.{IsControl, LoadsNothing}
+use Rattle.rv_port.specs.Controls.{LoadsNothing}
 use Rattle.rv_behind.specs.declared.event.Ask.{Ask}
 use Rattle.rv_behind.specs.declared.event.Ask.TheVariants as Wants
 use Rattle.rv_behind.specs.declared.event.Reply.{Reply}
 use Rattle.rv_behind.specs.declared.event.Event.{Event}
 use Rattle.rv_behind.specs.declared.event.Event.TheVariants.{Loads}
 use Rattle.rv_port.proofs.Actors.{shapes-append, catalogue-append}
-use Rattle.rv_behind.proofs.Doing.{catalogue_log}
 use Rattle.rv_behind.proofs.Fitting.{newest_first}
 
 -- What is read of a history's events is read of the operator's own, where those of others add nothing to it
@@ -50,19 +43,6 @@ catalogue_mine log = read_mine shapes_of shapes-append no_shapes log
 -- two histories with the same events of the operator have one catalogue
 pub same_catalogue : (one two : List Event) → mine by 0 one ≡ mine by 0 two → catalogue_of one ≡ catalogue_of two
 same_catalogue one two e = sym (catalogue_mine one) ∙ (ap catalogue_of e ∙ catalogue_mine two)
-
--- a new control
-pub opened : (turn : TableId) (h : History) (us : List UnitBodies) → Legal h → BodiesFit (log_of h us) → IsControl turn (opening_of turn h.limits by (log_of h us)) [] h.shapes
-opened turn h us l fit = record {
-  here = refl;
-  first = refl;
-  operator = refl;
-  given_is = refl;
-  owns = sym (append-nil (mine by 0 (log_of h us)));
-  limited = refl;
-  catalogue_is = sym (catalogue_log h us l);
-  fit = fit;
-}
 
 pub with_event : (log : List Event) (e : Event) → catalogue_of (log ++ e ∷ []) ≡ catalogue_of log ++ catalogue_of (e ∷ [])
 with_event log e = catalogue-append log (e ∷ [])

@@ -1,8 +1,11 @@
 -- What the calls of a control leave.
 use Rattle.std.proofs.Common.{◌≡◌, ℕ, Bool, true, false, eqb, List, [], ◌∷◌, ◌++◌, if◌then◌else◌, ap, sym, refl, ◌∙◌, ⊎_elim, inl, inr, map, length, arith, subst}
-use Rattle.std.specs.Prelude.{◌-◌, is_some, Some, Result, Ok, Err, MatchResult}
+use Rattle.std.specs.Prelude.{◌-◌, is_some, Option, Some, Result, Ok, Err, MatchResult}
 use Rattle.rv_turn.specs.declared.pass.Worn.{Worn}
 use Rattle.atomic_table.specs.Seated.{TableId}
+use Rattle.rv_access.specs.Words.{Words}
+use Rattle.rv_access.specs.declared.change.Change.{Change}
+use Rattle.rv_lists.specs.Kept.{with_changed}
 use Rattle.rv_shape.specs.Shape.{Shape}
 use Rattle.rv_history.specs.declared.limits.Limits.{Limits}
 use Rattle.rv_history.specs.Legal.{Legal}
@@ -22,7 +25,7 @@ use Rattle.rv_behind.proofs.Doing.{none_fit, none_numbered}
 use Rattle.rv_behind.proofs.Fitting.{stay_fit}
 use Rattle.rv_port.specs.Traces.{Passing}
 use Rattle.rv_fits.specs.Fits.{are_of}
-use Rattle.rv_port.specs.Controls.{IsControl, Told, LoadTold, BeginsWith, BringsIf, Brings, no_bodies_of, answer_in, LoadsNothing}
+use Rattle.rv_port.specs.Controls.{AreKept, IsControl, ListsNothing, Told, LoadTold, BeginsWith, BringsIf, Brings, no_bodies_of, answer_in, lists_at, LoadsNothing}
 use Rattle.rv_behind.specs.declared.event.Ask.{Ask}
 use Rattle.rv_behind.specs.declared.event.Ask.TheVariants as Wants
 use Rattle.rv_behind.specs.declared.event.Reply.{Reply}
@@ -32,17 +35,24 @@ use Rattle.rv_behind.specs.declared.event.Event.TheVariants.{Loads}
 use Rattle.rv_port.specs.Actors.{is_performer, HasHandler}
 use Rattle.rv_port.proofs.Actors.{performer_handles}
 use Rattle.rv_port.proofs.Fitting.{same_fit}
-use Rattle.rv_port.proofs.Catalogues.{same_catalogue, opened, with_event, due_catalogue}
+use Rattle.rv_port.proofs.Catalogues.{same_catalogue, with_event, due_catalogue}
+use Rattle.rv_port.proofs.Listing.{change_made, change_unmade, due_lists, kept_along, opened, same_lists}
 
 -- the catalogue of the history that an ask of the operator was answered on
-at_catalogue : (turn : TableId) (v : Passing) (given : List ℕ) (catalogue : List Shape) (log : List Event) → IsControl turn v given catalogue → mine by v.actor log ≡ v.base ++ v.own → catalogue ≡ catalogue_of log
-at_catalogue turn v given catalogue log k owned =
+pub at_catalogue : (turn : TableId) (v : Passing) (given : List ℕ) (catalogue : List Shape) (lists : Option (List (List Words))) (log : List Event) → IsControl turn v given catalogue lists → mine by v.actor log ≡ v.base ++ v.own → catalogue ≡ catalogue_of log
+at_catalogue turn v given catalogue lists log k owned =
     k.catalogue_is ∙ same_catalogue v.seen log (k.owns ∙ sym (subst (λ (n : ℕ). mine by n log ≡ v.base ++ v.own) k.operator owned))
 
+-- and the lists
+pub at_lists : (turn : TableId) (v : Passing) (given : List ℕ) (catalogue : List Shape) (lists : Option (List (List Words))) (log : List Event) → IsControl turn v given catalogue lists
+    → mine by v.actor log ≡ v.base ++ v.own → AreKept lists (lists_at log)
+at_lists turn v given catalogue lists log k owned =
+    kept_along lists (lists_at v.seen) (lists_at log) (same_lists v.seen log (k.owns ∙ sym (subst (λ (n : ℕ). mine by n log ≡ v.base ++ v.own) k.operator owned))) k.lists_are
+
 -- after an act
-acted_control : (turn : TableId) (v w : Passing) (given : List ℕ) (catalogue more : List Shape) → IsControl turn v given catalogue
-    → w ≡ record v { seen = w.seen; own = w.own; left = v.left - 1 } → mine by w.actor w.seen ≡ w.base ++ w.own → more ≡ catalogue_of w.seen → BodiesFit w.seen → IsControl turn w given more
-acted_control turn v w given catalogue more k same owns is fit =
+acted_control : (turn : TableId) (v w : Passing) (given : List ℕ) (catalogue more : List Shape) (lists newer : Option (List (List Words))) → IsControl turn v given catalogue lists
+    → w ≡ record v { seen = w.seen; own = w.own; left = v.left - 1 } → mine by w.actor w.seen ≡ w.base ++ w.own → more ≡ catalogue_of w.seen → AreKept newer (lists_at w.seen) → BodiesFit w.seen → IsControl turn w given more newer
+acted_control turn v w given catalogue more lists newer k same owns is are fit =
     let actor : w.actor ≡ 0 = ap (λ (z : Passing). z.actor) same ∙ k.operator in record {
       here = ap (λ (z : Passing). z.turn) same ∙ k.here;
       first = ap (λ (z : Passing). z.first) same ∙ k.first;
@@ -51,17 +61,25 @@ acted_control turn v w given catalogue more k same owns is fit =
       owns = subst (λ (n : ℕ). mine by n w.seen ≡ w.base ++ w.own) actor owns;
       limited = ap (λ (z : Passing). is_some z.about) same ∙ k.limited;
       catalogue_is = is;
+      lists_are = are;
       fit = fit;
     }
 
-pub act_kept : (turn : TableId) (v w : Passing) (given : List ℕ) (catalogue : List Shape) (ask : Ask) (reply : Reply) → IsControl turn v given catalogue → LoadsNothing ask → Acted by Does v ask reply w → IsControl turn w given catalogue
-act_kept turn v w given catalogue ask reply k n a =
-    acted_control turn v w given catalogue catalogue k a.same a.owns
-    (at_catalogue turn v given catalogue a.at k a.owned ∙ sym (due_catalogue a.about a.at v.actor ask reply w.seen n a.answer.2))
+-- one that changes no list
+acted_lists : (turn : TableId) (v w : Passing) (given : List ℕ) (catalogue : List Shape) (lists : Option (List (List Words))) (ask : Ask) (reply : Reply) → IsControl turn v given catalogue lists → ListsNothing ask
+    → Acted by Does v ask reply w → AreKept lists (lists_at w.seen)
+acted_lists turn v w given catalogue lists ask reply k n a =
+    kept_along lists (lists_at a.at) (lists_at w.seen) (sym (due_lists a.about a.at v.actor ask reply w.seen n a.answer.2)) (at_lists turn v given catalogue lists a.at k a.owned)
+
+pub act_kept : (turn : TableId) (v w : Passing) (given : List ℕ) (catalogue : List Shape) (lists : Option (List (List Words))) (ask : Ask) (reply : Reply) → IsControl turn v given catalogue lists → LoadsNothing ask → ListsNothing ask → Acted by Does v ask reply w → IsControl turn w given catalogue lists
+act_kept turn v w given catalogue lists ask reply k n m a =
+    acted_control turn v w given catalogue catalogue lists lists k a.same a.owns
+    (at_catalogue turn v given catalogue lists a.at k a.owned ∙ sym (due_catalogue a.about a.at v.actor ask reply w.seen n a.answer.2))
+    (acted_lists turn v w given catalogue lists ask reply k m a)
     (stay_fit a.about a.at v.actor ask reply w.seen a.answer)
 
-pub worn_kept : (turn : TableId) (v w : Passing) (given : List ℕ) (catalogue : List Shape) → IsControl turn v given catalogue → IsWorn v w → IsControl turn w given catalogue
-worn_kept turn v w given catalogue k t = subst (λ (z : Passing). IsControl turn z given catalogue) (sym t.1) k
+pub worn_kept : (turn : TableId) (v w : Passing) (given : List ℕ) (catalogue : List Shape) (lists : Option (List (List Words))) → IsControl turn v given catalogue lists → IsWorn v w → IsControl turn w given catalogue lists
+worn_kept turn v w given catalogue lists k t = subst (λ (z : Passing). IsControl turn z given catalogue lists) (sym t.1) k
 
 -- a load
 loaded_catalogue : (b : Bool) (log after : List Event) (shape : Shape) (unit : UnitBodies) → after ≡ (if b then log ++ Loads shape (Some unit) ∷ [] else log)
@@ -86,13 +104,35 @@ load_due c log a shape unit (Gives.Answered r b lent) after none d =
     if_catalogue (fits_behind log shape (held unit)) c log after shape (held unit) r (subst (λ (n : ℕ). IfOperator (eqb n 0) (LoadedIf (fits_behind log shape (held unit)) c log shape (held unit) r after) r log after) none d)
 load_due c log a shape unit reply after none d = absurd d
 
-pub load_told : (turn : TableId) (v w : Passing) (given : List ℕ) (catalogue : List Shape) (shape : Shape) (unit : SharedUnit) (r : Answer) → IsControl turn v given catalogue → Told v (Wants.Load shape unit) r w
-    → IsControl turn w given (with_loaded (is_some (recorded r)) catalogue shape)
-load_told turn v w given catalogue shape unit r k t = let a = t.2 in
-    acted_control turn v w given catalogue (with_loaded (is_some (recorded r)) catalogue shape) k a.same a.owns
-    ((λ i. with_loaded (is_some (recorded (t.1 i))) (at_catalogue turn v given catalogue a.at k a.owned i) shape)
+pub load_told : (turn : TableId) (v w : Passing) (given : List ℕ) (catalogue : List Shape) (lists : Option (List (List Words))) (shape : Shape) (unit : SharedUnit) (r : Answer) → IsControl turn v given catalogue lists → Told v (Wants.Load shape unit) r w
+    → IsControl turn w given (with_loaded (is_some (recorded r)) catalogue shape) lists
+load_told turn v w given catalogue lists shape unit r k t = let a = t.2 in
+    acted_control turn v w given catalogue (with_loaded (is_some (recorded r)) catalogue shape) lists lists k a.same a.owns
+    ((λ i. with_loaded (is_some (recorded (t.1 i))) (at_catalogue turn v given catalogue lists a.at k a.owned i) shape)
     ∙ sym (load_due a.about a.at v.actor shape unit t.0 w.seen k.operator a.answer.2))
+    (acted_lists turn v w given catalogue lists (Wants.Load shape unit) t.0 k tt a)
     (stay_fit a.about a.at v.actor (Wants.Load shape unit) t.0 w.seen a.answer)
+
+-- a change of the list, which was accepted, and one that wasn't
+pub change_more : (turn : TableId) (v w : Passing) (given : List ℕ) (catalogue : List Shape) (lists newer : Option (List (List Words))) (change : Change) (r : Answer) → IsControl turn v given catalogue lists
+    → Told v (Wants.Change change) r w → is_some (recorded r) ≡ true → ((before : List (List Words)) → AreKept lists before → AreKept newer (with_changed before change)) → IsControl turn w given catalogue newer
+change_more turn v w given catalogue lists newer change r k t e keeps = let a = t.2 in
+    acted_control turn v w given catalogue catalogue lists newer k a.same a.owns
+    (at_catalogue turn v given catalogue lists a.at k a.owned ∙ sym (due_catalogue a.about a.at v.actor (Wants.Change change) t.0 w.seen tt a.answer.2))
+    (kept_along newer (with_changed (lists_at a.at) change) (lists_at w.seen)
+    (sym (change_made a.about a.at v.actor change t.0 w.seen k.operator (ap (λ (z : Answer). is_some (recorded z)) (sym t.1) ∙ e) a.answer.2))
+    (keeps (lists_at a.at) (at_lists turn v given catalogue lists a.at k a.owned)))
+    (stay_fit a.about a.at v.actor (Wants.Change change) t.0 w.seen a.answer)
+
+pub change_same : (turn : TableId) (v w : Passing) (given : List ℕ) (catalogue : List Shape) (lists : Option (List (List Words))) (change : Change) (r : Answer) → IsControl turn v given catalogue lists
+    → Told v (Wants.Change change) r w → is_some (recorded r) ≡ false → IsControl turn w given catalogue lists
+change_same turn v w given catalogue lists change r k t e = let a = t.2 in
+    acted_control turn v w given catalogue catalogue lists lists k a.same a.owns
+    (at_catalogue turn v given catalogue lists a.at k a.owned ∙ sym (due_catalogue a.about a.at v.actor (Wants.Change change) t.0 w.seen tt a.answer.2))
+    (kept_along lists (lists_at a.at) (lists_at w.seen)
+    (sym (change_unmade a.about a.at v.actor change t.0 w.seen k.operator (ap (λ (z : Answer). is_some (recorded z)) (sym t.1) ∙ e) a.answer.2))
+    (at_lists turn v given catalogue lists a.at k a.owned))
+    (stay_fit a.about a.at v.actor (Wants.Change change) t.0 w.seen a.answer)
 
 -- the bodies of a load, told otherwise
 pub load_such : (v w : Passing) (shape : Shape) (P Q : UnitBodies → Type 0) (r : Answer) → ((u : UnitBodies) → P u → Q u) → LoadTold v shape P r w → LoadTold v shape Q r w
@@ -111,8 +151,8 @@ pub brings_none : (shapes : List Shape) (shape : Shape) (given unit : UnitBodies
 brings_none shapes shape given unit e is = subst (λ (b : Bool). BringsIf b shape given unit) (sym e) is
 
 -- a port is given
-pub port_kept : (turn : TableId) (v w p : Passing) (given : List ℕ) (catalogue : List Shape) (actor acts : ℕ) → IsControl turn v given catalogue → Parted by v actor acts w p → IsControl turn w (actor ∷ given) catalogue
-port_kept turn v w p given catalogue actor acts k t =
+pub port_kept : (turn : TableId) (v w p : Passing) (given : List ℕ) (catalogue : List Shape) (lists : Option (List (List Words))) (actor acts : ℕ) → IsControl turn v given catalogue lists → Parted by v actor acts w p → IsControl turn w (actor ∷ given) catalogue lists
+port_kept turn v w p given catalogue lists actor acts k t =
     let zero : w.actor ≡ 0 = ap (λ (z : Passing). z.actor) t.rest ∙ k.operator in
     let base : w.base ≡ v.base = ap (λ (z : Passing). z.base) t.rest in
     let own : w.own ≡ v.own = ap (λ (z : Passing). z.own) t.rest in
@@ -124,18 +164,19 @@ port_kept turn v w p given catalogue actor acts k t =
       owns = owned ∙ sym (λ i. base i ++ own i);
       limited = ap (λ (z : Passing). is_some z.about) t.rest ∙ k.limited;
       catalogue_is = k.catalogue_is ∙ same_catalogue v.seen w.seen (k.owns ∙ sym owned);
+      lists_are = kept_along lists (lists_at v.seen) (lists_at w.seen) (same_lists v.seen w.seen (k.owns ∙ sym owned)) k.lists_are;
       fit = same_fit v.seen w.seen (k.owns ∙ sym owned) k.fit;
     }
 
-pub act_or_worn : (turn : TableId) (v w : Passing) (given : List ℕ) (catalogue : List Shape) (ask : Ask) (answer : Result Reply Worn) → IsControl turn v given catalogue → LoadsNothing ask
-    → MatchResult answer (λ r. Acted by Does v ask r w) (λ _. IsWorn v w) → IsControl turn w given catalogue
-act_or_worn turn v w given catalogue ask (Ok r) k n t = act_kept turn v w given catalogue ask r k n t
-act_or_worn turn v w given catalogue ask (Err e) k n t = worn_kept turn v w given catalogue k t
+pub act_or_worn : (turn : TableId) (v w : Passing) (given : List ℕ) (catalogue : List Shape) (lists : Option (List (List Words))) (ask : Ask) (answer : Result Reply Worn) → IsControl turn v given catalogue lists → LoadsNothing ask → ListsNothing ask
+    → MatchResult answer (λ r. Acted by Does v ask r w) (λ _. IsWorn v w) → IsControl turn w given catalogue lists
+act_or_worn turn v w given catalogue lists ask (Ok r) k n m t = act_kept turn v w given catalogue lists ask r k n m t
+act_or_worn turn v w given catalogue lists ask (Err e) k n m t = worn_kept turn v w given catalogue lists k t
 
-pub opened_by : (turn : TableId) (pass : Passing) (given : List ℕ) (catalogue : List Shape) (h : History) (us : List UnitBodies) → Legal h → BodiesFit (log_of h us) → pass ≡ opening_of turn h.limits by (log_of h us) → given ≡ [] → catalogue ≡ h.shapes
-    → IsControl turn pass given catalogue
-opened_by turn pass given catalogue h us l fit is none same =
-    subst (λ (z : Passing × List ℕ × List Shape). IsControl turn z.0 z.1 z.2) (λ i. (sym is i, sym none i, sym same i)) (opened turn h us l fit)
+pub opened_by : (turn : TableId) (pass : Passing) (given : List ℕ) (catalogue : List Shape) (lists : List (List Words)) (h : History) (us : List UnitBodies) → Legal h → BodiesFit (log_of h us) → pass ≡ opening_of turn h.limits by (log_of h us) → given ≡ [] → catalogue ≡ h.shapes → lists ≡ h.lists
+    → IsControl turn pass given catalogue (Some lists)
+opened_by turn pass given catalogue lists h us l fit is none same kept =
+    subst (λ (z : Passing × List ℕ × List Shape × List (List Words)). IsControl turn z.0 z.1 z.2 (Some z.3)) (λ i. (sym is i, sym none i, sym same i, sym kept i)) (opened turn h us l fit)
 
 -- the opening view of this host, behind whatever it stands
 pub opens_on : (turn : TableId) (pass : Passing) (h k : History) (b d : Bodies) → h ≡ k → b ≡ d → pass ≡ opening_of turn h.limits by (log_in h b) → pass ≡ opening_of turn k.limits by (log_in k d)
@@ -157,28 +198,28 @@ as_many (u ∷ us) (s ∷ ss) e = let more = as_many us ss (ap rest_of e) in ome
 pub none_brought : (h : History) (bodies : Bodies) → map unit_view (units_of bodies) ≡ map no_bodies_of h.shapes → AreBrought h bodies
 none_brought h bodies none = record { count = as_many (units_of bodies) h.shapes none; numbered = none_numbered h.shapes bodies none; fit = none_fit h.shapes h.shapes bodies none }
 
-pub load_more : (turn : TableId) (v w : Passing) (given : List ℕ) (catalogue more : List Shape) (shape : Shape) (unit : SharedUnit) (r : Answer) → IsControl turn v given catalogue → Told v (Wants.Load shape unit) r w
-    → is_some (recorded r) ≡ true → more ≡ catalogue ++ shape ∷ [] → IsControl turn w given more
-load_more turn v w given catalogue more shape unit r k t e is =
-    subst (λ (z : List Shape). IsControl turn w given z) (ap (λ (b : Bool). with_loaded b catalogue shape) e ∙ sym is) (load_told turn v w given catalogue shape unit r k t)
+pub load_more : (turn : TableId) (v w : Passing) (given : List ℕ) (catalogue more : List Shape) (lists : Option (List (List Words))) (shape : Shape) (unit : SharedUnit) (r : Answer) → IsControl turn v given catalogue lists → Told v (Wants.Load shape unit) r w
+    → is_some (recorded r) ≡ true → more ≡ catalogue ++ shape ∷ [] → IsControl turn w given more lists
+load_more turn v w given catalogue more lists shape unit r k t e is =
+    subst (λ (z : List Shape). IsControl turn w given z lists) (ap (λ (b : Bool). with_loaded b catalogue shape) e ∙ sym is) (load_told turn v w given catalogue lists shape unit r k t)
 
-pub load_same : (turn : TableId) (v w : Passing) (given : List ℕ) (catalogue : List Shape) (shape : Shape) (unit : SharedUnit) (r : Answer) → IsControl turn v given catalogue → Told v (Wants.Load shape unit) r w
-    → is_some (recorded r) ≡ false → IsControl turn w given catalogue
-load_same turn v w given catalogue shape unit r k t e =
-    subst (λ (z : List Shape). IsControl turn w given z) (ap (λ (b : Bool). with_loaded b catalogue shape) e) (load_told turn v w given catalogue shape unit r k t)
+pub load_same : (turn : TableId) (v w : Passing) (given : List ℕ) (catalogue : List Shape) (lists : Option (List (List Words))) (shape : Shape) (unit : SharedUnit) (r : Answer) → IsControl turn v given catalogue lists → Told v (Wants.Load shape unit) r w
+    → is_some (recorded r) ≡ false → IsControl turn w given catalogue lists
+load_same turn v w given catalogue lists shape unit r k t e =
+    subst (λ (z : List Shape). IsControl turn w given z lists) (ap (λ (b : Bool). with_loaded b catalogue shape) e) (load_told turn v w given catalogue lists shape unit r k t)
 
-pub port_handles : (turn : TableId) (v w p : Passing) (given : List ℕ) (catalogue : List Shape) (actor acts : ℕ) → IsControl turn v given catalogue → Parted by v actor acts w p → is_performer catalogue actor ≡ true
+pub port_handles : (turn : TableId) (v w p : Passing) (given : List ℕ) (catalogue : List Shape) (lists : Option (List (List Words))) (actor acts : ℕ) → IsControl turn v given catalogue lists → Parted by v actor acts w p → is_performer catalogue actor ≡ true
     → HasHandler (catalogue_of p.seen) p.actor
-port_handles turn v w p given catalogue actor acts k t e =
-    let after : IsControl turn w (actor ∷ given) catalogue = port_kept turn v w p given catalogue actor acts k t in
+port_handles turn v w p given catalogue lists actor acts k t e =
+    let after : IsControl turn w (actor ∷ given) catalogue lists = port_kept turn v w p given catalogue lists actor acts k t in
     subst (λ (z : List Shape × ℕ). HasHandler z.0 z.1)
     (λ i. ((after.catalogue_is ∙ sym (ap (λ (z : Passing). catalogue_of z.seen) t.new_is)) i, sym (ap (λ (z : Passing). z.actor) t.new_is) i)) (performer_handles catalogue actor e)
 
 -- a port has the control's limits
-pub port_limited : (turn : TableId) (v w p : Passing) (given : List ℕ) (catalogue : List Shape) (actor acts : ℕ) → IsControl turn v given catalogue → Parted by v actor acts w p → is_some p.about ≡ true
-port_limited turn v w p given catalogue actor acts k t = ap (λ (z : Passing). is_some z.about) t.new_is ∙ k.limited
+pub port_limited : (turn : TableId) (v w p : Passing) (given : List ℕ) (catalogue : List Shape) (lists : Option (List (List Words))) (actor acts : ℕ) → IsControl turn v given catalogue lists → Parted by v actor acts w p → is_some p.about ≡ true
+port_limited turn v w p given catalogue lists actor acts k t = ap (λ (z : Passing). is_some z.about) t.new_is ∙ k.limited
 
 -- and has seen what the control had
-pub port_fits : (turn : TableId) (v w p : Passing) (given : List ℕ) (catalogue : List Shape) (actor acts : ℕ) → IsControl turn v given catalogue → Parted by v actor acts w p → BodiesFit p.seen
-port_fits turn v w p given catalogue actor acts k t =
-    subst (λ (z : Passing). BodiesFit z.seen) (sym t.new_is) (port_kept turn v w p given catalogue actor acts k t).fit
+pub port_fits : (turn : TableId) (v w p : Passing) (given : List ℕ) (catalogue : List Shape) (lists : Option (List (List Words))) (actor acts : ℕ) → IsControl turn v given catalogue lists → Parted by v actor acts w p → BodiesFit p.seen
+port_fits turn v w p given catalogue lists actor acts k t =
+    subst (λ (z : Passing). BodiesFit z.seen) (sym t.new_is) (port_kept turn v w p given catalogue lists actor acts k t).fit

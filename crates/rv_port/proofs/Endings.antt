@@ -1,5 +1,5 @@
 -- How texts end: what a run is told by, and that one which was stopped was so by one of its requests.
-use Rattle.std.proofs.Common.{◌≡◌, ℕ, ◌∷◌, [], ◌++◌, Bool, true, false, Option, Some, None, refl, sym, ap, ◌∙◌, subst, inl, inr, ⊎_elim}
+use Rattle.std.proofs.Common.{◌≡◌, ℕ, ◌∷◌, [], ◌++◌, Bool, true, Option, Some, None, refl, sym, ap, ◌∙◌, subst, inl, inr, ⊎_elim}
 use Rattle.std.specs.Prelude.{is_some}
 use Rattle.rv_code.specs.Bodies.{Body, UnitBodies}
 use Rattle.rv_event.specs.declared.entry.Answer.{Answer}

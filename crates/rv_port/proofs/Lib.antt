@@ -13,9 +13,11 @@ pub mod Ending
 pub mod Tying
 pub mod Operators
 pub mod Catalogues
+pub mod Listing
 pub mod Bodies
 pub mod Fitting
 pub mod Controls
+pub mod Pages
 pub mod Closings
 pub mod Texts
 pub mod Sends

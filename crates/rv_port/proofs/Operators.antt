@@ -1,6 +1,6 @@
 -- The operator's own events.
 use Rattle.std.proofs.Common.{◌≡◌, ℕ, ◌+◌, ◌<◌, ◌≤◌, Bool, true, false, eqb, List, [], ◌∷◌, ◌++◌, reverse, if◌then◌else◌, ap, sym, refl, ◌∙◌, eq-eqb, ⊎_elim, length, arith}
-use Rattle.std.specs.Prelude.{◌||◌}
+use Rattle.std.specs.Prelude.{◌||◌, Option}
 use Rattle.std.proofs.lemmas.Bool.{ne_eqb}
 use Rattle.std.proofs.lemmas.List.{reverse-append}
 use Rattle.atomic_table.specs.Seated.{TableId}
@@ -95,8 +95,8 @@ front_kept [] ys h = refl
 front_kept (x ∷ xs) ys h = let own = own_if (eqb (by x) 0) x (mine by 0 (xs ++ ys)) (xs ++ ys) (length_mine (xs ++ ys)) h in
     mine_if (eqb (by x) 0) x (mine by 0 xs) own.0 ∙ ap (λ (l : List Event). x ∷ l) (front_kept xs ys own.1)
 
-pub keeps_of : (turn : TableId) (pass : Passing) (given : List ℕ) (catalogue : List Shape) → IsControl turn pass given catalogue → IsOperators pass
-keeps_of turn pass given catalogue k = record {
+pub keeps_of : (turn : TableId) (pass : Passing) (given : List ℕ) (catalogue : List Shape) (lists : Option (List (List Words))) → IsControl turn pass given catalogue lists → IsOperators pass
+keeps_of turn pass given catalogue lists k = record {
   first = k.first;
   actor = k.operator;
   limited = k.limited;

@@ -1,5 +1,5 @@
 -- The bodies that a text runs by, and what it leaves.
-use Rattle.std.proofs.Common.{◌≡◌, ℕ, Bool, ◌-◌, List, [], ◌∷◌, refl, sym, ap, ◌∙◌, subst, inr, ⊎_elim, arith, append-nil}
+use Rattle.std.proofs.Common.{◌≡◌, ℕ, Bool, ◌-◌, List, [], ◌∷◌, refl, sym, ap, ◌∙◌, subst, ⊎_elim, arith, append-nil}
 use Rattle.std.specs.Prelude.{Option}
 use Rattle.rv_event.specs.declared.entry.Exit.{Exit}
 use Rattle.rv_turn.specs.Passes.{Acted}

@@ -1,6 +1,7 @@
 -- What the control of a host behind a turn gives out. (own)
-use Rattle.std.specs.Prelude.{◌≡◌, ◌⊎◌, ℕ, map, is_some, ◌<◌, ◌≤◌, Bool, true, false, ◌==◌, ◌||◌, List, [], ◌∷◌, ◌++◌}
+use Rattle.std.specs.Prelude.{◌≡◌, ◌⊎◌, ℕ, map, reverse, is_some, ◌<◌, ◌≤◌, Bool, true, false, ◌==◌, ◌||◌, List, [], ◌∷◌, ◌++◌, Option, Some}
 use Rattle.atomic_table.specs.Seated.{TableId}
+use Rattle.rv_access.specs.Words.{Words}
 use Rattle.rv_shape.specs.Shape.{Shape}
 use Rattle.rv_event.specs.declared.entry.Entry.{Entry}
 use Rattle.rv_event.specs.declared.entry.Entry.TheVariants.{Asked, Load, ListChange}
@@ -15,7 +16,8 @@ use Rattle.rv_fits.specs.Fits.{are_of}
 use Rattle.rv_exec.specs.Bodies.{held}
 use Rattle.rv_exec.specs.declared.bodies.SharedUnit.{SharedUnit}
 use Rattle.rv_history.specs.History.{History}
-use Rattle.rv_behind.specs.Events.{by, log_of, catalogue_of}
+use Rattle.rv_host.specs.Pages.{item_by, Item}
+use Rattle.rv_behind.specs.Events.{by, log_of, catalogue_of, lists_of}
 use Rattle.rv_behind.specs.declared.event.Event.{Event}
 use Rattle.rv_behind.specs.Acting.{BodiesFit, Does}
 use Rattle.rv_port.specs.Actors.{is_performer}
@@ -59,10 +61,11 @@ pub record IsGiven (control : Passing) (actor : ℕ) (after port : Passing) : Ty
   pub performer : is_performer (catalogue_of control.seen) actor ≡ true
   pub parted : Parted by control actor port_acts after port
 
--- the answer in a reply; a page, a view and bodies have none (own)
+-- the answer in a reply; a page, its entries, a view and bodies have none (own)
 abbrev pub answer_in : Reply → Answer
 answer_in (Gives.Answered answer begun lent) = answer
 answer_in (Gives.Read page) = Misuse
+answer_in (Gives.Entries marked) = Misuse
 answer_in Gives.Unread = Misuse
 answer_in (Gives.Viewed view) = Misuse
 answer_in (Gives.Bodies lent) = Misuse
@@ -71,6 +74,24 @@ answer_in (Gives.Bodies lent) = Misuse
 abbrev pub LoadsNothing : Ask → Type 0
 LoadsNothing (Ask.Load shape unit) = ⊥
 LoadsNothing ask = Unit {0}
+
+-- an ask that changes no list (own)
+abbrev pub ListsNothing : Ask → Type 0
+ListsNothing (Ask.Change change) = ⊥
+ListsNothing ask = Unit {0}
+
+-- the lists that were in force in a turn's history, in order (own)
+abbrev pub lists_at : List Event → List (List Words)
+lists_at log = lists_of (reverse log)
+
+-- where a control keeps lists, they are these (own)
+abbrev pub AreKept : Option (List (List Words)) → List (List Words) → Type 0
+AreKept kept lists = (some : List (List Words)) → kept ≡ Some some → some ≡ lists
+
+-- the page that entries make with the names and the lists that they are read by (own)
+abbrev pub IsWorded : List Shape → List (List Words) → Reply → List Item → Type 0
+IsWorded shapes lists (Gives.Entries marked) items = items ≡ map (item_by shapes lists) marked.items
+IsWorded shapes lists reply items = ⊥
 
 -- An answer to an ask of the operator: it is due on a legal history that begins with all that was seen. (own)
 abbrev pub Told : Passing → Ask → Answer → Passing → Type 0
@@ -101,9 +122,9 @@ BeginsWith h log = (units : List UnitBodies) × (map unit_view units ≡ map no_
 abbrev pub IsControlOf : History → Passing → Type 0
 IsControlOf host control = BeginsWith host control.seen × (control ≡ opening_of control.turn host.limits by control.seen)
 
--- The pass of a control is the first of its turn; the control knows who was given a port, and the catalogue; the calls of all
--- bodies fit the units. (own)
-pub record IsControl (turn : TableId) (pass : Passing) (given : List ℕ) (catalogue : List Shape) : Type 0 where
+-- The pass of a control is the first of its turn; the control knows who was given a port, the catalogue, and the lists, where it
+-- keeps any; the calls of all bodies fit the units. (own)
+pub record IsControl (turn : TableId) (pass : Passing) (given : List ℕ) (catalogue : List Shape) (lists : Option (List (List Words))) : Type 0 where
   pub here : pass.turn ≡ turn
   pub first : pass.first ≡ true
   pub operator : pass.actor ≡ 0
@@ -111,6 +132,7 @@ pub record IsControl (turn : TableId) (pass : Passing) (given : List ℕ) (catal
   pub owns : mine by 0 pass.seen ≡ pass.base ++ pass.own
   pub limited : is_some pass.about ≡ true
   pub catalogue_is : catalogue ≡ catalogue_of pass.seen
+  pub lists_are : AreKept lists (lists_at pass.seen)
   pub fit : BodiesFit pass.seen
 
 -- What every control keeps: it is the operator's, its limits are known, and its own events are the operator's in all that it has seen, behind those

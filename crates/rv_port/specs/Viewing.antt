@@ -1,5 +1,4 @@
 -- What the operator is shown. (own)
-use Rattle.std.specs.Prelude.{◌≡◌}
 use Rattle.rv_behind.specs.Acting.{Does}
 use Rattle.rv_behind.specs.Events.{by}
 use Rattle.rv_behind.specs.declared.event.Ask.{Ask}

@@ -1,7 +1,6 @@
 use Rattle.std.proofs.Common.{refl, sym, ap, subst, ◌∙◌}
 use Rattle.std.specs.Arc.{arc_value}
 use Rattle.rv_exec.specs.Bodies.{units_of}
-use Rattle.rv_history.specs.History.{History}
 use Rattle.rv_history.specs.Legal.{Legal}
 use Rattle.rv_view.specs.Views.{shown}
 use Rattle.rv_behind.proofs.Zips.{rebuilt}

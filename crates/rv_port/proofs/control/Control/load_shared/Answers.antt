@@ -9,7 +9,7 @@ use Rattle.rv_port.proofs.control.Control.load_shared.Goals as goal
 
 pub invariant_of-self-then-is_none : goal.invariant_of-self-then-is_none
 invariant_of-self-then-is_none g c = let no : is_some (recorded c.heard-answer.result) ≡ false = search (rules, tests) in
-    load_same _ _ _ _ _ c.args.shape c.args.unit c.heard-answer.result c.self.invariant (c.in_ok-reply.reply, c.heard-answer.ensures, c.in_ok-reply.ensures) no
+    load_same _ _ _ _ _ _ c.args.shape c.args.unit c.heard-answer.result c.self.invariant (c.in_ok-reply.reply, c.heard-answer.ensures, c.in_ok-reply.ensures) no
 
 pub returns-then-is_none : goal.returns-then-is_none
 returns-then-is_none g c =
@@ -17,11 +17,11 @@ returns-then-is_none g c =
 
 pub invariant_of-self-2 : goal.invariant_of-self-2
 invariant_of-self-2 g c = let is : is_some (recorded c.heard-answer.result) ≡ true = search (rules, tests) in
-    load_more _ _ _ _ _ _ c.args.shape c.args.unit c.heard-answer.result c.self.invariant (c.in_ok-reply.reply, c.heard-answer.ensures, c.in_ok-reply.ensures) is c.in-Some.ensures
+    load_more _ _ _ _ _ _ _ c.args.shape c.args.unit c.heard-answer.result c.self.invariant (c.in_ok-reply.reply, c.heard-answer.ensures, c.in_ok-reply.ensures) is c.in-Some.ensures
 
 pub returns : goal.returns
 returns g c =
     inl (c.args.unit, refl, subst (λ (v : Passing). Told v (Wants.Load c.args.shape c.args.unit) c.heard-answer.result c.act.new.self) c.self.view_is (c.in_ok-reply.reply, c.heard-answer.ensures, c.in_ok-reply.ensures))
 
 pub invariant_of-self : goal.invariant_of-self
-invariant_of-self g c = worn_kept _ _ _ _ _ c.self.invariant c.in_err-reply.ensures
+invariant_of-self g c = worn_kept _ _ _ _ _ _ c.self.invariant c.in_err-reply.ensures
