@@ -100,6 +100,9 @@ read_past nodes (suc i) lt e =
       | inr w ↦ slice_get_past (trees_of nodes) i (let p = w.0 in omega (arith, l, p))
     ]
 
+pub read_backward : (nodes : List Node) (number : ℕ) (n : Node) → IsTable nodes → slice_get nodes (number - 1) ≡ Some n → IsBackward (number - 1) n
+read_backward nodes number n h e = h (number - 1) n e
+
 -- a node more
 pub table_more : (nodes : List Node) (n : Node) → IsTable nodes → IsBackward (length nodes) n → IsTable (nodes ++ n ∷ [])
 table_more nodes n h b i m e =

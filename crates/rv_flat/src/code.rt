@@ -1,6 +1,6 @@
 //! The table of a unit's code.
 
-ghost use Rattle.std.specs.Prelude.{◌≡◌, ◌≤◌, Some, None, [], IfOk, IfSome, IsNone, length};
+ghost use Rattle.std.specs.Prelude.{◌≡◌, ◌≤◌, ◌-◌, Some, None, [], IfOk, IfSome, IsNone, length};
 ghost use Rattle.rv_flat.specs.Trees.{IsBackward, IsAdded, IsTable, trees_of, tree_at, tree_of};
 
 use rv_code::{Callee, Choice, ExceptionChoice, Operator, Prefix, Target};
@@ -169,11 +169,12 @@ impl Code {
         })
     }
 
-    #[tactic(auto, using(crate::proofs::Tables::read, crate::proofs::Tables::read_past))]
-    /// The node of a number, or `None` where there is none.
+    #[tactic(auto, using(crate::proofs::Tables::read, crate::proofs::Tables::read_past, crate::proofs::Tables::read_backward))]
+    /// The node of a number, or `None` where there is none. Its children have smaller numbers.
     pub fn node(&self, number: usize) -> Option<Node>
         ensures found { IfSome result (λ node. tree_at (trees_of self.now.nodes.items) number ≡ Some (tree_of (trees_of self.now.nodes.items) node)) }
         ensures none { IsNone result → tree_at (trees_of self.now.nodes.items) number ≡ None }
+        ensures backward { IfSome result (λ node. IsBackward (number - 1) node) }
     {
         if number < 1 {
             return None;

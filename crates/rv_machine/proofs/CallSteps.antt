@@ -1,5 +1,5 @@
 -- Calls, and the bodies that they begin.
-use Rattle.std.proofs.Common.{◌≡◌, ◌<◌, ◌+◌, ◌*◌, refl, sym, ap, subst, ◌∙◌, arith, ℕ, suc, ◌-◌, ℤ, pos, List, ◌∷◌, replicate, Bool, true, false, Option, Some, None, Ok, Err}
+use Rattle.std.proofs.Common.{◌≡◌, ◌<◌, ◌≤◌, ◌+◌, ◌*◌, max, refl, sym, ap, subst, ◌∙◌, arith, ℕ, suc, ◌-◌, ℤ, pos, List, ◌∷◌, replicate, Bool, true, false, Option, Some, None, Ok, Err}
 use Rattle.std.specs.Prelude.{reverse}
 use Rattle.rv_event.specs.declared.entry.Exception.TheVariants.{ProgramError}
 use Rattle.rv_event.specs.declared.entry.Exit.{Exit}
@@ -25,12 +25,14 @@ use Rattle.rv_frames.proofs.AtOnce.{calls_at_once}
 use Rattle.rv_frames.proofs.Rests.{calls_rest}
 use Rattle.rv_machine.proofs.Meetings.{taken_up}
 use Rattle.rv_machine.proofs.Steps.{one_less}
+use Rattle.rv_machine.proofs.HeightsLeft.{called_high, called_rise, operation_height}
 use Rattle.rv_machine.proofs.MovesLeft.{called_least, called_more, called_grow, operation_moves}
 use Rattle.rv_machine.specs.declared.frame.Frame as m
 use Rattle.rv_machine.specs.declared.frame.Frame.TheVariants as frame
 use Rattle.rv_machine.specs.declared.machine.Machine.{Machine}
 use Rattle.rv_machine.specs.declared.pile.Pile.{Pile}
 use Rattle.rv_machine.specs.declared.stack.Stack.{Stack}
+use Rattle.rv_machine.specs.Heights.{body_height, called_height, weight, waiting_height}
 use Rattle.rv_machine.specs.Machines.{MovesTo}
 use Rattle.rv_machine.specs.Moves.{called_moves, body_moves, level, waiting_moves}
 use Rattle.rv_machine.specs.Points.{MovesOn, Apart}
@@ -42,6 +44,7 @@ pub then_to : (u : FlatUnit) (from : Control) (before : List Frame) (s : Setting
 then_to u from before s to after t new one other = record {
   same = one.same ∙ other.same;
   less = let a = one.less in let b = other.less in omega (arith, a, b);
+  low = λ weigh. let a = one.low weigh in let b = other.low weigh in omega (arith, a, b);
 }
 
 -- what a frame that is put on top of the others stands for
@@ -84,11 +87,11 @@ completing_on u old new is_function t on same =
 -- what waits below a call doesn't look at the setting of the body that is called
 apart_resuming : (bodies : UnitBodies) (t : Setting) (a : Activation) (fs : List Frame) → Apart bodies (resuming t a ∷ fs)
 unfolding denoted
-apart_resuming bodies t a fs = record { same = λ r s now. refl; left = λ n k. refl }
+apart_resuming bodies t a fs = record { same = λ r s now. refl; left = λ n k. refl; low = λ one n k. refl }
 
 pub apart_completing : (bodies : UnitBodies) (is_function : Bool) (t : Setting) (fs : List Frame) → Apart bodies (completing is_function t ∷ fs)
 unfolding denoted
-apart_completing bodies is_function t fs = record { same = λ r s now. refl; left = λ n k. refl }
+apart_completing bodies is_function t fs = record { same = λ r s now. refl; left = λ n k. refl; low = λ one n k. refl }
 
 -- a body begins, or there is none
 pub enter_overruns : (u : FlatUnit) (s : Setting) (operation : ℕ) (values components : List ℤ) (steps : ℕ) (fs : List Frame)
@@ -96,6 +99,7 @@ pub enter_overruns : (u : FlatUnit) (s : Setting) (operation : ℕ) (values comp
 enter_overruns u s operation values components steps fs none = record {
   same = (calls_at_once (flat_view u) fs s).too_deep operation values components steps none;
   less = let l = called_least (flat_view u) (level s) in omega (arith, l);
+  low = λ one. omega arith;
 }
 
 pub enter_bodiless : (u : FlatUnit) (s : Setting) (operation : ℕ) (values components : List ℤ) (steps : ℕ) (fs : List Frame)
@@ -104,6 +108,7 @@ pub enter_bodiless : (u : FlatUnit) (s : Setting) (operation : ℕ) (values comp
 enter_bodiless u s operation values components steps fs some none = record {
   same = (calls_at_once (flat_view u) fs s).no_body operation values components steps (s.nested - 1) (one_less s.nested some) none;
   less = let l = called_least (flat_view u) (level s) in omega (arith, l);
+  low = λ one. omega arith;
 }
 
 begins_less : (bodies : UnitBodies) (s : Setting) (operation : ℕ) (body : Body) (fs : List Frame)
@@ -116,6 +121,18 @@ begins_less bodies s operation body fs some found apart =
     let more = called_more bodies (level (inner_setting s (s.nested - 1))) in
     let is_among = operation_moves (called_moves bodies (level (inner_setting s (s.nested - 1)))) bodies s.object operation body found in
     let same = apart.left (level (inner_setting s (s.nested - 1))) (level s) in
+    omega (arith, call, more, is_among, same)
+
+begins_low : (bodies : UnitBodies) (s : Setting) (operation : ℕ) (body : Body) (fs : List Frame) (one : ℕ)
+    → s.nested ≡ suc (s.nested - 1) → operation_of bodies s.object operation ≡ Some body → Apart bodies fs
+    → max (weight one fs + body_height one (called_height one bodies (level (inner_setting s (s.nested - 1)))) body) (waiting_height one bodies fs (level (inner_setting s (s.nested - 1))))
+    ≤ max (weight one fs + called_height one bodies (level s)) (waiting_height one bodies fs (level s))
+begins_low bodies s operation body fs one some found apart =
+    let up : level s ≡ suc (level (inner_setting s (s.nested - 1))) = omega (arith, some) in
+    let call : called_height one bodies (level s) ≡ called_height one bodies (suc (level (inner_setting s (s.nested - 1)))) = ap (λ (n : ℕ). called_height one bodies n) up in
+    let more = called_high one bodies (level (inner_setting s (s.nested - 1))) in
+    let is_among = operation_height one (called_height one bodies (level (inner_setting s (s.nested - 1)))) bodies s.object operation body found in
+    let same = apart.low one (level (inner_setting s (s.nested - 1))) (level s) in
     omega (arith, call, more, is_among, same)
 
 pub enter_begins : (u : FlatUnit) (s t : Setting) (operation : ℕ) (values components : List ℤ) (steps : ℕ) (x : Activation) (body : Body) (fs gs after : List Frame)
@@ -131,6 +148,7 @@ enter_begins u s t operation values components steps x body fs gs after some fou
     let base : MovesOn (flat_view u) (enters operation values components steps) fs s (declares body.declarations (opened (bound body.parameters 0 0 values (replicate 132 (pos 0))) components steps 0)) (opening body.statements body.handlers ∷ closing body ∷ fs) (inner_setting s (s.nested - 1)) = record {
       same = (calls_at_once (flat_view u) fs s).body operation values components steps (s.nested - 1) body (one_less s.nested some) found (λ now. apart.same s (inner_setting s (s.nested - 1)) now);
       less = omega (arith, fewer);
+      low = λ one. let lower = begins_low (flat_view u) s operation body fs one (one_less s.nested some) found apart in omega (arith, lower);
     } in
     subst (λ (ks : List Frame). MovesOn (flat_view u) (enters operation values components steps) fs s (declares body.declarations x) ks t) (sym put)
     (subst (λ (y : Activation). MovesOn (flat_view u) (enters operation values components steps) fs s (declares body.declarations y) (opening body.statements body.handlers ∷ closing body ∷ fs) t) (sym begins)
@@ -145,7 +163,7 @@ inside_called u s operation values a fs after new put begun =
     let begins : Apart (flat_view u) (resuming s a ∷ fs) → MovesTo u (enters operation values a.components a.steps) (resuming s a ∷ fs) s new =
     subst (λ (gs : List Frame). Apart (flat_view u) gs → MovesTo u (enters operation values a.components a.steps) gs s new) put begun in
     then_to u (calls (callee.Internal operation) values a) fs s (enters operation values a.components a.steps) (resuming s a ∷ fs) s new
-    (record { same = (calls_push (flat_view u) fs s).inner_call operation values a; less = omega arith })
+    (record { same = (calls_push (flat_view u) fs s).inner_call operation values a; less = omega arith; low = λ one. omega arith })
     (begins (apart_resuming (flat_view u) s a fs))
 
 pub internal_is : (c : Callee) (n : ℕ) → internal c ≡ Some n → c ≡ callee.Internal n
@@ -158,7 +176,7 @@ pub call_unasked : (u : FlatUnit) (s : Setting) (c : Callee) (values : List ℤ)
     → MovesOn (flat_view u) (calls c values a) fs s (comes (listed (Err cause.Overrun) b)) fs s
 call_unasked u s c values a b fs other none same =
     subst (λ (x : Activation). MovesOn (flat_view u) (calls c values a) fs s (comes (listed (Err cause.Overrun) x)) fs s) (sym same)
-    (record { same = (calls_push (flat_view u) fs s).no_request_left c values a other none; less = omega arith })
+    (record { same = (calls_push (flat_view u) fs s).no_request_left c values a other none; less = omega arith; low = λ one. omega arith })
 
 pub call_past : (u : FlatUnit) (s : Setting) (c : Callee) (values : List ℤ) (a b : Activation) (fs after : List Frame)
     → internal c ≡ None → spent s.is_task a ≡ Some b → is_past s.held c ≡ true → after ≡ answering b ∷ fs
@@ -166,7 +184,14 @@ pub call_past : (u : FlatUnit) (s : Setting) (c : Callee) (values : List ℤ) (a
 call_past u s c values a b fs after other took past put =
     let l = called_least (flat_view u) (level s) in
     subst (λ (gs : List Frame). MovesOn (flat_view u) (calls c values a) fs s (comes (outside (Err (cause.Raised ProgramError)))) gs s) (sym put)
-    (record { same = (calls_at_once (flat_view u) fs s).past_limit c values a b other took past; less = omega (arith, l) })
+    (record { same = (calls_at_once (flat_view u) fs s).past_limit c values a b other took past; less = omega (arith, l); low = λ one. omega arith })
+
+held_rise : (bodies : UnitBodies) (s : Setting) (one : ℕ) → called_height one bodies (s.held * 66) ≤ called_height one bodies (level s)
+held_rise bodies s one =
+    let rise = called_rise one bodies (s.held * 66) (s.nested + 1) in
+    let up : level s ≡ s.held * 66 + (s.nested + 1) = omega arith in
+    let call : called_height one bodies (level s) ≡ called_height one bodies (s.held * 66 + (s.nested + 1)) = ap (λ (n : ℕ). called_height one bodies n) up in
+    omega (arith, rise, call)
 
 pub call_asks : (u : FlatUnit) (s : Setting) (c : Callee) (values : List ℤ) (a b : Activation) (fs between after : List Frame)
     → internal c ≡ None → spent s.is_task a ≡ Some b → is_past s.held c ≡ false → between ≡ answering b ∷ fs → after ≡ performing s.held values ∷ between
@@ -178,7 +203,11 @@ call_asks u s c values a b fs between after other took past one two =
     let call : called_moves (flat_view u) (level s) ≡ called_moves (flat_view u) (suc (s.held * 66 + s.nested)) = ap (λ (n : ℕ). called_moves (flat_view u) n) up in
     let more = called_more (flat_view u) (s.held * 66 + s.nested) in
     subst (λ (gs : List Frame). MovesOn (flat_view u) (calls c values a) fs s (asks_of c values) gs s) (sym put)
-    (record { same = (calls_push (flat_view u) fs s).outer_call c values a b other took past; less = omega (arith, grow, call, more) })
+    (record {
+      same = (calls_push (flat_view u) fs s).outer_call c values a b other took past;
+      less = omega (arith, grow, call, more);
+      low = λ one. let rise = held_rise (flat_view u) s one in omega (arith, rise);
+    })
 
 -- what a body comes to
 pub met_resuming : (u : FlatUnit) (old new : Stack) (s t : Setting) (g : m.Frame) (outcome : Outcome) (components : List ℤ) (steps : ℕ) (a x : Activation)
@@ -190,7 +219,7 @@ met_resuming u old new s t g outcome components steps a x is same first rest res
     subst (λ (fs : List Frame). MovesOn (flat_view u) (comes (closes outcome components steps)) (frames_with u (g ∷ waiting old) (set_aside old)) s (comes (listed outcome x)) fs t) (sym (taken_up u old new same rest))
     (subst (λ (y : Activation). MovesOn (flat_view u) (comes (closes outcome components steps)) (frames_with u (g ∷ waiting old) (set_aside old)) s (comes (listed outcome y)) (frames_with u (waiting old) (rest_of (set_aside old))) t) (sym (resumes ∙ ap (λ (y : Activation). record y { components = components; steps = steps }) first))
     (subst (λ (z : m.Frame). MovesOn (flat_view u) (comes (closes outcome components steps)) (frames_with u (z ∷ waiting old) (set_aside old)) s (comes (listed outcome (record (first_of (set_aside old)) { components = components; steps = steps }))) (frames_with u (waiting old) (rest_of (set_aside old))) t) (sym is)
-    (record { same = (calls_arrive (flat_view u) (frames_with u (waiting old) (rest_of (set_aside old))) s).inner_call t (first_of (set_aside old)) outcome components steps; less = omega arith })))
+    (record { same = (calls_arrive (flat_view u) (frames_with u (waiting old) (rest_of (set_aside old))) s).inner_call t (first_of (set_aside old)) outcome components steps; less = omega arith; low = λ one. omega arith })))
 
 pub met_completing : (u : FlatUnit) (old : Stack) (s t : Setting) (g : m.Frame) (is_function : Bool) (outcome : Outcome) (components : List ℤ) (steps : ℕ) (request : Request)
     → g ≡ frame.Completing is_function t → request ≡ end_of is_function outcome components
@@ -199,7 +228,7 @@ unfolding frames_with
 met_completing u old s t g is_function outcome components steps request is asks =
     subst (λ (r : Request). MovesOn (flat_view u) (comes (closes outcome components steps)) (frames_with u (g ∷ waiting old) (set_aside old)) s (ends_of r outcome) (below u old) t) (sym asks)
     (subst (λ (z : m.Frame). MovesOn (flat_view u) (comes (closes outcome components steps)) (frames_with u (z ∷ waiting old) (set_aside old)) s (ends_of (end_of is_function outcome components) outcome) (below u old) t) (sym is)
-    (record { same = (calls_arrive (flat_view u) (below u old) s).ended is_function t outcome components steps; less = omega arith }))
+    (record { same = (calls_arrive (flat_view u) (below u old) s).ended is_function t outcome components steps; less = omega arith; low = λ one. omega arith }))
 
 pub met_exiting : (u : FlatUnit) (old : Stack) (s : Setting) (g : m.Frame) (outcome : Outcome) (components : List ℤ) (steps : ℕ) (exit : Exit)
     → g ≡ frame.Exiting → exit ≡ exit_of outcome
@@ -208,7 +237,7 @@ unfolding frames_with
 met_exiting u old s g outcome components steps exit is exits =
     subst (λ (x : Exit). MovesOn (flat_view u) (comes (closes outcome components steps)) (frames_with u (g ∷ waiting old) (set_aside old)) s (comes (exited x components)) (below u old) s) (sym exits)
     (subst (λ (z : m.Frame). MovesOn (flat_view u) (comes (closes outcome components steps)) (frames_with u (z ∷ waiting old) (set_aside old)) s (comes (exited (exit_of outcome) components)) (below u old) s) (sym is)
-    (record { same = (calls_rest (flat_view u) (below u old) s).exit outcome components steps; less = omega arith }))
+    (record { same = (calls_rest (flat_view u) (below u old) s).exit outcome components steps; less = omega arith; low = λ one. omega arith }))
 
 -- what a request comes to
 pub started_past : (u : FlatUnit) (s : Setting) (held object operation : ℕ) (is_function : Bool) (values components : List ℤ) (fs : List Frame)
@@ -216,14 +245,20 @@ pub started_past : (u : FlatUnit) (s : Setting) (held object operation : ℕ) (i
     → MovesOn (flat_view u) (comes (reaches (asked.Started object operation is_function components))) (performing held values ∷ fs) s (comes (outside (Err (cause.Raised ProgramError)))) fs s
 started_past u s held object operation is_function values components fs none =
     subst (λ (h : ℕ). MovesOn (flat_view u) (comes (reaches (asked.Started object operation is_function components))) (performing h values ∷ fs) s (comes (outside (Err (cause.Raised ProgramError)))) fs s) (sym none)
-    (record { same = (calls_rest (flat_view u) fs s).started_past object operation is_function values components; less = omega arith })
+    (record { same = (calls_rest (flat_view u) fs s).started_past object operation is_function values components; less = omega arith; low = λ one. omega arith })
 
 started_so : (u : FlatUnit) (s : Setting) (held object operation : ℕ) (is_function : Bool) (values components : List ℤ) (fs : List Frame)
     → MovesOn (flat_view u) (comes (reaches (asked.Started object operation is_function components))) (performing (suc held) values ∷ fs) s (enters operation values components 100000) (completing is_function s ∷ fs) (body_setting object held)
 started_so u s held object operation is_function values components fs =
     let up : suc held * 66 ≡ level (body_setting object held) = omega arith in
     let call : called_moves (flat_view u) (suc held * 66) ≡ called_moves (flat_view u) (level (body_setting object held)) = ap (λ (n : ℕ). called_moves (flat_view u) n) up in
-    record { same = (calls_arrive (flat_view u) fs s).started held object operation is_function values components; less = omega (arith, call) }
+    record {
+      same = (calls_arrive (flat_view u) fs s).started held object operation is_function values components;
+      less = omega (arith, call);
+      low = λ one.
+          let high : called_height one (flat_view u) (suc held * 66) ≡ called_height one (flat_view u) (level (body_setting object held)) = ap (λ (n : ℕ). called_height one (flat_view u) n) up in
+          omega (arith, high);
+    }
 
 pub started_begins : (u : FlatUnit) (s t : Setting) (held object operation : ℕ) (is_function : Bool) (values components : List ℤ) (fs after : List Frame) (new : Machine)
     → (held ≡ 0 → ⊥) → t ≡ body_setting object (held - 1) → after ≡ completing is_function s ∷ fs
@@ -243,14 +278,14 @@ pub request_gives : (u : FlatUnit) (s : Setting) (what : Asked) (held : ℕ) (va
     → MovesOn (flat_view u) (comes (reaches what)) (performing held values ∷ fs) s (comes (outside (Ok given))) fs s
 request_gives u s what held values given fs is =
     subst (λ (x : Asked). MovesOn (flat_view u) (comes (reaches x)) (performing held values ∷ fs) s (comes (outside (Ok given))) fs s) (sym is)
-    (record { same = (calls_rest (flat_view u) fs s).given held values given; less = omega arith })
+    (record { same = (calls_rest (flat_view u) fs s).given held values given; less = omega arith; low = λ one. omega arith })
 
 pub request_abandoned : (u : FlatUnit) (s : Setting) (what : Asked) (held : ℕ) (values : List ℤ) (why : Cause) (fs : List Frame)
     → what ≡ asked.Abandoned why
     → MovesOn (flat_view u) (comes (reaches what)) (performing held values ∷ fs) s (comes (outside (Err why))) fs s
 request_abandoned u s what held values why fs is =
     subst (λ (x : Asked). MovesOn (flat_view u) (comes (reaches x)) (performing held values ∷ fs) s (comes (outside (Err why))) fs s) (sym is)
-    (record { same = (calls_rest (flat_view u) fs s).abandoned held values why; less = omega arith })
+    (record { same = (calls_rest (flat_view u) fs s).abandoned held values why; less = omega arith; low = λ one. omega arith })
 
 pub request_starts : (u : FlatUnit) (s : Setting) (what known : Asked) (before : List Frame) (new : Machine)
     → what ≡ known → MovesTo u (comes (reaches known)) before s new → MovesTo u (comes (reaches what)) before s new
@@ -273,4 +308,4 @@ met_answering u old new s g outcome a x is same first rest refills =
     subst (λ (fs : List Frame). MovesOn (flat_view u) (comes (outside outcome)) (frames_with u (g ∷ waiting old) (set_aside old)) s (comes (listed outcome x)) fs s) (sym (taken_up u old new same rest))
     (subst (λ (y : Activation). MovesOn (flat_view u) (comes (outside outcome)) (frames_with u (g ∷ waiting old) (set_aside old)) s (comes (listed outcome y)) (frames_with u (waiting old) (rest_of (set_aside old))) s) (sym (refills ∙ ap (λ (y : Activation). refilled s.is_task y) first))
     (subst (λ (z : m.Frame). MovesOn (flat_view u) (comes (outside outcome)) (frames_with u (z ∷ waiting old) (set_aside old)) s (comes (listed outcome (refilled s.is_task (first_of (set_aside old))))) (frames_with u (waiting old) (rest_of (set_aside old))) s) (sym is)
-    (record { same = (calls_arrive (flat_view u) (frames_with u (waiting old) (rest_of (set_aside old))) s).outer_call (first_of (set_aside old)) outcome; less = omega arith })))
+    (record { same = (calls_arrive (flat_view u) (frames_with u (waiting old) (rest_of (set_aside old))) s).outer_call (first_of (set_aside old)) outcome; less = omega arith; low = λ one. omega arith })))

@@ -1,4 +1,7 @@
 pub mod MovesLeft
+pub mod HeightsLeft
+pub mod Rises
+pub mod Needing
 pub mod Steps
 pub mod ExpressionSteps
 pub mod StatementSteps
@@ -7,6 +10,7 @@ pub mod ChoiceSteps
 pub mod EndSteps
 pub mod Meetings
 pub mod Starts
+pub mod Fitting
 pub mod CopySteps
 pub mod CallSteps
 pub mod NextSteps

@@ -1,5 +1,5 @@
 -- One move of a machine.
-use Rattle.std.proofs.Common.{◌≡◌, arith, refl, sym, ap, subst, ◌∙◌, ℕ, ℤ, List, ◌∷◌, Bool, true, false, Option}
+use Rattle.std.proofs.Common.{◌≡◌, arith, refl, sym, ap, subst, ◌∙◌, ℕ, ℤ, List, [], ◌∷◌, Bool, true, false, Option}
 use Rattle.std.specs.Prelude.{reverse}
 use Rattle.rv_event.specs.declared.entry.Exception.{Exception}
 use Rattle.rv_code.specs.Bodies.{UnitBodies}
@@ -32,6 +32,7 @@ use Rattle.rv_machine.specs.declared.point.Point.TheVariants as point
 use Rattle.rv_machine.specs.declared.stack.Stack.{Stack}
 use Rattle.rv_machine.proofs.MovesLeft.{level_under, frame_least}
 use Rattle.rv_machine.specs.Machines.{MovesTo, kind_taken, is_over}
+use Rattle.rv_machine.specs.Heights.{waiting_height}
 use Rattle.rv_machine.specs.Moves.{called_moves, level, level_below, waiting_moves}
 use Rattle.rv_machine.specs.Points.{control, MovesOn, Leads, LeadsIn, LeadsAcross}
 use Rattle.rv_machine.specs.Stacks.{operand_frame, value_frame, values_frame, end_frame, count_frame, first_of, rest_of, frames_with, waiting, set_aside, below}
@@ -39,7 +40,7 @@ use Rattle.rv_machine.specs.Stacks.{operand_frame, value_frame, values_frame, en
 -- a move of these bodies
 at_bodies : (bodies : UnitBodies) (s : Setting) (from : Control) (before : List Frame) (t : Setting) (to : Control) (after : List Frame)
     → LeadsAcross s from before t to after → MovesOn bodies from before s to after t
-at_bodies bodies s from before t to after leads = record { same = leads.same bodies; less = leads.less bodies }
+at_bodies bodies s from before t to after leads = record { same = leads.same bodies; less = leads.less bodies; low = leads.low bodies }
 
 -- a move at a point that is known
 pub moved : (u : FlatUnit) (old new : Machine) (p : Point)
@@ -48,7 +49,7 @@ pub moved : (u : FlatUnit) (old new : Machine) (p : Point)
     → MovesTo u (control (trees u.code) p old.activation) (below u old.stack) old.setting new
 moved u old new p same leads =
     subst (λ (t : Setting). MovesOn (flat_view u) (control (trees u.code) p old.activation) (below u old.stack) old.setting (control (trees u.code) new.point new.activation) (below u new.stack) t) (sym same)
-    (record { same = leads.same (flat_view u); less = leads.less (flat_view u) })
+    (record { same = leads.same (flat_view u); less = leads.less (flat_view u); low = leads.low (flat_view u) })
 
 pub at_point : (u : FlatUnit) (g p : Point) (a : Activation) (before : List Frame) (s : Setting) (new : Machine)
     → g ≡ p → MovesTo u (control (trees u.code) p a) before s new → MovesTo u (control (trees u.code) g a) before s new
@@ -58,10 +59,10 @@ pub from_as : (from known to : Control) (before after : List Frame) → from ≡
 from_as from known to before after is leads = subst (λ (x : Control). Leads x before to after) (sym is) leads
 
 pub in_each : (s : Setting) (from : Control) (before : List Frame) (to : Control) (after : List Frame) → Leads from before to after → LeadsIn s from before to after
-in_each s from before to after leads = record { same = λ bodies. leads.same bodies s; less = λ bodies. leads.less bodies s }
+in_each s from before to after leads = record { same = λ bodies. leads.same bodies s; less = λ bodies. leads.less bodies s; low = λ bodies. leads.low bodies s }
 
 pub across : (s : Setting) (from : Control) (before : List Frame) (to : Control) (after : List Frame) → Leads from before to after → LeadsAcross s from before s to after
-across s from before to after leads = record { same = λ bodies. leads.same bodies s; less = λ bodies. leads.less bodies s }
+across s from before to after leads = record { same = λ bodies. leads.same bodies s; less = λ bodies. leads.less bodies s; low = λ bodies. leads.low bodies s }
 
 -- what comes to a frame that is known
 pub met_operand : (u : FlatUnit) (old : Stack) (new : Machine) (now : Now) (s : Setting) (g : m.Frame) (x : OperandFrame)
@@ -129,6 +130,9 @@ passes bodies x fs s now is = record {
       let under : waiting_moves bodies fs (level (setting_below x s)) ≡ waiting_moves bodies fs (level_below x (level s)) = ap (λ (n : ℕ). waiting_moves bodies fs n) (level_under x s) in
       let one = frame_least bodies (called_moves bodies (level s)) x in
       omega (arith, under, one);
+  low = λ one.
+      let under : waiting_height one bodies fs (level (setting_below x s)) ≡ waiting_height one bodies fs (level_below x (level s)) = ap (λ (n : ℕ). waiting_height one bodies fs n) (level_under x s) in
+      omega (arith, under);
 }
 
 pass_operand : (bodies : UnitBodies) (ts : List Tree) (x : OperandFrame) (fs : List Frame) (s : Setting) (now : Now)
@@ -170,7 +174,7 @@ pub pass_restoring : (u : FlatUnit) (old : Stack) (now : Now) (s : Setting) (g :
 unfolding frames_with
 pass_restoring u old now s g exception is =
     subst (λ (z : m.Frame). MovesOn (flat_view u) (comes now) (frames_with u (z ∷ waiting old) (set_aside old)) s (comes now) (below u old) (record s { handling = exception })) (sym is)
-    (record { same = (statements_rest (flat_view u) (below u old) s).restored exception now; less = omega arith })
+    (record { same = (statements_rest (flat_view u) (below u old) s).restored exception now; less = omega arith; low = λ one. omega arith })
 
 pub pass_completing : (u : FlatUnit) (old : Stack) (now : Now) (s t : Setting) (g : m.Frame) (is_function : Bool)
     → g ≡ frame.Completing is_function t → is_kind (kind_taken g) (comes_as now) ≡ false
@@ -269,12 +273,29 @@ takes_no_end frame.Exiting a b d = refl
 
 -- the frame on top was taken off
 pub popped : (u : FlatUnit) (old new : Stack) (g : m.Frame) (from : Control) (s : Setting) (machine : Machine)
-    → waiting old ≡ g ∷ waiting new → new.activations ≡ old.activations
+    → below u old ≡ frames_with u (g ∷ waiting new) (set_aside new)
     → MovesTo u from (frames_with u (g ∷ waiting new) (set_aside new)) s machine → MovesTo u from (below u old) s machine
-popped u old new g from s machine is same moves =
-    subst (λ (fs : List Frame). MovesTo u from fs s machine)
-    (ap (λ (kept : Pile Activation). frames_with u (g ∷ waiting new) (reverse kept.items.items)) same ∙ ap (λ (fs : List m.Frame). frames_with u fs (set_aside old)) (sym is))
-    moves
+popped u old new g from s machine is moves = subst (λ (fs : List Frame). MovesTo u from fs s machine) (sym is) moves
+
+-- a frame is taken off, or an activation that is left over is one of a call that waits
+pub off : (u : FlatUnit) (old new : Stack) (g : m.Frame)
+    → waiting old ≡ g ∷ waiting new → new.activations ≡ old.activations → below u old ≡ frames_with u (g ∷ waiting new) (set_aside new)
+off u old new g is same =
+    ap (λ (fs : List m.Frame). frames_with u fs (set_aside old)) is ∙ ap (λ (kept : Pile Activation). frames_with u (g ∷ waiting new) (reverse kept.items.items)) (sym same)
+
+left_over : (u : FlatUnit) (kept : List Activation) → (kept ≡ [] → ⊥) → frames_with u [] kept ≡ frames_with u (frame.Answering ∷ []) kept
+unfolding frames_with
+left_over u [] some = absurd (some refl)
+left_over u (a ∷ kept) some = refl
+
+pub off_alone : (u : FlatUnit) (old new : Stack)
+    → waiting old ≡ [] → waiting new ≡ [] → new.activations ≡ old.activations → (set_aside old ≡ [] → ⊥)
+    → below u old ≡ frames_with u (frame.Answering ∷ waiting new) (set_aside new)
+off_alone u old new none still same some =
+    ap (λ (fs : List m.Frame). frames_with u fs (set_aside old)) none
+    ∙ (left_over u (set_aside old) some
+    ∙ (ap (λ (fs : List m.Frame). frames_with u (frame.Answering ∷ fs) (set_aside old)) (sym still)
+    ∙ ap (λ (kept : Pile Activation). frames_with u (frame.Answering ∷ waiting new) (reverse kept.items.items)) (sym same)))
 
 pub takes_no_values : (g : m.Frame) → ((x : ValuesFrame) → g ≡ frame.Values x → ⊥) → is_kind (kind_taken g) all_values ≡ false
 takes_no_values (frame.Operand x) a = refl

@@ -57,7 +57,7 @@ past_test : {A : Type 0} (b : Bool) (o : Option A) (x : A) → cond b None o ≡
 past_test true o x is = cc
 past_test false o x is = is
 
-numbered_some : {A : Type 0} (items : List A) (n : ℕ) (x : A) → numbered items n ≡ Some x → slice_get items (n - 1) ≡ Some x
+pub numbered_some : {A : Type 0} (items : List A) (n : ℕ) (x : A) → numbered items n ≡ Some x → slice_get items (n - 1) ≡ Some x
 numbered_some items n x is = past_test (nat_lt n 1) (slice_get items (n - 1)) x is
 
 found_moves : (call : ℕ) (o : Option (List Body)) (operation : ℕ) (b : Body) (m : ℕ)

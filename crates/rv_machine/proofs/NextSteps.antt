@@ -55,13 +55,14 @@ pub end_unasked : (u : FlatUnit) (s : Setting) (request : Request) (outcome : Ou
 end_unasked u s request outcome fs is = record {
   same = (runs_ask (flat_view u) fs s).stuck request outcome (test_none (is_stuck outcome) request is);
   less = omega arith;
+  low = λ one. omega arith;
 }
 
 pub task_end_unasked : (u : FlatUnit) (s : Setting) (outcome : Outcome) (exit : Exit) (fs : List Frame)
     → question (point.Quits outcome) ≡ None → exit ≡ exit_of outcome → MovesOn (flat_view u) (quits_of outcome) fs s (comes (quitted exit)) fs s
 task_end_unasked u s outcome exit fs is exits =
     subst (λ (x : Exit). MovesOn (flat_view u) (quits_of outcome) fs s (comes (quitted x)) fs s) (sym exits)
-    (record { same = (runs_ask (flat_view u) fs s).left outcome (test_none (is_stuck outcome) requests.Quit is); less = omega arith })
+    (record { same = (runs_ask (flat_view u) fs s).left outcome (test_none (is_stuck outcome) requests.Quit is); less = omega arith; low = λ one. omega arith })
 
 -- what is asked at a point
 pub asks_at : (u : FlatUnit) (p : Point) (a : Activation) (fs : List Frame) (s : Setting) (request : Request)
@@ -123,6 +124,7 @@ call_settled u callee values old answer what is = record {
       ((calls_arrive (flat_view u) (below u old.stack) old.setting).ask callee values)
       ((calls_arrive (flat_view u) (below u old.stack) old.setting).ask_settled callee answer what is);
   less = omega arith;
+  low = λ one. omega arith;
 }
 
 pub call_waits : (u : FlatUnit) (callee : Callee) (values : List ℤ) (old : Machine) (answer : Answer)
@@ -132,6 +134,7 @@ call_waits u callee values old answer is = record {
       ((calls_arrive (flat_view u) (below u old.stack) old.setting).ask callee values)
       ((calls_arrive (flat_view u) (below u old.stack) old.setting).ask_waits callee answer is);
   less = omega arith;
+  low = λ one. omega arith;
 }
 
 pub wait_over : (u : FlatUnit) (callee : Callee) (old : Machine) (answer : Answer) (what : Asked)
@@ -141,6 +144,7 @@ wait_over u callee old answer what is = record {
       ((runs_ask (flat_view u) (below u old.stack) old.setting).resume callee)
       (ap (λ (x : Asked). meant (flat_view u) (comes (reaches x)) (below u old.stack) old.setting) (sym is));
   less = omega arith;
+  low = λ one. omega arith;
 }
 
 pub end_over : (u : FlatUnit) (request : Request) (outcome : Outcome) (old : Machine) (answer : Answer) (to : Outcome)
@@ -150,6 +154,7 @@ end_over u request outcome old answer to asked is = record {
       ((calls_arrive (flat_view u) (below u old.stack) old.setting).end request outcome (test_asked (is_stuck outcome) request asked))
       (ap (λ (x : Outcome). meant (flat_view u) (comes (outside x)) (below u old.stack) old.setting) (sym is));
   less = omega arith;
+  low = λ one. omega arith;
 }
 
 pub task_end_over : (u : FlatUnit) (outcome : Outcome) (old : Machine) (answer : Answer) (exit : Exit)
@@ -159,6 +164,7 @@ task_end_over u outcome old answer exit asked is = record {
       ((runs_ask (flat_view u) (below u old.stack) old.setting).quit outcome (test_asked (is_stuck outcome) requests.Quit asked))
       (ap (λ (x : Exit). meant (flat_view u) (comes (quitted x)) (below u old.stack) old.setting) (sym is));
   less = omega arith;
+  low = λ one. omega arith;
 }
 
 pub line_over : (u : FlatUnit) (object operation : ℕ) (old : Machine) (answer : Answer)
@@ -168,6 +174,7 @@ line_over u object operation old answer is = record {
       ((runs_ask (flat_view u) (below u old.stack) old.setting).fire object operation)
       ((runs_ask (flat_view u) (below u old.stack) old.setting).starts_nothing object operation answer is);
   less = omega arith;
+  low = λ one. omega arith;
 }
 
 pub starts_not : (answer : Answer) → ((components : List ℤ) → answer ≡ answers.Started components → ⊥) → starts_with answer ≡ None
@@ -188,6 +195,7 @@ line_begins u object operation old new answer components none t after is empty a
           ((runs_ask (flat_view u) (below u old.stack) old.setting).fire object operation)
           ((runs_ask (flat_view u) (below u old.stack) old.setting).starts object operation answer components (ap (λ (x : Answer). starts_with x) is) ∙ moves.same);
       less = let fewer = moves.less in omega (arith, fewer);
+      low = λ one. let lower = moves.low one in omega (arith, lower);
     }
 
 -- the point that is known

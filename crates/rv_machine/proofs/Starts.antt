@@ -18,9 +18,9 @@ use Rattle.rv_frames.proofs.AtOnce.{calls_at_once}
 use Rattle.rv_machine.specs.declared.stack.Stack.{Stack}
 use Rattle.rv_machine.specs.Stacks.{body_or, frames_with, waiting, set_aside, below}
 
-pub nothing_waits : (u : FlatUnit) (stack : Stack) → waiting stack ≡ [] → below u stack ≡ []
+pub nothing_waits : (u : FlatUnit) (stack : Stack) → waiting stack ≡ [] → set_aside stack ≡ [] → below u stack ≡ []
 unfolding frames_with
-nothing_waits u stack is = ap (λ fs. frames_with u fs (set_aside stack)) is
+nothing_waits u stack is alone = ap (λ fs. frames_with u fs (set_aside stack)) is ∙ ap (λ (kept : List Activation). frames_with u [] kept) alone
 
 pub task_starts : (u : FlatUnit) (actor requests : ℕ) (body : Body) (a : Activation) (before between after : List Frame)
     → task_of (flat_view u) actor ≡ Some body → a ≡ opened (replicate 132 (pos 0)) [] 100000 requests

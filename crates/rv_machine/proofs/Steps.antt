@@ -1,5 +1,5 @@
 -- One move of a run, as the laws of frames have it.
-use Rattle.std.proofs.Common.{◌≡◌, ◌<◌, refl, sym, ap, subst, arith, ◌∙◌, ℕ, zero, suc, ◌-◌, ℤ, List, ◌∷◌, Bool, Option, Result, Ok}
+use Rattle.std.proofs.Common.{◌≡◌, ◌<◌, ◌≤◌, refl, sym, ap, subst, arith, ◌∙◌, ℕ, zero, suc, ◌-◌, ℤ, List, ◌∷◌, Bool, Option, Result, Ok}
 use Rattle.std.specs.Prelude.{reverse}
 use Rattle.rv_shape.specs.declared.kind.Range.{Range}
 use Rattle.rv_event.specs.declared.entry.Exception.{Exception}
@@ -22,6 +22,7 @@ use Rattle.rv_machine.specs.declared.frame.EndFrame.{EndFrame}
 use Rattle.rv_machine.specs.declared.frame.Frame.TheVariants as frame
 use Rattle.rv_machine.specs.declared.pile.Pile.{Pile}
 use Rattle.rv_machine.specs.declared.stack.Stack.{Stack}
+use Rattle.rv_machine.specs.Heights.{highest}
 use Rattle.rv_machine.specs.Moves.{moves_left}
 use Rattle.rv_machine.specs.Points.{Leads, LeadsIn}
 use Rattle.rv_machine.specs.Stacks.{operand_frame, value_frame, values_frame, end_frame, count_frame, frames_with, waiting, set_aside, below}
@@ -32,11 +33,14 @@ pub by_law :
     → from ≡ known → after ≡ pushed
     → ((bodies : UnitBodies) (s : Setting) → meant bodies known before s ≡ meant bodies to pushed s)
     → ((bodies : UnitBodies) (s : Setting) → moves_left bodies to pushed s < moves_left bodies known before s)
+    → ((bodies : UnitBodies) (s : Setting) (one : ℕ) → highest one bodies to pushed s ≤ highest one bodies known before s)
     → Leads from before to after
-by_law from known to before after pushed is put law less = record {
+by_law from known to before after pushed is put law less low = record {
   same = λ bodies s. ap (λ (x : Control). meant bodies x before s) is ∙ (law bodies s ∙ ap (λ (fs : List Frame). meant bodies to fs s) (sym put));
   less = λ bodies s. subst (λ (fs : List Frame). moves_left bodies to fs s < moves_left bodies from before s) (sym put)
       (subst (λ (x : Control). moves_left bodies to pushed s < moves_left bodies x before s) (sym is) (less bodies s));
+  low = λ bodies s one. subst (λ (fs : List Frame). highest one bodies to fs s ≤ highest one bodies from before s) (sym put)
+      (subst (λ (x : Control). highest one bodies to pushed s ≤ highest one bodies x before s) (sym is) (low bodies s one));
 }
 
 -- what a frame that is put on top of the others stands for
@@ -109,11 +113,14 @@ pub by_law_in :
     → from ≡ known → after ≡ pushed
     → ((bodies : UnitBodies) → meant bodies known before s ≡ meant bodies to pushed s)
     → ((bodies : UnitBodies) → moves_left bodies to pushed s < moves_left bodies known before s)
+    → ((bodies : UnitBodies) (one : ℕ) → highest one bodies to pushed s ≤ highest one bodies known before s)
     → LeadsIn s from before to after
-by_law_in s from known to before after pushed is put law less = record {
+by_law_in s from known to before after pushed is put law less low = record {
   same = λ bodies. ap (λ (x : Control). meant bodies x before s) is ∙ (law bodies ∙ ap (λ (fs : List Frame). meant bodies to fs s) (sym put));
   less = λ bodies. subst (λ (fs : List Frame). moves_left bodies to fs s < moves_left bodies from before s) (sym put)
       (subst (λ (x : Control). moves_left bodies to pushed s < moves_left bodies x before s) (sym is) (less bodies));
+  low = λ bodies one. subst (λ (fs : List Frame). highest one bodies to fs s ≤ highest one bodies from before s) (sym put)
+      (subst (λ (x : Control). highest one bodies to pushed s ≤ highest one bodies x before s) (sym is) (low bodies one));
 }
 
 -- frames that are known by another name

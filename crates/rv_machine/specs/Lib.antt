@@ -3,3 +3,5 @@ pub mod Stacks
 pub mod Points
 pub mod Machines
 pub mod Moves
+pub mod Heights
+pub mod Needs

@@ -1,5 +1,5 @@
 -- What a machine still does (own).
-use Rattle.std.specs.Prelude.{◌≡◌, ◌<◌, ℕ, List, Bool, true, false, if◌then◌else◌, Option, Some, None}
+use Rattle.std.specs.Prelude.{◌≡◌, ◌<◌, ◌≤◌, ◌+◌, ℕ, List, [], Bool, true, false, if◌then◌else◌, Option, Some, None}
 use Rattle.rv_event.specs.declared.entry.Answer.{Answer}
 use Rattle.rv_event.specs.declared.entry.Request.{Request}
 use Rattle.rv_event.specs.declared.entry.Request.TheVariants as request
@@ -22,9 +22,11 @@ use Rattle.rv_machine.specs.declared.next.Next.{Next}
 use Rattle.rv_machine.specs.declared.next.Next.TheVariants as next
 use Rattle.rv_machine.specs.declared.point.Point.{Point}
 use Rattle.rv_machine.specs.declared.point.Point.TheVariants as point
+use Rattle.rv_machine.specs.Heights.{any_height, highest}
 use Rattle.rv_machine.specs.Moves.{moves_left}
 use Rattle.rv_machine.specs.Points.{control, MovesOn}
-use Rattle.rv_machine.specs.Stacks.{below}
+use Rattle.rv_machine.specs.declared.stack.Stack.{Stack}
+use Rattle.rv_machine.specs.Stacks.{below, waiting, set_aside}
 
 -- what it still asks and comes to, by the bodies of a unit
 abbrev pub stands : FlatUnit → Machine → Asking Now
@@ -33,6 +35,22 @@ stands u m = meant (flat_view u) (control (trees u.code) m.point m.activation) (
 -- how much it may still move and ask
 abbrev pub left : FlatUnit → Machine → ℕ
 left u m = moves_left (flat_view u) (control (trees u.code) m.point m.activation) (below u m.stack) m.setting
+
+-- how high its stack still grows: of frames, where each counts 1, or of activations, where a call's frame alone counts
+abbrev pub high : ℕ → FlatUnit → Machine → ℕ
+high one u m = highest one (flat_view u) (control (trees u.code) m.point m.activation) (below u m.stack) m.setting
+
+-- what its stack still grows to fits in the memory that it has
+pub record Fits (u : FlatUnit) (m : Machine) : Type 0 where
+  pub frames : high 1 u m + 4 ≤ m.stack.frames.capacity
+  pub activations : high 0 u m < m.stack.activations.capacity
+
+-- an empty stack has the memory that any run of these bodies takes
+pub record IsFor (u : FlatUnit) (stack : Stack) : Type 0 where
+  pub empty : waiting stack ≡ []
+  pub alone : set_aside stack ≡ []
+  pub frames : any_height 1 (flat_view u) + 4 ≤ stack.frames.capacity
+  pub activations : any_height 0 (flat_view u) < stack.activations.capacity
 
 -- it stands where a run has moved to from a point, with these frames and in this setting
 abbrev pub MovesTo : FlatUnit → Control → List Waiting → Setting → Machine → Type 0
@@ -107,10 +125,6 @@ abbrev pub OnEnded : Next → (Final → Type 0) → Type 0
 OnEnded (next.Ended how) P = P how
 OnEnded other P = Unit {0}
 
-abbrev pub OnFull : Next → Type 0 → Type 0
-OnFull next.Full P = P
-OnFull other P = Unit {0}
-
 -- what it stands at is this request
 abbrev pub AsksNow : Asking Now → Request → Type 0
 AsksNow run request = (go : Answer → Asking Now) × (run ≡ asking request go)
@@ -123,3 +137,4 @@ EndsNow run how = (now : Now) × (run ≡ ended now) × (how ≡ final_of now)
 pub record IsAnswered (u : FlatUnit) (at : Point) (old : Machine) (answer : Answer) (new : Machine) : Type 0 where
   pub follows : stands u new ≡ answered (meant (flat_view u) (control (trees u.code) at old.activation) (below u old.stack) old.setting) answer
   pub less : left u new < moves_left (flat_view u) (control (trees u.code) at old.activation) (below u old.stack) old.setting
+  pub low : (one : ℕ) → high one u new ≤ highest one (flat_view u) (control (trees u.code) at old.activation) (below u old.stack) old.setting

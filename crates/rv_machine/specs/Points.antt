@@ -1,5 +1,5 @@
 -- Where a machine is, and what it still does (own).
-use Rattle.std.specs.Prelude.{◌≡◌, ◌<◌, ℕ, List}
+use Rattle.std.specs.Prelude.{◌≡◌, ◌<◌, ◌≤◌, ℕ, List}
 use Rattle.rv_code.specs.Bodies.{UnitBodies}
 use Rattle.rv_exec.specs.declared.activation.Activation.{Activation}
 use Rattle.rv_exec.specs.declared.setting.Setting.{Setting}
@@ -8,6 +8,7 @@ use Rattle.rv_exec.specs.declared.end.End.TheVariants as ends
 use Rattle.rv_flat.specs.Trees.{Tree, tree_at, as_expression, as_expressions, as_links, as_statement, as_statements, as_branches, as_alternatives, as_declarations}
 use Rattle.rv_frames.specs.Frames as f
 use Rattle.rv_frames.specs.Frames.{Frame, Control, Now, denoted, meant}
+use Rattle.rv_machine.specs.Heights.{highest, waiting_height}
 use Rattle.rv_machine.specs.Moves.{moves_left, waiting_moves}
 use Rattle.rv_machine.specs.declared.point.Point.{Point}
 use Rattle.rv_machine.specs.declared.point.Point.TheVariants as point
@@ -40,30 +41,36 @@ control ts (point.Outside outcome) a = f.comes (f.outside outcome)
 control ts (point.Exited e components) a = f.comes (f.exited e components)
 control ts (point.Quitted e) a = f.comes (f.quitted e)
 
--- from one point, with these frames and in this setting, to another: the run still does the same, and less of it is left
+-- from one point, with these frames and in this setting, to another: the run still does the same, less of it is left, and its stack
+-- grows no higher than it did
 pub record MovesOn (bodies : UnitBodies) (from : Control) (before : List Frame) (s : Setting) (to : Control) (after : List Frame) (t : Setting) : Type 0 where
   pub same : meant bodies from before s ≡ meant bodies to after t
   pub less : moves_left bodies to after t < moves_left bodies from before s
+  pub low : (one : ℕ) → highest one bodies to after t ≤ highest one bodies from before s
 
 -- what waits in these frames is the same in each setting
 pub record Apart (bodies : UnitBodies) (fs : List Frame) : Type 0 where
   pub same : (s t : Setting) (now : Now) → denoted bodies fs s now ≡ denoted bodies fs t now
   pub left : (n m : ℕ) → waiting_moves bodies fs n ≡ waiting_moves bodies fs m
+  pub low : (one n m : ℕ) → waiting_height one bodies fs n ≡ waiting_height one bodies fs m
 
--- the same for any bodies and in each setting
+-- such a move for any bodies and in each setting
 pub record Leads (from : Control) (before : List Frame) (to : Control) (after : List Frame) : Type 0 where
   pub same : (bodies : UnitBodies) (s : Setting) → meant bodies from before s ≡ meant bodies to after s
   pub less : (bodies : UnitBodies) (s : Setting) → moves_left bodies to after s < moves_left bodies from before s
+  pub low : (bodies : UnitBodies) (s : Setting) (one : ℕ) → highest one bodies to after s ≤ highest one bodies from before s
 
--- in one setting
+-- one in one setting
 pub record LeadsIn (s : Setting) (from : Control) (before : List Frame) (to : Control) (after : List Frame) : Type 0 where
   pub same : (bodies : UnitBodies) → meant bodies from before s ≡ meant bodies to after s
   pub less : (bodies : UnitBodies) → moves_left bodies to after s < moves_left bodies from before s
+  pub low : (bodies : UnitBodies) (one : ℕ) → highest one bodies to after s ≤ highest one bodies from before s
 
--- from one setting to another
+-- one from one setting to another
 pub record LeadsAcross (s : Setting) (from : Control) (before : List Frame) (t : Setting) (to : Control) (after : List Frame) : Type 0 where
   pub same : (bodies : UnitBodies) → meant bodies from before s ≡ meant bodies to after t
   pub less : (bodies : UnitBodies) → moves_left bodies to after t < moves_left bodies from before s
+  pub low : (bodies : UnitBodies) (one : ℕ) → highest one bodies to after t ≤ highest one bodies from before s
 
 -- how a loop ends whose turn ends so (5.7)
 abbrev pub left_by : End → End

@@ -1,5 +1,5 @@
 -- The frames that stand on a machine's stack (own).
-use Rattle.std.specs.Prelude.{◌≤◌, ◌<◌, ◌+◌, ℕ, pos, List, [], ◌∷◌, reverse, length, replicate, false, Option, Some, None}
+use Rattle.std.specs.Prelude.{◌≤◌, ◌<◌, ◌+◌, ℕ, pos, List, [], ◌∷◌, reverse, map, length, replicate, false, Option, Some, None}
 use Rattle.rv_code.specs.Bodies.{Body}
 use Rattle.rv_exec.specs.declared.activation.Activation.{Activation}
 use Rattle.rv_exec.specs.Activations.{opened}
@@ -77,9 +77,10 @@ abbrev pub rest_of : List Activation → List Activation
 rest_of [] = []
 rest_of (a ∷ kept) = kept
 
--- frames from the one on top on, with the activations that wait; a call takes the next of these
+-- frames from the one on top on, with the activations that wait: a call takes the next of these, and each that is left over is one
+-- of a call that waits for another object
 unfoldable pub frames_with : FlatUnit → List m.Frame → List Activation → List Frame
-frames_with u [] kept = []
+frames_with u [] kept = map f.answering kept
 frames_with u (frame.Operand x ∷ fs) kept = operand_frame (trees u.code) x ∷ frames_with u fs kept
 frames_with u (frame.Value x ∷ fs) kept = value_frame (trees u.code) x ∷ frames_with u fs kept
 frames_with u (frame.Values x ∷ fs) kept = values_frame (trees u.code) x ∷ frames_with u fs kept
@@ -104,6 +105,10 @@ set_aside stack = reverse stack.activations.items.items
 -- what waits on a stack, by the bodies of a unit
 abbrev pub below : FlatUnit → Stack → List Frame
 below u stack = frames_with u (waiting stack) (set_aside stack)
+
+-- how many frames and how many activations fit
+abbrev pub room : Stack → ℕ × ℕ
+room stack = (stack.frames.capacity, stack.activations.capacity)
 
 -- so many more frames fit, and one more activation
 abbrev pub HasRoom : ℕ → Stack → Type 0

@@ -1,12 +1,12 @@
 //! What was asked is answered, and the run goes on by the answer.
 
-ghost use Rattle.std.specs.Prelude.{◌≡◌, ◌≤◌, ◌<◌, [], None};
+ghost use Rattle.std.specs.Prelude.{◌≡◌, ◌≤◌, ◌<◌, None};
 ghost use Rattle.rv_exec.specs.Asking.{ended, and_then};
 ghost use Rattle.rv_exec.specs.Tasks.{line_run};
 ghost use Rattle.rv_flat.specs.FlatUnits.{flat_view};
 ghost use Rattle.rv_frames.specs.Frames.{out};
-ghost use Rattle.rv_machine.specs.Machines.{stands, left, question, answered, IsAnswered};
-ghost use Rattle.rv_machine.specs.Stacks.{waiting, HasRoom};
+ghost use Rattle.rv_machine.specs.Machines.{stands, left, question, answered, Fits, IsAnswered, IsFor};
+ghost use Rattle.rv_machine.specs.Stacks.{HasRoom, room};
 
 use crate::calls::no_activation;
 use crate::machine::Machine;
@@ -25,7 +25,8 @@ use rv_value::Args;
 impl Machine {
     // The first request of a call is answered: it is settled, or the actor waits (9.5).
     fn call_answered(&mut self, unit: &FlatUnit, callee: Callee, values: Args, answer: Answer)
-        ensures { IsAnswered unit.now (Point.Asks callee values) self.old answer self.new }
+        ensures answered { IsAnswered unit.now (Point.Asks callee values) self.old answer self.new }
+        ensures kept { room self.new.stack ≡ room self.old.stack }
     {
         let _ = unit;
         let _ = values;
@@ -41,7 +42,8 @@ impl Machine {
 
     // The resume of a call that waits is answered (9.5.3).
     fn wait_answered(&mut self, unit: &FlatUnit, callee: Callee, answer: Answer)
-        ensures { IsAnswered unit.now (Point.Waits callee) self.old answer self.new }
+        ensures answered { IsAnswered unit.now (Point.Waits callee) self.old answer self.new }
+        ensures kept { room self.new.stack ≡ room self.old.stack }
     {
         let _ = unit;
         self.point = Point::Reaches(resumed(callee, answer));
@@ -56,7 +58,8 @@ impl Machine {
         answer: Answer,
     )
         requires { question (Point.Ends request outcome) ≡ None → ⊥ }
-        ensures { IsAnswered unit.now (Point.Ends request outcome) self.old answer self.new }
+        ensures answered { IsAnswered unit.now (Point.Ends request outcome) self.old answer self.new }
+        ensures kept { room self.new.stack ≡ room self.old.stack }
     {
         let _ = unit;
         let _ = request;
@@ -66,7 +69,8 @@ impl Machine {
     // The end of a task is answered (9.3).
     fn task_end_answered(&mut self, unit: &FlatUnit, outcome: Result<Args, Cause>, answer: Answer)
         requires { question (Point.Quits outcome) ≡ None → ⊥ }
-        ensures { IsAnswered unit.now (Point.Quits outcome) self.old answer self.new }
+        ensures answered { IsAnswered unit.now (Point.Quits outcome) self.old answer self.new }
+        ensures kept { room self.new.stack ≡ room self.old.stack }
     {
         let _ = unit;
         let _ = answer;
@@ -76,7 +80,8 @@ impl Machine {
     // A line that fired is answered: behind a start the body of its handler begins (C.3).
     fn line_answered(&mut self, unit: &FlatUnit, object: usize, number: usize, answer: Answer)
         requires { HasRoom 3 self.old.stack }
-        ensures { IsAnswered unit.now (Point.Fires object number) self.old answer self.new }
+        ensures answered { IsAnswered unit.now (Point.Fires object number) self.old answer self.new }
+        ensures kept { room self.new.stack ≡ room self.old.stack }
     {
         match answer {
             Answer::Started(components) => {
@@ -94,7 +99,8 @@ impl Machine {
     fn answer_at(&mut self, unit: &FlatUnit, point: Point, answer: Answer)
         requires asks { question point ≡ None → ⊥ }
         requires room { HasRoom 3 self.old.stack }
-        ensures { IsAnswered unit.now point self.old answer self.new }
+        ensures answered { IsAnswered unit.now point self.old answer self.new }
+        ensures kept { room self.new.stack ≡ room self.old.stack }
     {
         match point {
             Point::Asks(callee, values) => self.call_answered(unit, callee, values, answer),
@@ -109,9 +115,10 @@ impl Machine {
     /// What the machine asks is answered: it stands at what follows the answer, and there is less left to do.
     pub fn answer(&mut self, unit: &FlatUnit, answer: Answer)
         requires asks { question self.old.point ≡ None → ⊥ }
-        requires room { HasRoom 3 self.old.stack }
+        requires fits { Fits unit.now self.old }
         ensures answered { stands unit.now self.new ≡ answered (stands unit.now self.old) answer }
         ensures less { left unit.now self.new < left unit.now self.old }
+        ensures fits { Fits unit.now self.new }
     {
         let point = self.point;
         self.answer_at(unit, point, answer);
@@ -119,8 +126,9 @@ impl Machine {
 
     /// A machine at the start of a line that fires, whose handler is this operation of this object; its stack is empty (C.3).
     pub fn start_line(stack: Stack, unit: &FlatUnit, object: usize, number: usize) -> Machine
-        requires { waiting stack ≡ [] }
-        ensures { stands unit.now result ≡ and_then (line_run (flat_view unit.now) object number) (out ended) }
+        requires { IsFor unit.now stack }
+        ensures stands { stands unit.now result ≡ and_then (line_run (flat_view unit.now) object number) (out ended) }
+        ensures fits { Fits unit.now result }
     {
         let _ = unit;
         Machine {

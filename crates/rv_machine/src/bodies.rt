@@ -5,8 +5,7 @@ ghost use Rattle.rv_exec.specs.Asking.{ended, and_then};
 ghost use Rattle.rv_exec.specs.Blocks.{operation_run_at};
 ghost use Rattle.rv_flat.specs.FlatUnits.{flat_view};
 ghost use Rattle.rv_frames.specs.Frames.{exit};
-ghost use Rattle.rv_machine.specs.Machines.{stands};
-ghost use Rattle.rv_machine.specs.Stacks.{waiting, HasRoom};
+ghost use Rattle.rv_machine.specs.Machines.{stands, Fits, IsFor};
 
 use crate::calls::{begun, inner, no_activation};
 use crate::frame::EndFrame;
@@ -33,9 +32,9 @@ impl Machine {
         values: Args,
         components: Scalars,
     ) -> Machine
-        requires empty { waiting stack ≡ [] }
-        requires room { HasRoom 3 stack }
-        ensures { stands unit.now result ≡ and_then (operation_run_at (flat_view unit.now) held object number values components) (exit ended) }
+        requires { IsFor unit.now stack }
+        ensures stands { stands unit.now result ≡ and_then (operation_run_at (flat_view unit.now) held object number values components) (exit ended) }
+        ensures fits { Fits unit.now result }
     {
         let setting = of_operation(held, object);
         let mut frames = stack;

@@ -7,7 +7,7 @@ ghost use Rattle.rv_flat.specs.FlatUnits.{flat_view};
 ghost use Rattle.rv_frames.specs.Frames.{calls, enters, inner_setting};
 ghost use Rattle.rv_machine.specs.Machines.{MovesTo};
 ghost use Rattle.rv_machine.specs.Points.{Apart};
-ghost use Rattle.rv_machine.specs.Stacks.{below, HasRoom, HasSpace};
+ghost use Rattle.rv_machine.specs.Stacks.{below, HasRoom, HasSpace, room};
 
 use crate::frame::EndFrame;
 use crate::machine::Machine;
@@ -89,7 +89,8 @@ impl Machine {
         steps: u32,
     )
         requires { HasRoom 2 self.old.stack }
-        ensures { Apart (flat_view unit.now) (below unit.now self.old.stack) → MovesTo unit.now (enters number values components steps) (below unit.now self.old.stack) setting self.new }
+        ensures moves { Apart (flat_view unit.now) (below unit.now self.old.stack) → MovesTo unit.now (enters number values components steps) (below unit.now self.old.stack) setting self.new }
+        ensures kept { room self.new.stack ≡ room self.old.stack }
     {
         self.setting = setting;
         if setting.nested == 0 {
@@ -117,7 +118,8 @@ impl Machine {
     fn call_inside(&mut self, unit: &FlatUnit, number: usize, values: Args)
         requires room { HasRoom 3 self.old.stack }
         requires space { HasSpace self.old.stack }
-        ensures { MovesTo unit.now (calls (Callee.Internal number) values self.old.activation) (below unit.now self.old.stack) self.old.setting self.new }
+        ensures moves { MovesTo unit.now (calls (Callee.Internal number) values self.old.activation) (below unit.now self.old.stack) self.old.setting self.new }
+        ensures kept { room self.new.stack ≡ room self.old.stack }
     {
         let setting = self.setting;
         let components = self.activation.components;
@@ -132,7 +134,8 @@ impl Machine {
         requires other { internal callee ≡ None }
         requires room { HasRoom 3 self.old.stack }
         requires space { HasSpace self.old.stack }
-        ensures { MovesTo unit.now (calls callee values self.old.activation) (below unit.now self.old.stack) self.old.setting self.new }
+        ensures moves { MovesTo unit.now (calls callee values self.old.activation) (below unit.now self.old.stack) self.old.setting self.new }
+        ensures kept { room self.new.stack ≡ room self.old.stack }
     {
         let _ = unit;
         let setting = self.setting;
@@ -154,7 +157,8 @@ impl Machine {
     pub(crate) fn call(&mut self, unit: &FlatUnit, callee: Callee, values: Args)
         requires room { HasRoom 3 self.old.stack }
         requires space { HasSpace self.old.stack }
-        ensures { MovesTo unit.now (calls callee values self.old.activation) (below unit.now self.old.stack) self.old.setting self.new }
+        ensures moves { MovesTo unit.now (calls callee values self.old.activation) (below unit.now self.old.stack) self.old.setting self.new }
+        ensures kept { room self.new.stack ≡ room self.old.stack }
     {
         match internal(callee) {
             Some(number) => self.call_inside(unit, number, values),

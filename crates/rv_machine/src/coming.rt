@@ -7,7 +7,7 @@ ghost use Rattle.rv_frames.specs.Frames.{Now, comes, valued, listed, done};
 ghost use Rattle.rv_frames.specs.Passing.{comes_as, is_kind};
 ghost use Rattle.rv_machine.specs.Machines.{MovesTo, kind_taken, is_over};
 ghost use Rattle.rv_machine.specs.Points.{control, MovesOn};
-ghost use Rattle.rv_machine.specs.Stacks.{below, frames_with, waiting, set_aside, HasRoom};
+ghost use Rattle.rv_machine.specs.Stacks.{below, frames_with, waiting, set_aside, HasRoom, room};
 
 use crate::ends::{handle, take_count_end, take_end};
 use crate::frame::Frame;
@@ -23,6 +23,7 @@ impl Machine {
     pub(crate) fn pass(&mut self, unit: &FlatUnit, frame: Frame)
         ensures below { (now : Now) → is_kind (kind_taken frame) (comes_as now) ≡ false → MovesOn (flat_view unit.now) (comes now) (frames_with unit.now (frame ∷ waiting self.old.stack) (set_aside self.old.stack)) self.old.setting (comes now) (below unit.now self.new.stack) self.new.setting }
         ensures same { self.new.activation ≡ self.old.activation }
+        ensures kept { room self.new.stack ≡ room self.old.stack }
     {
         let _ = unit;
         match frame {
@@ -46,7 +47,8 @@ impl Machine {
     /// The value of an expression comes to this frame, which was on top.
     fn value_meets(&mut self, unit: &FlatUnit, frame: Frame, value: Result<i64, Cause>)
         requires { HasRoom 1 self.old.stack }
-        ensures { MovesTo unit.now (comes (valued value self.old.activation)) (frames_with unit.now (frame ∷ waiting self.old.stack) (set_aside self.old.stack)) self.old.setting self.new }
+        ensures moves { MovesTo unit.now (comes (valued value self.old.activation)) (frames_with unit.now (frame ∷ waiting self.old.stack) (set_aside self.old.stack)) self.old.setting self.new }
+        ensures kept { room self.new.stack ≡ room self.old.stack }
     {
         match frame {
             Frame::Operand(operand) => {
@@ -68,8 +70,9 @@ impl Machine {
     /// The value of an expression comes to the frame on top.
     pub(crate) fn value_comes(&mut self, unit: &FlatUnit, value: Result<i64, Cause>)
         requires room { HasRoom 1 self.old.stack }
-        requires waits { waiting self.old.stack ≡ [] → ⊥ }
-        ensures { MovesTo unit.now (comes (valued value self.old.activation)) (below unit.now self.old.stack) self.old.setting self.new }
+        requires waits { waiting self.old.stack ≡ [] → set_aside self.old.stack ≡ [] → ⊥ }
+        ensures moves { MovesTo unit.now (comes (valued value self.old.activation)) (below unit.now self.old.stack) self.old.setting self.new }
+        ensures kept { room self.new.stack ≡ room self.old.stack }
     {
         if let Some(frame) = self.stack.pop() {
             self.value_meets(unit, frame, value);
@@ -79,7 +82,8 @@ impl Machine {
     /// The end of a statement comes to this frame, which was on top.
     fn end_meets(&mut self, unit: &FlatUnit, frame: Frame, end: End)
         requires { HasRoom 1 self.old.stack }
-        ensures { MovesTo unit.now (comes (done end self.old.activation)) (frames_with unit.now (frame ∷ waiting self.old.stack) (set_aside self.old.stack)) self.old.setting self.new }
+        ensures moves { MovesTo unit.now (comes (done end self.old.activation)) (frames_with unit.now (frame ∷ waiting self.old.stack) (set_aside self.old.stack)) self.old.setting self.new }
+        ensures kept { room self.new.stack ≡ room self.old.stack }
     {
         match frame {
             Frame::End(part) => {
@@ -108,8 +112,9 @@ impl Machine {
     /// The end of a statement comes to the frame on top.
     pub(crate) fn end_comes(&mut self, unit: &FlatUnit, end: End)
         requires room { HasRoom 1 self.old.stack }
-        requires waits { waiting self.old.stack ≡ [] → ⊥ }
-        ensures { MovesTo unit.now (comes (done end self.old.activation)) (below unit.now self.old.stack) self.old.setting self.new }
+        requires waits { waiting self.old.stack ≡ [] → set_aside self.old.stack ≡ [] → ⊥ }
+        ensures moves { MovesTo unit.now (comes (done end self.old.activation)) (below unit.now self.old.stack) self.old.setting self.new }
+        ensures kept { room self.new.stack ≡ room self.old.stack }
     {
         if let Some(frame) = self.stack.pop() {
             self.end_meets(unit, frame, end);
@@ -118,7 +123,8 @@ impl Machine {
 
     /// The values of arguments, or those that a call gives, come to this frame, which was on top.
     fn values_meet(&mut self, unit: &FlatUnit, frame: Frame, outcome: Result<Args, Cause>)
-        ensures { MovesTo unit.now (comes (listed outcome self.old.activation)) (frames_with unit.now (frame ∷ waiting self.old.stack) (set_aside self.old.stack)) self.old.setting self.new }
+        ensures moves { MovesTo unit.now (comes (listed outcome self.old.activation)) (frames_with unit.now (frame ∷ waiting self.old.stack) (set_aside self.old.stack)) self.old.setting self.new }
+        ensures kept { room self.new.stack ≡ room self.old.stack }
     {
         match frame {
             Frame::Values(part) => {
@@ -133,8 +139,9 @@ impl Machine {
 
     /// The values of arguments, or those that a call gives, come to the frame on top.
     pub(crate) fn values_come(&mut self, unit: &FlatUnit, outcome: Result<Args, Cause>)
-        requires { waiting self.old.stack ≡ [] → ⊥ }
-        ensures { MovesTo unit.now (comes (listed outcome self.old.activation)) (below unit.now self.old.stack) self.old.setting self.new }
+        requires { waiting self.old.stack ≡ [] → set_aside self.old.stack ≡ [] → ⊥ }
+        ensures moves { MovesTo unit.now (comes (listed outcome self.old.activation)) (below unit.now self.old.stack) self.old.setting self.new }
+        ensures kept { room self.new.stack ≡ room self.old.stack }
     {
         if let Some(frame) = self.stack.pop() {
             self.values_meet(unit, frame, outcome);
@@ -144,7 +151,8 @@ impl Machine {
     /// How a run ends comes to this frame, which was on top, and passes it.
     fn over_meets(&mut self, unit: &FlatUnit, frame: Frame, point: Point)
         requires { is_over point ≡ true }
-        ensures { MovesTo unit.now (control (trees unit.now.code) point self.old.activation) (frames_with unit.now (frame ∷ waiting self.old.stack) (set_aside self.old.stack)) self.old.setting self.new }
+        ensures moves { MovesTo unit.now (control (trees unit.now.code) point self.old.activation) (frames_with unit.now (frame ∷ waiting self.old.stack) (set_aside self.old.stack)) self.old.setting self.new }
+        ensures kept { room self.new.stack ≡ room self.old.stack }
     {
         self.pass(unit, frame);
         self.point = point;
@@ -153,8 +161,9 @@ impl Machine {
     /// How a run ends comes to the frame on top, and passes it.
     pub(crate) fn over_comes(&mut self, unit: &FlatUnit, point: Point)
         requires over { is_over point ≡ true }
-        requires waits { waiting self.old.stack ≡ [] → ⊥ }
-        ensures { MovesTo unit.now (control (trees unit.now.code) point self.old.activation) (below unit.now self.old.stack) self.old.setting self.new }
+        requires waits { waiting self.old.stack ≡ [] → set_aside self.old.stack ≡ [] → ⊥ }
+        ensures moves { MovesTo unit.now (control (trees unit.now.code) point self.old.activation) (below unit.now self.old.stack) self.old.setting self.new }
+        ensures kept { room self.new.stack ≡ room self.old.stack }
     {
         if let Some(frame) = self.stack.pop() {
             self.over_meets(unit, frame, point);

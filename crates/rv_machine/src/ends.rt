@@ -6,7 +6,7 @@ ghost use Rattle.rv_flat.specs.Trees.{tree_at, as_handlers};
 ghost use Rattle.rv_frames.specs.Frames.{Frame as Waiting, handling, comes, done};
 ghost use Rattle.rv_frames.specs.Rests.{is_next};
 ghost use Rattle.rv_machine.specs.Points.{control, left_by, Leads, LeadsAcross};
-ghost use Rattle.rv_machine.specs.Stacks.{below, count_frame, end_frame, HasRoom};
+ghost use Rattle.rv_machine.specs.Stacks.{below, count_frame, end_frame, HasRoom, room};
 
 use crate::choices::handler_of;
 use crate::frame::{Count, EndFrame};
@@ -49,7 +49,8 @@ pub fn handle(
     end: End,
 ) -> Point
     requires { HasRoom 1 stack.old }
-    ensures { LeadsAcross setting.old (comes (done end activation.now)) (handling (as_handlers (tree_at (trees unit.now.code) handlers)) ∷ below unit.now stack.old) setting.new (control (trees unit.now.code) result activation.now) (below unit.now stack.new) }
+    ensures leads { LeadsAcross setting.old (comes (done end activation.now)) (handling (as_handlers (tree_at (trees unit.now.code) handlers)) ∷ below unit.now stack.old) setting.new (control (trees unit.now.code) result activation.now) (below unit.now stack.new) }
+    ensures kept { room stack.new ≡ room stack.old }
 {
     let Some(exception) = raised(end) else {
         return Point::Done(end);
@@ -90,7 +91,8 @@ pub fn take_end(
     end: End,
 ) -> Point
     requires { HasRoom 1 stack.old }
-    ensures { Leads (comes (done end activation.now)) (end_frame unit.now frame ∷ below unit.now stack.old) (control (trees unit.now.code) result activation.now) (below unit.now stack.new) }
+    ensures leads { Leads (comes (done end activation.now)) (end_frame unit.now frame ∷ below unit.now stack.old) (control (trees unit.now.code) result activation.now) (below unit.now stack.new) }
+    ensures kept { room stack.new ≡ room stack.old }
 {
     match frame {
         EndFrame::Turning(turns, condition, statements) => {

@@ -1,11 +1,11 @@
 //! One move in an expression (4.4), or in the arguments of a call (6.4.1).
 
-ghost use Rattle.std.specs.Prelude.{◌≤◌};
+ghost use Rattle.std.specs.Prelude.{◌≡◌, ◌≤◌};
 ghost use Rattle.rv_flat.specs.Tables.{trees};
 ghost use Rattle.rv_flat.specs.Trees.{tree_at, as_expression, as_expressions, as_links};
 ghost use Rattle.rv_frames.specs.Frames.{evaluates, links as links_of, argues};
 ghost use Rattle.rv_machine.specs.Points.{control, Leads};
-ghost use Rattle.rv_machine.specs.Stacks.{below, HasRoom};
+ghost use Rattle.rv_machine.specs.Stacks.{below, HasRoom, room};
 
 use crate::frame::{OperandFrame, ValuesFrame};
 use crate::nodes::{ExpressionNode, expression_at, expressions_at, links_at};
@@ -19,7 +19,8 @@ use rv_value::Args;
 /// An expression: its value, or its first operand before what waits for that (4.4).
 pub fn evaluate(unit: &FlatUnit, stack: &mut Stack, activation: &Activation, number: usize) -> Point
     requires { HasRoom 2 stack.old }
-    ensures { Leads (evaluates (as_expression (tree_at (trees unit.now.code) number)) activation.now) (below unit.now stack.old) (control (trees unit.now.code) result activation.now) (below unit.now stack.new) }
+    ensures leads { Leads (evaluates (as_expression (tree_at (trees unit.now.code) number)) activation.now) (below unit.now stack.old) (control (trees unit.now.code) result activation.now) (below unit.now stack.new) }
+    ensures kept { room stack.new ≡ room stack.old }
 {
     match expression_at(&unit.code, number) {
         ExpressionNode::Value(value) => Point::Valued(Ok(value)),
@@ -54,7 +55,8 @@ pub fn link(
     value: i64,
 ) -> Point
     requires { HasRoom 2 stack.old }
-    ensures { Leads (links_of (as_links (tree_at (trees unit.now.code) links)) value activation.now) (below unit.now stack.old) (control (trees unit.now.code) result activation.now) (below unit.now stack.new) }
+    ensures leads { Leads (links_of (as_links (tree_at (trees unit.now.code) links)) value activation.now) (below unit.now stack.old) (control (trees unit.now.code) result activation.now) (below unit.now stack.new) }
+    ensures kept { room stack.new ≡ room stack.old }
 {
     match links_at(&unit.code, links) {
         None => Point::Valued(Ok(value)),
@@ -77,7 +79,8 @@ pub fn argue(
     values: Args,
 ) -> Point
     requires { HasRoom 2 stack.old }
-    ensures { Leads (argues (as_expressions (tree_at (trees unit.now.code) arguments)) values activation.now) (below unit.now stack.old) (control (trees unit.now.code) result activation.now) (below unit.now stack.new) }
+    ensures leads { Leads (argues (as_expressions (tree_at (trees unit.now.code) arguments)) values activation.now) (below unit.now stack.old) (control (trees unit.now.code) result activation.now) (below unit.now stack.new) }
+    ensures kept { room stack.new ≡ room stack.old }
 {
     match expressions_at(&unit.code, arguments) {
         None => Point::Listed(Ok(values)),

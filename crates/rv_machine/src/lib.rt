@@ -14,6 +14,7 @@ pub mod expressions;
 pub mod frame;
 pub mod machine;
 mod moves;
+pub mod needs;
 pub mod next;
 pub mod nodes;
 pub mod outcomes;

@@ -4,7 +4,7 @@ ghost use Rattle.std.specs.Prelude.{◌≡◌, ◌≤◌, ◌<◌, [], true, fal
 ghost use Rattle.rv_flat.specs.Tables.{trees};
 ghost use Rattle.rv_machine.specs.Machines.{MovesTo, question, is_coming};
 ghost use Rattle.rv_machine.specs.Points.{control};
-ghost use Rattle.rv_machine.specs.Stacks.{below, waiting, HasRoom, HasSpace};
+ghost use Rattle.rv_machine.specs.Stacks.{below, waiting, set_aside, HasRoom, HasSpace, room};
 
 use crate::expressions::{argue, evaluate, link};
 use crate::frame::Count;
@@ -22,7 +22,8 @@ impl Machine {
     // An expression (4.4).
     fn at_expression(&mut self, unit: &FlatUnit, number: usize)
         requires { HasRoom 2 self.old.stack }
-        ensures { MovesTo unit.now (control (trees unit.now.code) (Point.Evaluates number) self.old.activation) (below unit.now self.old.stack) self.old.setting self.new }
+        ensures moves { MovesTo unit.now (control (trees unit.now.code) (Point.Evaluates number) self.old.activation) (below unit.now self.old.stack) self.old.setting self.new }
+        ensures kept { room self.new.stack ≡ room self.old.stack }
     {
         self.point = evaluate(unit, &mut self.stack, &self.activation, number);
     }
@@ -30,7 +31,8 @@ impl Machine {
     // The links behind a value (4.5).
     fn at_links(&mut self, unit: &FlatUnit, links: usize, value: i64)
         requires { HasRoom 2 self.old.stack }
-        ensures { MovesTo unit.now (control (trees unit.now.code) (Point.Links links value) self.old.activation) (below unit.now self.old.stack) self.old.setting self.new }
+        ensures moves { MovesTo unit.now (control (trees unit.now.code) (Point.Links links value) self.old.activation) (below unit.now self.old.stack) self.old.setting self.new }
+        ensures kept { room self.new.stack ≡ room self.old.stack }
     {
         self.point = link(unit, &mut self.stack, &self.activation, links, value);
     }
@@ -38,7 +40,8 @@ impl Machine {
     // The arguments behind these values (6.4.1).
     fn at_arguments(&mut self, unit: &FlatUnit, arguments: usize, values: Args)
         requires { HasRoom 2 self.old.stack }
-        ensures { MovesTo unit.now (control (trees unit.now.code) (Point.Argues arguments values) self.old.activation) (below unit.now self.old.stack) self.old.setting self.new }
+        ensures moves { MovesTo unit.now (control (trees unit.now.code) (Point.Argues arguments values) self.old.activation) (below unit.now self.old.stack) self.old.setting self.new }
+        ensures kept { room self.new.stack ≡ room self.old.stack }
     {
         self.point = argue(unit, &mut self.stack, &self.activation, arguments, values);
     }
@@ -46,7 +49,8 @@ impl Machine {
     // A statement (5.1).
     fn at_statement(&mut self, unit: &FlatUnit, number: usize)
         requires { HasRoom 2 self.old.stack }
-        ensures { MovesTo unit.now (control (trees unit.now.code) (Point.Runs number) self.old.activation) (below unit.now self.old.stack) self.old.setting self.new }
+        ensures moves { MovesTo unit.now (control (trees unit.now.code) (Point.Runs number) self.old.activation) (below unit.now self.old.stack) self.old.setting self.new }
+        ensures kept { room self.new.stack ≡ room self.old.stack }
     {
         self.point = run(
             unit,
@@ -60,7 +64,8 @@ impl Machine {
     // Statements (5.1).
     fn at_statements(&mut self, unit: &FlatUnit, statements: usize)
         requires { HasRoom 1 self.old.stack }
-        ensures { MovesTo unit.now (control (trees unit.now.code) (Point.RunsAll statements) self.old.activation) (below unit.now self.old.stack) self.old.setting self.new }
+        ensures moves { MovesTo unit.now (control (trees unit.now.code) (Point.RunsAll statements) self.old.activation) (below unit.now self.old.stack) self.old.setting self.new }
+        ensures kept { room self.new.stack ≡ room self.old.stack }
     {
         self.point = run_all(unit, &mut self.stack, &mut self.activation, statements);
     }
@@ -68,14 +73,16 @@ impl Machine {
     // Branches, before the statements behind `else` (5.3).
     fn at_branches(&mut self, unit: &FlatUnit, branches: usize, otherwise: usize)
         requires { HasRoom 1 self.old.stack }
-        ensures { MovesTo unit.now (control (trees unit.now.code) (Point.Tries branches otherwise) self.old.activation) (below unit.now self.old.stack) self.old.setting self.new }
+        ensures moves { MovesTo unit.now (control (trees unit.now.code) (Point.Tries branches otherwise) self.old.activation) (below unit.now self.old.stack) self.old.setting self.new }
+        ensures kept { room self.new.stack ≡ room self.old.stack }
     {
         self.point = try_branches(unit, &mut self.stack, &self.activation, branches, otherwise);
     }
 
     // The alternatives for a value (5.4).
     fn at_alternatives(&mut self, unit: &FlatUnit, alternatives: usize, value: i64)
-        ensures { MovesTo unit.now (control (trees unit.now.code) (Point.Selects alternatives value) self.old.activation) (below unit.now self.old.stack) self.old.setting self.new }
+        ensures moves { MovesTo unit.now (control (trees unit.now.code) (Point.Selects alternatives value) self.old.activation) (below unit.now self.old.stack) self.old.setting self.new }
+        ensures kept { room self.new.stack ≡ room self.old.stack }
     {
         self.point = select(unit, &self.activation, alternatives, value);
     }
@@ -83,7 +90,8 @@ impl Machine {
     // So many turns of a loop at most (5.5).
     fn at_turns(&mut self, unit: &FlatUnit, turns: u64, condition: usize, statements: usize)
         requires { HasRoom 1 self.old.stack }
-        ensures { MovesTo unit.now (control (trees unit.now.code) (Point.Turns turns condition statements) self.old.activation) (below unit.now self.old.stack) self.old.setting self.new }
+        ensures moves { MovesTo unit.now (control (trees unit.now.code) (Point.Turns turns condition statements) self.old.activation) (below unit.now self.old.stack) self.old.setting self.new }
+        ensures kept { room self.new.stack ≡ room self.old.stack }
     {
         self.point = turn(
             unit,
@@ -98,7 +106,8 @@ impl Machine {
     // The values of a loop's range that are left (5.5).
     fn at_values(&mut self, unit: &FlatUnit, values: Count, statements: usize)
         requires { HasRoom 1 self.old.stack }
-        ensures { MovesTo unit.now (control (trees unit.now.code) (Point.Counts values statements) self.old.activation) (below unit.now self.old.stack) self.old.setting self.new }
+        ensures moves { MovesTo unit.now (control (trees unit.now.code) (Point.Counts values statements) self.old.activation) (below unit.now self.old.stack) self.old.setting self.new }
+        ensures kept { room self.new.stack ≡ room self.old.stack }
     {
         self.point = count(
             unit,
@@ -112,7 +121,8 @@ impl Machine {
     // Declarations (3.11).
     fn at_declarations(&mut self, unit: &FlatUnit, declarations: usize)
         requires { HasRoom 1 self.old.stack }
-        ensures { MovesTo unit.now (control (trees unit.now.code) (Point.Declares declarations) self.old.activation) (below unit.now self.old.stack) self.old.setting self.new }
+        ensures moves { MovesTo unit.now (control (trees unit.now.code) (Point.Declares declarations) self.old.activation) (below unit.now self.old.stack) self.old.setting self.new }
+        ensures kept { room self.new.stack ≡ room self.old.stack }
     {
         self.point = declare(unit, &mut self.stack, &self.activation, declarations);
     }
@@ -120,7 +130,8 @@ impl Machine {
     // The end of a body that isn't asked, since its actor is left waiting, or in a body that it called (9.5.1).
     fn at_end(&mut self, unit: &FlatUnit, request: Request, outcome: Result<Args, Cause>)
         requires { question (Point.Ends request outcome) ≡ None }
-        ensures { MovesTo unit.now (control (trees unit.now.code) (Point.Ends request outcome) self.old.activation) (below unit.now self.old.stack) self.old.setting self.new }
+        ensures moves { MovesTo unit.now (control (trees unit.now.code) (Point.Ends request outcome) self.old.activation) (below unit.now self.old.stack) self.old.setting self.new }
+        ensures kept { room self.new.stack ≡ room self.old.stack }
     {
         let _ = unit;
         let _ = request;
@@ -130,7 +141,8 @@ impl Machine {
     // The end of a task that can't quit (9.3).
     fn at_task_end(&mut self, unit: &FlatUnit, outcome: Result<Args, Cause>)
         requires { question (Point.Quits outcome) ≡ None }
-        ensures { MovesTo unit.now (control (trees unit.now.code) (Point.Quits outcome) self.old.activation) (below unit.now self.old.stack) self.old.setting self.new }
+        ensures moves { MovesTo unit.now (control (trees unit.now.code) (Point.Quits outcome) self.old.activation) (below unit.now self.old.stack) self.old.setting self.new }
+        ensures kept { room self.new.stack ≡ room self.old.stack }
     {
         let _ = unit;
         self.point = Point::Quitted(exit_of(&outcome));
@@ -141,8 +153,9 @@ impl Machine {
         requires room { HasRoom 3 self.old.stack }
         requires space { HasSpace self.old.stack }
         requires unasked { question point ≡ None }
-        requires waits { is_coming point ≡ true → waiting self.old.stack ≡ [] → ⊥ }
-        ensures { MovesTo unit.now (control (trees unit.now.code) point self.old.activation) (below unit.now self.old.stack) self.old.setting self.new }
+        requires waits { is_coming point ≡ true → waiting self.old.stack ≡ [] → set_aside self.old.stack ≡ [] → ⊥ }
+        ensures moves { MovesTo unit.now (control (trees unit.now.code) point self.old.activation) (below unit.now self.old.stack) self.old.setting self.new }
+        ensures kept { room self.new.stack ≡ room self.old.stack }
     {
         match point {
             Point::Evaluates(number) => self.at_expression(unit, number),
@@ -179,8 +192,9 @@ impl Machine {
         requires room { HasRoom 3 self.old.stack }
         requires space { HasSpace self.old.stack }
         requires unasked { question self.old.point ≡ None }
-        requires waits { is_coming self.old.point ≡ true → waiting self.old.stack ≡ [] → ⊥ }
-        ensures { MovesTo unit.now (control (trees unit.now.code) self.old.point self.old.activation) (below unit.now self.old.stack) self.old.setting self.new }
+        requires waits { is_coming self.old.point ≡ true → waiting self.old.stack ≡ [] → set_aside self.old.stack ≡ [] → ⊥ }
+        ensures moves { MovesTo unit.now (control (trees unit.now.code) self.old.point self.old.activation) (below unit.now self.old.stack) self.old.setting self.new }
+        ensures kept { room self.new.stack ≡ room self.old.stack }
     {
         let point = self.point;
         self.move_at(unit, point);

@@ -1,8 +1,8 @@
 //! A machine runs up to the next request, or to the end.
 
 ghost use Rattle.std.specs.Prelude.{◌≡◌, ◌≤◌, ◌<◌, [], IsTrue, IsFalse, Some, None, true};
-ghost use Rattle.rv_machine.specs.Machines.{stands, left, question, is_coming, final_at, OnAsks, OnEnded, OnFull, AsksNow, EndsNow};
-ghost use Rattle.rv_machine.specs.Stacks.{waiting, HasRoom, HasSpace};
+ghost use Rattle.rv_machine.specs.Machines.{stands, left, question, is_coming, final_at, Fits, OnAsks, OnEnded, AsksNow, EndsNow};
+ghost use Rattle.rv_machine.specs.Stacks.{waiting, set_aside};
 
 use crate::machine::Machine;
 use crate::point::Point;
@@ -32,8 +32,6 @@ pub enum Next {
     Asks(Request),
     /// It has ended.
     Ended(Final),
-    /// The stack has no room for another move.
-    Full,
 }
 
 impl Machine {
@@ -84,7 +82,8 @@ impl Machine {
     fn is_over(&self) -> bool
         ensures yes { IsTrue result → is_coming self.now.point ≡ true }
         ensures empty { IsTrue result → waiting self.now.stack ≡ [] }
-        ensures no { IsFalse result → is_coming self.now.point ≡ true → waiting self.now.stack ≡ [] → ⊥ }
+        ensures alone { IsTrue result → set_aside self.now.stack ≡ [] }
+        ensures no { IsFalse result → is_coming self.now.point ≡ true → waiting self.now.stack ≡ [] → set_aside self.now.stack ≡ [] → ⊥ }
     {
         self.is_coming() && self.stack.is_empty()
     }
@@ -102,20 +101,17 @@ impl Machine {
     }
 
     /// Moves up to the next request, or to the end of the run. What the machine stands for stays, and at a request, and at an end,
-    /// it stays where it is. It takes no memory.
+    /// it stays where it is. It takes no memory: what the stack still grows to fits in the memory that it has.
     pub fn next(&mut self, unit: &FlatUnit) -> Next
+        requires { Fits unit.now self.old }
         ensures same { stands unit.now self.new ≡ stands unit.now self.old }
         ensures asks { OnAsks result (λ request. AsksNow (stands unit.now self.new) request) }
         ensures question { OnAsks result (λ request. question self.new.point ≡ Some request) }
-        ensures room { OnAsks result (λ request. HasRoom 4 self.new.stack) }
         ensures ended { OnEnded result (λ how. EndsNow (stands unit.now self.new) how) }
-        ensures full { OnFull result (HasRoom 4 self.new.stack → HasSpace self.new.stack → ⊥) }
         ensures left { left unit.now self.new ≤ left unit.now self.old }
+        ensures fits { Fits unit.now self.new }
     {
         'moves: loop {
-            if !self.stack.is_roomy() {
-                return Next::Full;
-            }
             if let Some(request) = self.question() {
                 return Next::Asks(request);
             }

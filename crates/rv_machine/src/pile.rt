@@ -32,14 +32,6 @@ impl<T: Drop> Pile<T> {
         self.items.is_empty()
     }
 
-    /// Whether there is room for so many more.
-    pub fn has_room(&self, more: usize) -> bool
-        ensures yes { IsTrue result → length self.now.items.items + more ≤ self.now.capacity }
-        ensures no { IsFalse result → length self.now.items.items + more ≤ self.now.capacity → ⊥ }
-    {
-        more <= self.capacity && self.items.len() <= self.capacity - more
-    }
-
     /// An element is put on top, for which there must be room.
     pub fn push(&mut self, item: T)
         requires { length self.old.items.items < self.old.capacity }

@@ -3,7 +3,7 @@
 ghost use Rattle.std.specs.Prelude.{◌≡◌, ◌≤◌, ◌<◌, ◌∷◌, []};
 ghost use Rattle.rv_frames.specs.Frames.{comes, closes, reaches, outside, performing, body_setting};
 ghost use Rattle.rv_machine.specs.Machines.{MovesTo};
-ghost use Rattle.rv_machine.specs.Stacks.{below, frames_with, waiting, set_aside, HasRoom};
+ghost use Rattle.rv_machine.specs.Stacks.{below, frames_with, waiting, set_aside, HasRoom, room};
 
 use crate::frame::Frame;
 use crate::machine::Machine;
@@ -52,7 +52,8 @@ impl Machine {
         components: Scalars,
         steps: u32,
     )
-        ensures { MovesTo unit.now (comes (closes outcome components steps)) (frames_with unit.now (frame ∷ waiting self.old.stack) (set_aside self.old.stack)) self.old.setting self.new }
+        ensures moves { MovesTo unit.now (comes (closes outcome components steps)) (frames_with unit.now (frame ∷ waiting self.old.stack) (set_aside self.old.stack)) self.old.setting self.new }
+        ensures kept { room self.new.stack ≡ room self.old.stack }
     {
         match frame {
             Frame::Resuming(setting) => {
@@ -83,8 +84,9 @@ impl Machine {
         components: Scalars,
         steps: u32,
     )
-        requires { waiting self.old.stack ≡ [] → ⊥ }
-        ensures { MovesTo unit.now (comes (closes outcome components steps)) (below unit.now self.old.stack) self.old.setting self.new }
+        requires { waiting self.old.stack ≡ [] → set_aside self.old.stack ≡ [] → ⊥ }
+        ensures moves { MovesTo unit.now (comes (closes outcome components steps)) (below unit.now self.old.stack) self.old.setting self.new }
+        ensures kept { room self.new.stack ≡ room self.old.stack }
     {
         if let Some(frame) = self.stack.pop() {
             self.body_meets(unit, frame, outcome, components, steps);
@@ -104,7 +106,8 @@ impl Machine {
         components: Scalars,
     )
         requires { HasRoom 3 self.old.stack }
-        ensures { MovesTo unit.now (comes (reaches (Asked.Started object number is_function components))) (performing held values ∷ below unit.now self.old.stack) self.old.setting self.new }
+        ensures moves { MovesTo unit.now (comes (reaches (Asked.Started object number is_function components))) (performing held values ∷ below unit.now self.old.stack) self.old.setting self.new }
+        ensures kept { room self.new.stack ≡ room self.old.stack }
     {
         if held == 0 {
             self.point = Point::Outside(Err(Cause::Raised(Exception::ProgramError)));
@@ -118,7 +121,8 @@ impl Machine {
     /// What a request comes to comes to the call of another object that waits for it, by an actor that may hold so many more.
     fn perform(&mut self, unit: &FlatUnit, held: u32, values: Args, asked: Asked)
         requires { HasRoom 3 self.old.stack }
-        ensures { MovesTo unit.now (comes (reaches asked)) (performing held values ∷ below unit.now self.old.stack) self.old.setting self.new }
+        ensures moves { MovesTo unit.now (comes (reaches asked)) (performing held values ∷ below unit.now self.old.stack) self.old.setting self.new }
+        ensures kept { room self.new.stack ≡ room self.old.stack }
     {
         match asked {
             Asked::Given(given) => {
@@ -136,7 +140,8 @@ impl Machine {
     /// What a request comes to comes to this frame, which was on top.
     fn request_meets(&mut self, unit: &FlatUnit, frame: Frame, asked: Asked)
         requires { HasRoom 3 self.old.stack }
-        ensures { MovesTo unit.now (comes (reaches asked)) (frames_with unit.now (frame ∷ waiting self.old.stack) (set_aside self.old.stack)) self.old.setting self.new }
+        ensures moves { MovesTo unit.now (comes (reaches asked)) (frames_with unit.now (frame ∷ waiting self.old.stack) (set_aside self.old.stack)) self.old.setting self.new }
+        ensures kept { room self.new.stack ≡ room self.old.stack }
     {
         match frame {
             Frame::Performing(held, values) => self.perform(unit, held, values, asked),
@@ -150,8 +155,9 @@ impl Machine {
     /// What a request comes to comes to the frame on top.
     pub(crate) fn request_comes(&mut self, unit: &FlatUnit, asked: Asked)
         requires room { HasRoom 3 self.old.stack }
-        requires waits { waiting self.old.stack ≡ [] → ⊥ }
-        ensures { MovesTo unit.now (comes (reaches asked)) (below unit.now self.old.stack) self.old.setting self.new }
+        requires waits { waiting self.old.stack ≡ [] → set_aside self.old.stack ≡ [] → ⊥ }
+        ensures moves { MovesTo unit.now (comes (reaches asked)) (below unit.now self.old.stack) self.old.setting self.new }
+        ensures kept { room self.new.stack ≡ room self.old.stack }
     {
         if let Some(frame) = self.stack.pop() {
             self.request_meets(unit, frame, asked);
@@ -161,7 +167,8 @@ impl Machine {
     /// What a call of another object comes to comes to this frame, which was on top: to the caller, which has its steps anew where
     /// it is a task's own body (limits own).
     fn call_meets(&mut self, unit: &FlatUnit, frame: Frame, outcome: Result<Args, Cause>)
-        ensures { MovesTo unit.now (comes (outside outcome)) (frames_with unit.now (frame ∷ waiting self.old.stack) (set_aside self.old.stack)) self.old.setting self.new }
+        ensures moves { MovesTo unit.now (comes (outside outcome)) (frames_with unit.now (frame ∷ waiting self.old.stack) (set_aside self.old.stack)) self.old.setting self.new }
+        ensures kept { room self.new.stack ≡ room self.old.stack }
     {
         match frame {
             Frame::Answering => {
@@ -178,8 +185,9 @@ impl Machine {
 
     /// What a call of another object comes to comes to the frame on top.
     pub(crate) fn call_comes(&mut self, unit: &FlatUnit, outcome: Result<Args, Cause>)
-        requires { waiting self.old.stack ≡ [] → ⊥ }
-        ensures { MovesTo unit.now (comes (outside outcome)) (below unit.now self.old.stack) self.old.setting self.new }
+        requires { waiting self.old.stack ≡ [] → set_aside self.old.stack ≡ [] → ⊥ }
+        ensures moves { MovesTo unit.now (comes (outside outcome)) (below unit.now self.old.stack) self.old.setting self.new }
+        ensures kept { room self.new.stack ≡ room self.old.stack }
     {
         if let Some(frame) = self.stack.pop() {
             self.call_meets(unit, frame, outcome);

@@ -1,11 +1,12 @@
 //! The stack of a machine: frames and activations are put on it and taken off.
 
 ghost use Rattle.std.specs.Prelude.{◌≡◌, ◌≤◌, ◌<◌, ◌+◌, ◌∷◌, [], IfOk, IfSome, IsNone, IsTrue, IsFalse, length};
-ghost use Rattle.rv_machine.specs.Stacks.{waiting, set_aside, first_of, rest_of, HasRoom, HasSpace};
+ghost use Rattle.rv_flat.specs.declared.unit.FlatUnit.{FlatUnit};
+ghost use Rattle.rv_machine.specs.Stacks.{below, frames_with, waiting, set_aside, first_of, rest_of, room, HasRoom, HasSpace};
 
 use crate::frame::{Count, EndFrame, Frame, OperandFrame, ValueFrame, ValuesFrame};
 use crate::pile::Pile;
-use crate::stack::{MOST_ACTIVATIONS, MOST_FRAMES, Stack};
+use crate::stack::Stack;
 use rv_code::MOST_SLOTS;
 use rv_event::entry::Exception;
 use rv_exec::activation::Activation;
@@ -14,36 +15,28 @@ use rv_value::{Args, Scalars};
 use std::alloc::{AllocError, Global};
 
 impl Stack {
-    /// An empty stack with its memory. Err where memory was refused.
-    pub fn new(alloc: Global) -> Result<Stack, AllocError>
-        ensures frames { IfOk result (λ s. waiting s ≡ []) }
-        ensures activations { IfOk result (λ s. set_aside s ≡ []) }
-        ensures room { IfOk result (λ s. HasRoom 4 s) }
-        ensures space { IfOk result (λ s. HasSpace s) }
+    /// An empty stack with the memory for so many frames and activations. Err where memory was refused.
+    pub fn reserve(alloc: Global, frames: usize, activations: usize) -> Result<Stack, AllocError>
+        ensures empty { IfOk result (λ s. waiting s ≡ []) }
+        ensures alone { IfOk result (λ s. set_aside s ≡ []) }
+        ensures frames { IfOk result (λ s. s.frames.capacity ≡ frames) }
+        ensures activations { IfOk result (λ s. s.activations.capacity ≡ activations) }
     {
-        let frames = Pile::reserve(alloc, MOST_FRAMES)?;
-        let activations = Pile::reserve(alloc, MOST_ACTIVATIONS)?;
+        let frames = Pile::reserve(alloc, frames)?;
+        let activations = Pile::reserve(alloc, activations)?;
         Ok(Stack {
             frames,
             activations,
         })
     }
 
-    /// Whether what one move puts on the stack still fits: at most four frames and an activation.
-    pub fn is_roomy(&self) -> bool
-        ensures frames { IsTrue result → HasRoom 4 self.now }
-        ensures activations { IsTrue result → HasSpace self.now }
-        ensures full { IsFalse result → HasRoom 4 self.now → HasSpace self.now → ⊥ }
-    {
-        self.frames.has_room(4) && self.activations.has_room(1)
-    }
-
-    /// Whether nothing waits.
+    /// Whether nothing waits, and no activation is set aside.
     pub fn is_empty(&self) -> bool
         ensures yes { IsTrue result → waiting self.now ≡ [] }
-        ensures no { IsFalse result → waiting self.now ≡ [] → ⊥ }
+        ensures alone { IsTrue result → set_aside self.now ≡ [] }
+        ensures no { IsFalse result → waiting self.now ≡ [] → set_aside self.now ≡ [] → ⊥ }
     {
-        self.frames.is_empty()
+        self.frames.is_empty() && self.activations.is_empty()
     }
 
     /// A frame of an expression is put on top.
@@ -53,6 +46,7 @@ impl Stack {
         ensures activations { self.new.activations ≡ self.old.activations }
         ensures longer { length self.new.frames.items.items ≡ length self.old.frames.items.items + 1 }
         ensures capacity { self.new.frames.capacity ≡ self.old.frames.capacity }
+        ensures kept { room self.new ≡ room self.old }
     {
         self.frames.push(Frame::Operand(frame));
     }
@@ -64,6 +58,7 @@ impl Stack {
         ensures activations { self.new.activations ≡ self.old.activations }
         ensures longer { length self.new.frames.items.items ≡ length self.old.frames.items.items + 1 }
         ensures capacity { self.new.frames.capacity ≡ self.old.frames.capacity }
+        ensures kept { room self.new ≡ room self.old }
     {
         self.frames.push(Frame::Arguing(values, arguments));
     }
@@ -75,6 +70,7 @@ impl Stack {
         ensures activations { self.new.activations ≡ self.old.activations }
         ensures longer { length self.new.frames.items.items ≡ length self.old.frames.items.items + 1 }
         ensures capacity { self.new.frames.capacity ≡ self.old.frames.capacity }
+        ensures kept { room self.new ≡ room self.old }
     {
         self.frames.push(Frame::Counting(count, statements));
     }
@@ -86,6 +82,7 @@ impl Stack {
         ensures activations { self.new.activations ≡ self.old.activations }
         ensures longer { length self.new.frames.items.items ≡ length self.old.frames.items.items + 1 }
         ensures capacity { self.new.frames.capacity ≡ self.old.frames.capacity }
+        ensures kept { room self.new ≡ room self.old }
     {
         self.frames.push(Frame::Value(frame));
     }
@@ -97,6 +94,7 @@ impl Stack {
         ensures activations { self.new.activations ≡ self.old.activations }
         ensures longer { length self.new.frames.items.items ≡ length self.old.frames.items.items + 1 }
         ensures capacity { self.new.frames.capacity ≡ self.old.frames.capacity }
+        ensures kept { room self.new ≡ room self.old }
     {
         self.frames.push(Frame::Values(frame));
     }
@@ -108,6 +106,7 @@ impl Stack {
         ensures activations { self.new.activations ≡ self.old.activations }
         ensures longer { length self.new.frames.items.items ≡ length self.old.frames.items.items + 1 }
         ensures capacity { self.new.frames.capacity ≡ self.old.frames.capacity }
+        ensures kept { room self.new ≡ room self.old }
     {
         self.frames.push(Frame::End(frame));
     }
@@ -119,6 +118,7 @@ impl Stack {
         ensures activations { self.new.activations ≡ self.old.activations }
         ensures longer { length self.new.frames.items.items ≡ length self.old.frames.items.items + 1 }
         ensures capacity { self.new.frames.capacity ≡ self.old.frames.capacity }
+        ensures kept { room self.new ≡ room self.old }
     {
         self.frames.push(Frame::Handling(handlers));
     }
@@ -130,6 +130,7 @@ impl Stack {
         ensures activations { self.new.activations ≡ self.old.activations }
         ensures longer { length self.new.frames.items.items ≡ length self.old.frames.items.items + 1 }
         ensures capacity { self.new.frames.capacity ≡ self.old.frames.capacity }
+        ensures kept { room self.new ≡ room self.old }
     {
         self.frames.push(Frame::Restoring(exception));
     }
@@ -141,6 +142,7 @@ impl Stack {
         ensures activations { self.new.activations ≡ self.old.activations }
         ensures longer { length self.new.frames.items.items ≡ length self.old.frames.items.items + 1 }
         ensures capacity { self.new.frames.capacity ≡ self.old.frames.capacity }
+        ensures kept { room self.new ≡ room self.old }
     {
         self.frames.push(Frame::Resuming(setting));
     }
@@ -152,6 +154,7 @@ impl Stack {
         ensures activations { self.new.activations ≡ self.old.activations }
         ensures longer { length self.new.frames.items.items ≡ length self.old.frames.items.items + 1 }
         ensures capacity { self.new.frames.capacity ≡ self.old.frames.capacity }
+        ensures kept { room self.new ≡ room self.old }
     {
         self.frames.push(Frame::Answering);
     }
@@ -163,6 +166,7 @@ impl Stack {
         ensures activations { self.new.activations ≡ self.old.activations }
         ensures longer { length self.new.frames.items.items ≡ length self.old.frames.items.items + 1 }
         ensures capacity { self.new.frames.capacity ≡ self.old.frames.capacity }
+        ensures kept { room self.new ≡ room self.old }
     {
         self.frames.push(Frame::Performing(held, values));
     }
@@ -174,6 +178,7 @@ impl Stack {
         ensures activations { self.new.activations ≡ self.old.activations }
         ensures longer { length self.new.frames.items.items ≡ length self.old.frames.items.items + 1 }
         ensures capacity { self.new.frames.capacity ≡ self.old.frames.capacity }
+        ensures kept { room self.new ≡ room self.old }
     {
         self.frames.push(Frame::Completing(is_function, setting));
     }
@@ -185,20 +190,28 @@ impl Stack {
         ensures activations { self.new.activations ≡ self.old.activations }
         ensures longer { length self.new.frames.items.items ≡ length self.old.frames.items.items + 1 }
         ensures capacity { self.new.frames.capacity ≡ self.old.frames.capacity }
+        ensures kept { room self.new ≡ room self.old }
     {
         self.frames.push(Frame::Exiting);
     }
 
-    /// The frame on top is taken off, if there is one.
+    /// The frame on top is taken off, if something waits. An activation that was set aside without a frame is one of a call that
+    /// waits for another object.
     pub fn pop(&mut self) -> Option<Frame>
-        ensures some { IfSome result (λ frame. waiting self.old ≡ frame ∷ waiting self.new) }
+        ensures some { IfSome result (λ frame. (unit : FlatUnit) → below unit self.old ≡ frames_with unit (frame ∷ waiting self.new) (set_aside self.new)) }
         ensures none { IsNone result → waiting self.old ≡ [] }
-        ensures same { IsNone result → waiting self.new ≡ [] }
-        ensures activations { self.new.activations ≡ self.old.activations }
+        ensures alone { IsNone result → set_aside self.old ≡ [] }
         ensures shorter { length self.new.frames.items.items ≤ length self.old.frames.items.items }
         ensures capacity { self.new.frames.capacity ≡ self.old.frames.capacity }
+        ensures kept { room self.new ≡ room self.old }
     {
-        self.frames.pop()
+        if let Some(frame) = self.frames.pop() {
+            return Some(frame);
+        }
+        if self.activations.is_empty() {
+            return None;
+        }
+        Some(Frame::Answering)
     }
 
     /// An activation is set aside while its call runs.
@@ -208,6 +221,7 @@ impl Stack {
         ensures activations { set_aside self.new ≡ activation ∷ set_aside self.old }
         ensures same { length self.new.frames.items.items ≡ length self.old.frames.items.items }
         ensures capacity { self.new.frames.capacity ≡ self.old.frames.capacity }
+        ensures kept { room self.new ≡ room self.old }
     {
         self.activations.push(activation);
     }
@@ -217,6 +231,7 @@ impl Stack {
         ensures frames { self.new.frames ≡ self.old.frames }
         ensures first { result ≡ first_of (set_aside self.old) }
         ensures rest { set_aside self.new ≡ rest_of (set_aside self.old) }
+        ensures kept { room self.new ≡ room self.old }
     {
         match self.activations.pop() {
             Some(activation) => activation,

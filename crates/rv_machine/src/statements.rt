@@ -7,7 +7,7 @@ ghost use Rattle.rv_flat.specs.Tables.{trees};
 ghost use Rattle.rv_flat.specs.Trees.{tree_at, as_expression, as_statement, as_statements, as_branches, as_alternatives, as_choices, as_declarations};
 ghost use Rattle.rv_frames.specs.Frames.{runs, runs_all, tries, selects_of, turns_of, counts, declares};
 ghost use Rattle.rv_machine.specs.Points.{control, Leads, LeadsIn};
-ghost use Rattle.rv_machine.specs.Stacks.{below, HasRoom};
+ghost use Rattle.rv_machine.specs.Stacks.{below, HasRoom, room};
 
 use crate::frame::{Count, EndFrame, ValueFrame, ValuesFrame};
 use crate::nodes::{
@@ -40,7 +40,8 @@ pub fn run(
     number: usize,
 ) -> Point
     requires { HasRoom 2 stack.old }
-    ensures { LeadsIn setting.now (runs (as_statement (tree_at (trees unit.now.code) number)) activation.now) (below unit.now stack.old) (control (trees unit.now.code) result activation.now) (below unit.now stack.new) }
+    ensures leads { LeadsIn setting.now (runs (as_statement (tree_at (trees unit.now.code) number)) activation.now) (below unit.now stack.old) (control (trees unit.now.code) result activation.now) (below unit.now stack.new) }
+    ensures kept { room stack.new ≡ room stack.old }
 {
     match statement_at(&unit.code, number) {
         StatementNode::Null => Point::Done(End::Next),
@@ -87,7 +88,8 @@ pub fn run_all(
     statements: usize,
 ) -> Point
     requires { HasRoom 1 stack.old }
-    ensures { Leads (runs_all (as_statements (tree_at (trees unit.now.code) statements)) activation.old) (below unit.now stack.old) (control (trees unit.now.code) result activation.new) (below unit.now stack.new) }
+    ensures leads { Leads (runs_all (as_statements (tree_at (trees unit.now.code) statements)) activation.old) (below unit.now stack.old) (control (trees unit.now.code) result activation.new) (below unit.now stack.new) }
+    ensures kept { room stack.new ≡ room stack.old }
 {
     match statements_at(&unit.code, statements) {
         None => Point::Done(End::Next),
@@ -110,7 +112,8 @@ pub fn try_branches(
     otherwise: usize,
 ) -> Point
     requires { HasRoom 1 stack.old }
-    ensures { Leads (tries (as_branches (tree_at (trees unit.now.code) branches)) (as_statements (tree_at (trees unit.now.code) otherwise)) activation.now) (below unit.now stack.old) (control (trees unit.now.code) result activation.now) (below unit.now stack.new) }
+    ensures leads { Leads (tries (as_branches (tree_at (trees unit.now.code) branches)) (as_statements (tree_at (trees unit.now.code) otherwise)) activation.now) (below unit.now stack.old) (control (trees unit.now.code) result activation.now) (below unit.now stack.new) }
+    ensures kept { room stack.new ≡ room stack.old }
 {
     match branches_at(&unit.code, branches) {
         None => Point::RunsAll(otherwise),
@@ -131,7 +134,8 @@ pub fn turn(
     statements: usize,
 ) -> Point
     requires { HasRoom 1 stack.old }
-    ensures { Leads (turns_of turns (as_expression (tree_at (trees unit.now.code) condition)) (as_statements (tree_at (trees unit.now.code) statements)) activation.now) (below unit.now stack.old) (control (trees unit.now.code) result activation.now) (below unit.now stack.new) }
+    ensures leads { Leads (turns_of turns (as_expression (tree_at (trees unit.now.code) condition)) (as_statements (tree_at (trees unit.now.code) statements)) activation.now) (below unit.now stack.old) (control (trees unit.now.code) result activation.now) (below unit.now stack.new) }
+    ensures kept { room stack.new ≡ room stack.old }
 {
     if turns == 0 {
         return Point::Done(End::Abandoned(Cause::Overrun));
@@ -149,7 +153,8 @@ pub fn count(
     statements: usize,
 ) -> Point
     requires { HasRoom 1 stack.old }
-    ensures { Leads (counts count.left count.values.is_reverse count.values.low count.values.high count.values.slot (as_statements (tree_at (trees unit.now.code) statements)) activation.old) (below unit.now stack.old) (control (trees unit.now.code) result activation.new) (below unit.now stack.new) }
+    ensures leads { Leads (counts count.left count.values.is_reverse count.values.low count.values.high count.values.slot (as_statements (tree_at (trees unit.now.code) statements)) activation.old) (below unit.now stack.old) (control (trees unit.now.code) result activation.new) (below unit.now stack.new) }
+    ensures kept { room stack.new ≡ room stack.old }
 {
     if count.left == 0 {
         return Point::Done(End::Next);
@@ -175,7 +180,8 @@ pub fn declare(
     declarations: usize,
 ) -> Point
     requires { HasRoom 1 stack.old }
-    ensures { Leads (declares (as_declarations (tree_at (trees unit.now.code) declarations)) activation.now) (below unit.now stack.old) (control (trees unit.now.code) result activation.now) (below unit.now stack.new) }
+    ensures leads { Leads (declares (as_declarations (tree_at (trees unit.now.code) declarations)) activation.now) (below unit.now stack.old) (control (trees unit.now.code) result activation.now) (below unit.now stack.new) }
+    ensures kept { room stack.new ≡ room stack.old }
 {
     match declarations_at(&unit.code, declarations) {
         None => Point::Done(End::Next),

@@ -1,13 +1,12 @@
 //! A machine for a task: it starts at the task's declarations (9.2).
 
-ghost use Rattle.std.specs.Prelude.{◌≡◌, ◌≤◌, [], pos, replicate, IfOk};
+ghost use Rattle.std.specs.Prelude.{◌≡◌, ◌≤◌, [], pos, replicate};
 ghost use Rattle.rv_exec.specs.Activations.{opened};
 ghost use Rattle.rv_exec.specs.Asking.{ended, and_then};
 ghost use Rattle.rv_exec.specs.Tasks.{task_run};
 ghost use Rattle.rv_flat.specs.FlatUnits.{flat_view};
 ghost use Rattle.rv_frames.specs.Frames.{quit};
-ghost use Rattle.rv_machine.specs.Machines.{stands};
-ghost use Rattle.rv_machine.specs.Stacks.{waiting, HasRoom};
+ghost use Rattle.rv_machine.specs.Machines.{stands, Fits, IsFor};
 
 use crate::frame::EndFrame;
 use crate::machine::Machine;
@@ -19,7 +18,6 @@ use rv_exec::activation::{Activation, MOST_STEPS};
 use rv_exec::machine::of_task;
 use rv_flat::unit::FlatUnit;
 use rv_value::{Args, Scalars};
-use std::alloc::{AllocError, Global};
 
 // A task's own body before its declarations.
 fn of_budget(requests: u32) -> Activation
@@ -34,19 +32,11 @@ fn of_budget(requests: u32) -> Activation
 }
 
 impl Machine {
-    /// Takes all memory that a run needs: an empty stack. Err where memory was refused.
-    pub fn reserve(alloc: Global) -> Result<Stack, AllocError>
-        ensures empty { IfOk result (λ stack. waiting stack ≡ []) }
-        ensures room { IfOk result (λ stack. HasRoom 4 stack) }
-    {
-        Stack::new(alloc)
-    }
-
     /// A machine at the start of an actor's task, which may make so many requests; its stack is empty (9.2).
     pub fn start_task(stack: Stack, unit: &FlatUnit, actor: usize, requests: u32) -> Machine
-        requires empty { waiting stack ≡ [] }
-        requires room { HasRoom 2 stack }
-        ensures { stands unit.now result ≡ and_then (task_run (flat_view unit.now) actor requests) (quit ended) }
+        requires { IsFor unit.now stack }
+        ensures stands { stands unit.now result ≡ and_then (task_run (flat_view unit.now) actor requests) (quit ended) }
+        ensures fits { Fits unit.now result }
     {
         let activation = of_budget(requests);
         match task(unit, actor) {

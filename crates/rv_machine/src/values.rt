@@ -5,7 +5,7 @@ ghost use Rattle.rv_flat.specs.Tables.{trees};
 ghost use Rattle.rv_flat.specs.Trees.{tree_at, as_expressions};
 ghost use Rattle.rv_frames.specs.Frames.{Frame as Waiting, arguing, comes, valued, listed, done};
 ghost use Rattle.rv_machine.specs.Points.{control, Leads};
-ghost use Rattle.rv_machine.specs.Stacks.{below, operand_frame, value_frame, values_frame, HasRoom};
+ghost use Rattle.rv_machine.specs.Stacks.{below, operand_frame, value_frame, values_frame, HasRoom, room};
 
 use crate::copying::copy_back;
 use crate::ends::is_next;
@@ -86,7 +86,8 @@ fn test(
     value: i64,
 ) -> Point
     requires { HasRoom 1 stack.old }
-    ensures { Leads (comes (valued (Ok value) activation.old)) (value_frame (trees unit.now.code) (ValueFrame.Testing turns condition statements) ∷ below unit.now stack.old) (control (trees unit.now.code) result activation.new) (below unit.now stack.new) }
+    ensures leads { Leads (comes (valued (Ok value) activation.old)) (value_frame (trees unit.now.code) (ValueFrame.Testing turns condition statements) ∷ below unit.now stack.old) (control (trees unit.now.code) result activation.new) (below unit.now stack.new) }
+    ensures kept { room stack.new ≡ room stack.old }
 {
     if !is_true(value) {
         return Point::Done(End::Next);
@@ -134,7 +135,8 @@ pub fn take_value(
     value: i64,
 ) -> Point
     requires { HasRoom 1 stack.old }
-    ensures { Leads (comes (valued (Ok value) activation.old)) (value_frame (trees unit.now.code) frame ∷ below unit.now stack.old) (control (trees unit.now.code) result activation.new) (below unit.now stack.new) }
+    ensures leads { Leads (comes (valued (Ok value) activation.old)) (value_frame (trees unit.now.code) frame ∷ below unit.now stack.old) (control (trees unit.now.code) result activation.new) (below unit.now stack.new) }
+    ensures kept { room stack.new ≡ room stack.old }
 {
     match frame {
         ValueFrame::Assigning(target) => Point::Done(activation.assign(target, value)),
@@ -224,7 +226,8 @@ pub fn part_comes(
     value: Result<i64, Cause>,
 ) -> Point
     requires { HasRoom 1 stack.old }
-    ensures { Leads (comes (valued value activation.old)) (value_frame (trees unit.now.code) frame ∷ below unit.now stack.old) (control (trees unit.now.code) result activation.new) (below unit.now stack.new) }
+    ensures leads { Leads (comes (valued value activation.old)) (value_frame (trees unit.now.code) frame ∷ below unit.now stack.old) (control (trees unit.now.code) result activation.new) (below unit.now stack.new) }
+    ensures kept { room stack.new ≡ room stack.old }
 {
     match value {
         Ok(value) => take_value(unit, stack, activation, frame, value),

@@ -3,26 +3,26 @@ use Rattle.rv_machine.proofs.Steps.{at_end, handling_on}
 use Rattle.rv_machine.proofs.EndSteps.{turn_goes, turn_stops, sequence_goes, sequence_stops, body_opens, body_stops, body_closes, task_quits}
 use Rattle.rv_machine.proofs.ends.take_end.Goals as goal
 
-pub returns-then-is_next : goal.returns-then-is_next
-returns-then-is_next c = at_end c.args.unit.now _ _ _ _ _ _ c.in-Turning.is (turn_goes _ _ _ _ _ _ (sym c.is_next.ensures ∙ c.if-is_next.true))
+pub returns-then-is_next-clause-leads : goal.returns-then-is_next-clause-leads
+returns-then-is_next-clause-leads c = at_end c.args.unit.now _ _ _ _ _ _ c.in-Turning.is (turn_goes _ _ _ _ _ _ (sym c.is_next.ensures ∙ c.if-is_next.true))
 
-pub returns-else-is_next : goal.returns-else-is_next
-returns-else-is_next c = at_end c.args.unit.now _ _ _ _ _ _ c.in-Turning.is (turn_stops _ _ _ _ _ _ _ (sym c.is_next.ensures ∙ c.if-is_next.false) c.left_by.ensures)
+pub returns-else-is_next-clause-leads : goal.returns-else-is_next-clause-leads
+returns-else-is_next-clause-leads c = at_end c.args.unit.now _ _ _ _ _ _ c.in-Turning.is (turn_stops _ _ _ _ _ _ _ (sym c.is_next.ensures ∙ c.if-is_next.false) c.left_by.ensures)
 
-pub returns-then-is_next-2 : goal.returns-then-is_next-2
-returns-then-is_next-2 c = at_end c.args.unit.now _ _ _ _ _ _ c.in-Sequencing.is (sequence_goes _ _ _ _ (sym c.is_next-in-Sequencing.ensures ∙ c.if-is_next-2.true))
+pub returns-then-is_next-2-clause-leads : goal.returns-then-is_next-2-clause-leads
+returns-then-is_next-2-clause-leads c = at_end c.args.unit.now _ _ _ _ _ _ c.in-Sequencing.is (sequence_goes _ _ _ _ (sym c.is_next-in-Sequencing.ensures ∙ c.if-is_next-2.true))
 
-pub returns-else-is_next-2 : goal.returns-else-is_next-2
-returns-else-is_next-2 c = at_end c.args.unit.now _ _ _ _ _ _ c.in-Sequencing.is (sequence_stops _ _ _ _ (sym c.is_next-in-Sequencing.ensures ∙ c.if-is_next-2.false))
+pub returns-else-is_next-2-clause-leads : goal.returns-else-is_next-2-clause-leads
+returns-else-is_next-2-clause-leads c = at_end c.args.unit.now _ _ _ _ _ _ c.in-Sequencing.is (sequence_stops _ _ _ _ (sym c.is_next-in-Sequencing.ensures ∙ c.if-is_next-2.false))
 
-pub returns-then-is_next-3 : goal.returns-then-is_next-3
-returns-then-is_next-3 c = at_end c.args.unit.now _ _ _ _ _ _ c.in-Opening.is (body_opens _ _ _ _ _ _ (sym c.is_next-in-Opening.ensures ∙ c.if-is_next-3.true) (handling_on c.args.unit.now c.args.stack.now c.push_handling.new.self _ c.push_handling.ensures.frames c.push_handling.ensures.activations))
+pub returns-then-is_next-3-clause-leads : goal.returns-then-is_next-3-clause-leads
+returns-then-is_next-3-clause-leads c = at_end c.args.unit.now _ _ _ _ _ _ c.in-Opening.is (body_opens _ _ _ _ _ _ (sym c.is_next-in-Opening.ensures ∙ c.if-is_next-3.true) (handling_on c.args.unit.now c.args.stack.now c.push_handling.new.self _ c.push_handling.ensures.frames c.push_handling.ensures.activations))
 
-pub returns-else-is_next-3 : goal.returns-else-is_next-3
-returns-else-is_next-3 c = at_end c.args.unit.now _ _ _ _ _ _ c.in-Opening.is (body_stops _ _ _ _ _ (sym c.is_next-in-Opening.ensures ∙ c.if-is_next-3.false))
+pub returns-else-is_next-3-clause-leads : goal.returns-else-is_next-3-clause-leads
+returns-else-is_next-3-clause-leads c = at_end c.args.unit.now _ _ _ _ _ _ c.in-Opening.is (body_stops _ _ _ _ _ (sym c.is_next-in-Opening.ensures ∙ c.if-is_next-3.false))
 
-pub returns-in-Closing : goal.returns-in-Closing
-returns-in-Closing c = at_end c.args.unit.now _ _ _ _ _ _ c.in-Closing.is (body_closes _ _ _ _ _ c.operation_outcome-outcome.ensures)
+pub returns-in-Closing-clause-leads : goal.returns-in-Closing-clause-leads
+returns-in-Closing-clause-leads c = at_end c.args.unit.now _ _ _ _ _ _ c.in-Closing.is (body_closes _ _ _ _ _ c.operation_outcome-outcome.ensures)
 
-pub returns-in-Quitting : goal.returns-in-Quitting
-returns-in-Quitting c = at_end c.args.unit.now _ _ _ _ _ _ c.in-Quitting.is (task_quits _ _ _ _ _ c.task_outcome.ensures)
+pub returns-in-Quitting-clause-leads : goal.returns-in-Quitting-clause-leads
+returns-in-Quitting-clause-leads c = at_end c.args.unit.now _ _ _ _ _ _ c.in-Quitting.is (task_quits _ _ _ _ _ c.task_outcome.ensures)

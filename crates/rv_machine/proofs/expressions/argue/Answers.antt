@@ -3,8 +3,8 @@ use Rattle.rv_machine.proofs.Steps.{argument_on}
 use Rattle.rv_machine.proofs.ExpressionSteps.{no_argument, argument}
 use Rattle.rv_machine.proofs.expressions.argue.Goals as goal
 
-pub returns-in-None : goal.returns-in-None
-returns-in-None c = no_argument _ _ _ _ (c.in-None.ensures.none refl)
+pub returns-in-None-clause-leads : goal.returns-in-None-clause-leads
+returns-in-None-clause-leads c = no_argument _ _ _ _ (c.in-None.ensures.none refl)
 
-pub returns-in-Some : goal.returns-in-Some
-returns-in-Some c = argument _ _ _ _ _ _ _ c.in-Some.ensures.found (argument_on c.args.unit.now c.args.stack.now c.push_argument.new.self _ _ c.push_argument.ensures.frames c.push_argument.ensures.activations)
+pub returns-in-Some-clause-leads : goal.returns-in-Some-clause-leads
+returns-in-Some-clause-leads c = argument _ _ _ _ _ _ _ c.in-Some.ensures.found (argument_on c.args.unit.now c.args.stack.now c.push_argument.new.self _ _ c.push_argument.ensures.frames c.push_argument.ensures.activations)

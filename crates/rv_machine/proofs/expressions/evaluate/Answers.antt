@@ -3,29 +3,29 @@ use Rattle.rv_machine.proofs.Steps.{operand_on, values_on}
 use Rattle.rv_machine.proofs.ExpressionSteps.{literal, variable, component, prefixed, chain, bounded, called}
 use Rattle.rv_machine.proofs.expressions.evaluate.Goals as goal
 
-pub returns-in-Value : goal.returns-in-Value
-returns-in-Value c =
+pub returns-in-Value-clause-leads : goal.returns-in-Value-clause-leads
+returns-in-Value-clause-leads c =
     let item : to_z w64 (of_z w64 c.in-Value.value) ≡ c.in-Value.value = Prim.first_of (Prim.search rules, Prim.grind arith) in
     literal _ _ _ _ _ c.in-Value.ensures item
 
-pub returns-in-Variable : goal.returns-in-Variable
-returns-in-Variable c =
+pub returns-in-Variable-clause-leads : goal.returns-in-Variable-clause-leads
+returns-in-Variable-clause-leads c =
     let item : to_z w64 (of_z w64 c.variable.result) ≡ c.variable.result = Prim.first_of (Prim.search rules, Prim.grind arith) in
     variable _ _ _ _ _ c.in-Variable.ensures (item ∙ c.variable.ensures)
 
-pub returns-in-Component : goal.returns-in-Component
-returns-in-Component c =
+pub returns-in-Component-clause-leads : goal.returns-in-Component-clause-leads
+returns-in-Component-clause-leads c =
     let item : to_z w64 (of_z w64 c.component.result) ≡ c.component.result = Prim.first_of (Prim.search rules, Prim.grind arith) in
     component _ _ _ _ _ c.in-Component.ensures (item ∙ c.component.ensures)
 
-pub returns-in-Prefixed : goal.returns-in-Prefixed
-returns-in-Prefixed c = prefixed _ _ _ _ _ _ c.in-Prefixed.ensures (operand_on c.args.unit.now c.args.stack.now c.push_operand.new.self _ c.push_operand.ensures.frames c.push_operand.ensures.activations)
+pub returns-in-Prefixed-clause-leads : goal.returns-in-Prefixed-clause-leads
+returns-in-Prefixed-clause-leads c = prefixed _ _ _ _ _ _ c.in-Prefixed.ensures (operand_on c.args.unit.now c.args.stack.now c.push_operand.new.self _ c.push_operand.ensures.frames c.push_operand.ensures.activations)
 
-pub returns-in-Chain : goal.returns-in-Chain
-returns-in-Chain c = chain _ _ _ _ _ _ c.in-Chain.ensures (operand_on c.args.unit.now c.args.stack.now c.push_operand-in-Chain.new.self _ c.push_operand-in-Chain.ensures.frames c.push_operand-in-Chain.ensures.activations)
+pub returns-in-Chain-clause-leads : goal.returns-in-Chain-clause-leads
+returns-in-Chain-clause-leads c = chain _ _ _ _ _ _ c.in-Chain.ensures (operand_on c.args.unit.now c.args.stack.now c.push_operand-in-Chain.new.self _ c.push_operand-in-Chain.ensures.frames c.push_operand-in-Chain.ensures.activations)
 
-pub returns-in-Within : goal.returns-in-Within
-returns-in-Within c = bounded _ _ _ _ _ _ c.in-Within.ensures (operand_on c.args.unit.now c.args.stack.now c.push_operand-in-Within.new.self _ c.push_operand-in-Within.ensures.frames c.push_operand-in-Within.ensures.activations)
+pub returns-in-Within-clause-leads : goal.returns-in-Within-clause-leads
+returns-in-Within-clause-leads c = bounded _ _ _ _ _ _ c.in-Within.ensures (operand_on c.args.unit.now c.args.stack.now c.push_operand-in-Within.new.self _ c.push_operand-in-Within.ensures.frames c.push_operand-in-Within.ensures.activations)
 
-pub returns-in-Call : goal.returns-in-Call
-returns-in-Call c = called _ _ _ _ _ _ _ _ c.in-Call.ensures c.new.ensures (values_on c.args.unit.now c.args.stack.now c.push_values.new.self _ c.push_values.ensures.frames c.push_values.ensures.activations) (values_on c.args.unit.now c.push_values.new.self c.push_values-in-Call.new.self _ c.push_values-in-Call.ensures.frames c.push_values-in-Call.ensures.activations)
+pub returns-in-Call-clause-leads : goal.returns-in-Call-clause-leads
+returns-in-Call-clause-leads c = called _ _ _ _ _ _ _ _ c.in-Call.ensures c.new.ensures (values_on c.args.unit.now c.args.stack.now c.push_values.new.self _ c.push_values.ensures.frames c.push_values.ensures.activations) (values_on c.args.unit.now c.push_values.new.self c.push_values-in-Call.new.self _ c.push_values-in-Call.ensures.frames c.push_values-in-Call.ensures.activations)

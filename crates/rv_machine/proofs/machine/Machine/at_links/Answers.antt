@@ -6,7 +6,7 @@ use Rattle.rv_machine.proofs.Meetings.{moved, in_each, from_as}
 use Rattle.rv_machine.specs.declared.point.Point.TheVariants as point
 use Rattle.rv_machine.proofs.machine.Machine.at_links.Goals as goal
 
-pub returns : goal.returns
-returns c =
+pub returns-clause-moves : goal.returns-clause-moves
+returns-clause-moves c =
     let item : to_z w64 (of_z w64 c.args.value) ≡ c.args.value = Prim.first_of (Prim.search rules, Prim.grind arith) in
-    moved c.args.unit.now c.args.self.now (record c.args.self.now { point = c.link-self.result; stack = c.link-self.new.stack }) (point.Links c.args.links c.args.value) refl (in_each _ _ _ _ _ (from_as _ _ _ _ _ (ap (λ (z : ℤ). links (as_links (tree_at (trees c.args.unit.now.code) c.args.links)) z c.args.self.now.activation) (sym item)) c.link-self.ensures))
+    moved c.args.unit.now c.args.self.now (record c.args.self.now { point = c.link-self.result; stack = c.link-self.new.stack }) (point.Links c.args.links c.args.value) refl (in_each _ _ _ _ _ (from_as _ _ _ _ _ (ap (λ (z : ℤ). links (as_links (tree_at (trees c.args.unit.now.code) c.args.links)) z c.args.self.now.activation) (sym item)) c.link-self.ensures.leads))

@@ -5,14 +5,14 @@ use Rattle.rv_machine.proofs.CallSteps.{met_resuming, met_completing, met_exitin
 use Rattle.rv_machine.proofs.Meetings.{passed, takes_no_body}
 use Rattle.rv_machine.proofs.machine.Machine.body_meets.Goals as goal
 
-pub returns-in-Resuming : goal.returns-in-Resuming
-returns-in-Resuming c = met_resuming c.args.unit.now c.args.self.now.stack c.take_up-caller.new.self c.args.self.now.setting _ _ c.args.outcome c.args.components c.args.steps c.take_up-caller.result c.resumed-self.result c.in-Resuming.is c.take_up-caller.ensures.frames c.take_up-caller.ensures.first c.take_up-caller.ensures.rest c.resumed-self.ensures
+pub returns-in-Resuming-clause-moves : goal.returns-in-Resuming-clause-moves
+returns-in-Resuming-clause-moves c = met_resuming c.args.unit.now c.args.self.now.stack c.take_up-caller.new.self c.args.self.now.setting _ _ c.args.outcome c.args.components c.args.steps c.take_up-caller.result c.resumed-self.result c.in-Resuming.is c.take_up-caller.ensures.frames c.take_up-caller.ensures.first c.take_up-caller.ensures.rest c.resumed-self.ensures
 
-pub returns-in-Completing : goal.returns-in-Completing
-returns-in-Completing c = met_completing c.args.unit.now c.args.self.now.stack c.args.self.now.setting _ _ _ c.args.outcome c.args.components c.args.steps _ c.in-Completing.is c.end_of.ensures
+pub returns-in-Completing-clause-moves : goal.returns-in-Completing-clause-moves
+returns-in-Completing-clause-moves c = met_completing c.args.unit.now c.args.self.now.stack c.args.self.now.setting _ _ _ c.args.outcome c.args.components c.args.steps _ c.in-Completing.is c.end_of.ensures
 
-pub returns-in-Exiting : goal.returns-in-Exiting
-returns-in-Exiting c = met_exiting c.args.unit.now c.args.self.now.stack c.args.self.now.setting _ c.args.outcome c.args.components c.args.steps _ c.in-Exiting.is c.exit_of.ensures
+pub returns-in-Exiting-clause-moves : goal.returns-in-Exiting-clause-moves
+returns-in-Exiting-clause-moves c = met_exiting c.args.unit.now c.args.self.now.stack c.args.self.now.setting _ c.args.outcome c.args.components c.args.steps _ c.in-Exiting.is c.exit_of.ensures
 
-pub returns-in_default : goal.returns-in_default
-returns-in_default c = passed c.args.unit.now (closes c.args.outcome c.args.components c.args.steps) (closes c.args.outcome c.args.components c.args.steps) _ _ (record c.pass.new.self { point = point.Closes c.args.outcome c.args.components c.args.steps }) refl refl (c.pass.ensures.below (closes c.args.outcome c.args.components c.args.steps) (takes_no_body _ c.in_default.not-Resuming c.in_default.not-Completing c.in_default.not-Exiting))
+pub returns-in_default-clause-moves : goal.returns-in_default-clause-moves
+returns-in_default-clause-moves c = passed c.args.unit.now (closes c.args.outcome c.args.components c.args.steps) (closes c.args.outcome c.args.components c.args.steps) _ _ (record c.pass.new.self { point = point.Closes c.args.outcome c.args.components c.args.steps }) refl refl (c.pass.ensures.below (closes c.args.outcome c.args.components c.args.steps) (takes_no_body _ c.in_default.not-Resuming c.in_default.not-Completing c.in_default.not-Exiting))

@@ -6,5 +6,5 @@ use Rattle.rv_machine.specs.Stacks.{below}
 use Rattle.rv_machine.proofs.CallSteps.{internal_is}
 use Rattle.rv_machine.proofs.machine.Machine.call.Goals as goal
 
-pub returns-in-Some : goal.returns-in-Some
-returns-in-Some c = subst (λ (x : Callee). MovesTo c.args.unit.now (calls x c.args.values c.args.self.now.activation) (below c.args.unit.now c.args.self.now.stack) c.args.self.now.setting c.call_inside.new.self) (sym (internal_is _ _ (sym c.internal.ensures ∙ c.in-Some.is))) c.call_inside.ensures
+pub returns-in-Some-clause-moves : goal.returns-in-Some-clause-moves
+returns-in-Some-clause-moves c = subst (λ (x : Callee). MovesTo c.args.unit.now (calls x c.args.values c.args.self.now.activation) (below c.args.unit.now c.args.self.now.stack) c.args.self.now.setting c.call_inside.new.self) (sym (internal_is _ _ (sym c.internal.ensures ∙ c.in-Some.is))) c.call_inside.ensures.moves

@@ -2,8 +2,8 @@ use Rattle.std.proofs.Common.{sym, ◌∙◌}
 use Rattle.rv_machine.proofs.NextSteps.{call_settled, call_waits}
 use Rattle.rv_machine.proofs.machine.Machine.call_answered.Goals as goal
 
-pub returns-in-Settled : goal.returns-in-Settled
-returns-in-Settled c = call_settled c.args.unit.now c.args.callee c.args.values c.args.self.now c.args.answer _ (sym c.replied.ensures ∙ c.in-Settled.is)
+pub returns-in-Settled-clause-answered : goal.returns-in-Settled-clause-answered
+returns-in-Settled-clause-answered c = call_settled c.args.unit.now c.args.callee c.args.values c.args.self.now c.args.answer _ (sym c.replied.ensures ∙ c.in-Settled.is)
 
-pub returns-in-Waits : goal.returns-in-Waits
-returns-in-Waits c = call_waits c.args.unit.now c.args.callee c.args.values c.args.self.now c.args.answer (sym c.replied.ensures ∙ c.in-Waits.is)
+pub returns-in-Waits-clause-answered : goal.returns-in-Waits-clause-answered
+returns-in-Waits-clause-answered c = call_waits c.args.unit.now c.args.callee c.args.values c.args.self.now c.args.answer (sym c.replied.ensures ∙ c.in-Waits.is)

@@ -1,5 +1,5 @@
 use Rattle.rv_machine.proofs.NextSteps.{end_over}
 use Rattle.rv_machine.proofs.machine.Machine.end_answered.Goals as goal
 
-pub returns : goal.returns
-returns c = end_over c.args.unit.now c.args.request c.args.outcome c.args.self.now c.args.answer _ c.requires c.completed.ensures
+pub returns-clause-answered : goal.returns-clause-answered
+returns-clause-answered c = end_over c.args.unit.now c.args.request c.args.outcome c.args.self.now c.args.answer _ c.requires c.completed.ensures

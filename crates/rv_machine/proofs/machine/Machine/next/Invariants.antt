@@ -1,9 +1,9 @@
 use Rattle.std.proofs.Common.{◌≡◌, ◌≤◌}
-use Rattle.rv_machine.specs.Machines.{stands, left}
+use Rattle.rv_machine.specs.Machines.{stands, left, Fits}
 use Rattle.rv_machine.proofs.machine.Machine.next.Given as goal
 
 abbrev pub invariant-moves : goal.invariant-moves
-invariant-moves l = record { same : stands l.unit l.self ≡ stands l.unit l.initial.self; less : left l.unit l.self ≤ left l.unit l.initial.self }
+invariant-moves l = record { same : stands l.unit l.self ≡ stands l.unit l.initial.self; less : left l.unit l.self ≤ left l.unit l.initial.self; fits : Fits l.unit l.self }
 
 abbrev pub decreases-moves : goal.decreases-moves
 decreases-moves l = left l.unit l.self

@@ -5,8 +5,8 @@ use Rattle.rv_machine.proofs.CallSteps.{met_performing}
 use Rattle.rv_machine.proofs.Meetings.{passed, takes_no_request}
 use Rattle.rv_machine.proofs.machine.Machine.request_meets.Goals as goal
 
-pub returns-in-Performing : goal.returns-in-Performing
-returns-in-Performing c = met_performing c.args.unit.now c.args.self.now.stack c.args.self.now.setting _ c.args.asked _ _ c.perform.new.self c.in-Performing.is c.perform.ensures
+pub returns-in-Performing-clause-moves : goal.returns-in-Performing-clause-moves
+returns-in-Performing-clause-moves c = met_performing c.args.unit.now c.args.self.now.stack c.args.self.now.setting _ c.args.asked _ _ c.perform.new.self c.in-Performing.is c.perform.ensures.moves
 
-pub returns-in_default : goal.returns-in_default
-returns-in_default c = passed c.args.unit.now (reaches c.args.asked) (reaches c.args.asked) _ _ (record c.pass.new.self { point = point.Reaches c.args.asked }) refl refl (c.pass.ensures.below (reaches c.args.asked) (takes_no_request _ c.in_default.not-Performing))
+pub returns-in_default-clause-moves : goal.returns-in_default-clause-moves
+returns-in_default-clause-moves c = passed c.args.unit.now (reaches c.args.asked) (reaches c.args.asked) _ _ (record c.pass.new.self { point = point.Reaches c.args.asked }) refl refl (c.pass.ensures.below (reaches c.args.asked) (takes_no_request _ c.in_default.not-Performing))
