@@ -10,9 +10,9 @@ use crate::reviewing::{review, review_file};
 use rv_audit::observer::Watch;
 use rv_fault::Failure;
 use rv_refused::Filter;
+use rv_rights::rights::Rights;
 use rv_shape::catalogue::Catalogue;
 use rv_verdict::Audited;
-use rv_rights::rights::Rights;
 use std::alloc::{AllocError, Global};
 use std::io::{Read, Write};
 
