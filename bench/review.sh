@@ -1,5 +1,6 @@
 #!/usr/bin/env bash
-# Has a built ravenreview say which entries of the examples' journals were refused, and compares that with bench/review:
+# Has a built ravenreview say which entries of the examples' journals were refused, who waited and who may call
+# what, and compares that with bench/review:
 #   bench/review.sh RAVENREVIEW RAVENHOST
 # Each example is played by RAVENHOST; its units, and what sets up its host, are given to RAVENREVIEW beside the journal, once in a file
 # and once in a section. Then come filters, a journal that isn't legal, and each status. Ends with 1 where anything differs.
@@ -20,25 +21,55 @@ units_of() {
     awk '/^@/ { on = $1 == "@shape" || $1 == "@unit" || $1 == "@host.toml" } on' "$1"
 }
 
-# expect STATUS NAME WORD..: runs it on standard input, and compares what it says.
+# expect STATUS NAME WORD..: runs the subcommand that is asked on standard input, and compares what it says.
+asked=refusals
 expect() {
     local wanted=$1 name=$2 ended
     shift 2
-    "$review" refusals "$@" >"$work/said" 2>"$work/told"
+    "$review" "$asked" "$@" >"$work/said" 2>"$work/told"
     ended=$?
     [ "$ended" = "$wanted" ] || differs "$name: status $ended, not $wanted"
     cmp -s "$work/said" "$here/bench/review/$name" || differs "$name: $(diff "$work/said" "$here/bench/review/$name" | head -n 3)"
 }
 
+# Has a script played, and keeps its journal, its units, and both in one.
+play() {
+    "$host" play <"$1" >"$work/journal" 2>/dev/null || differs "$1 isn't played"
+    units_of "$1" >"$work/units"
+    { cat "$work/units"; echo @journal; cat "$work/journal"; } >"$work/whole"
+}
+
 for script in "$here"/examples/*.raven; do
     name=$(basename "$script" .raven)
-    [ -f "$here/bench/review/$name" ] || continue
-    "$host" play <"$script" >"$work/journal" 2>/dev/null || differs "$name isn't played"
-    units_of "$script" >"$work/units"
-    expect 0 "$name" --journal "$work/journal" <"$work/units"
-    { cat "$work/units"; echo @journal; cat "$work/journal"; } >"$work/whole"
-    expect 0 "$name" <"$work/whole"
+    for asked in refusals waits access; do
+        case $asked in refusals) said=$name ;; *) said=${asked}_$name ;; esac
+        [ -f "$here/bench/review/$said" ] || continue
+        play "$script"
+        expect 0 "$said" --journal "$work/journal" <"$work/units"
+        expect 0 "$said" <"$work/whole"
+    done
 done
+
+play "$here/bench/review/waiting.raven"
+asked=waits
+expect 0 waits --journal "$work/journal" <"$work/units"
+expect 0 waits <"$work/whole"
+expect 0 waits_since_tick --since tick:7 --journal "$work/journal" <"$work/units"
+expect 0 waits_by --by nav.pilot --journal "$work/journal" <"$work/units"
+expect 0 waits_of --of plant.ready --journal "$work/journal" <"$work/units"
+sed 's/accepted 0$/accepted 1/' "$work/journal" >"$work/wrong"
+expect 1 waits_not_legal --journal "$work/wrong" <"$work/units"
+
+play "$here/bench/review/granting.raven"
+asked=access
+expect 0 access --journal "$work/journal" <"$work/units"
+expect 0 access <"$work/whole"
+expect 0 access_by --by interrupts --journal "$work/journal" <"$work/units"
+expect 0 access_of --by nav --of plant.ready.set_true --journal "$work/journal" <"$work/units"
+expect 2 nothing --since tick:1 --journal "$work/journal" <"$work/units"
+asked=who
+expect 0 who plant.valve.set --journal "$work/journal" <"$work/units"
+asked=refusals
 
 script=$here/examples/queue_of_two.raven
 "$host" play <"$script" >"$work/journal" 2>/dev/null

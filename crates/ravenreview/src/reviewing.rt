@@ -1,9 +1,11 @@
-//! The subcommand `refusals`.
+//! The subcommands.
 
 use crate::status::Stop;
 use rv_fault::Failure;
-use rv_inquiry::inquiry::{From, Inquiry};
-use rv_review::{Audited, Filter, Nobody, Since, refusals, refusals_file};
+use rv_inquiry::inquiry::{From, Inquiry, Question};
+use rv_review::{
+    Audited, Filter, Nobody, Since, refusals, refusals_file, rights, rights_file, waits, waits_file,
+};
 use std::alloc::Global;
 use std::fs;
 use std::io::{Read, Write};
@@ -51,7 +53,42 @@ fn ended<R: Eprint>(rt: &R, audited: Result<Audited, Failure>) -> Result<(), Sto
     }
 }
 
-// Says which entries of the journal in a file of this name were refused.
+// What is said of the journal that a script brings.
+fn said<I: Read, W: Write>(
+    alloc: Global,
+    asked: &Inquiry<'_>,
+    reader: &mut I,
+    writer: &mut W,
+) -> Result<Audited, Failure> {
+    let filter = filter_of(asked);
+    match asked.question {
+        Question::Refusals => refusals(alloc, reader, writer, filter),
+        Question::Waits => waits(alloc, reader, writer, filter),
+        Question::Access | Question::Who => rights(alloc, reader, writer, filter),
+    }
+}
+
+// What is said of the journal that a reader of its own gives.
+fn said_of_file<I: Read, J: Read, W: Write>(
+    alloc: Global,
+    asked: &Inquiry<'_>,
+    reader: &mut I,
+    journal: &mut J,
+    writer: &mut W,
+) -> Result<Audited, Failure> {
+    let filter = filter_of(asked);
+    let torn = asked.takes_torn;
+    let watch = &mut Nobody {};
+    match asked.question {
+        Question::Refusals => refusals_file(alloc, reader, journal, torn, watch, writer, filter),
+        Question::Waits => waits_file(alloc, reader, journal, torn, watch, writer, filter),
+        Question::Access | Question::Who => {
+            rights_file(alloc, reader, journal, torn, watch, writer, filter)
+        }
+    }
+}
+
+// Answers of the journal in a file of this name.
 fn answer_of_file<R: Files + Eprint, I: Read, W: Write>(
     rt: &R,
     alloc: Global,
@@ -67,19 +104,10 @@ fn answer_of_file<R: Files + Eprint, I: Read, W: Write>(
             return Err(Stop::BadFile);
         }
     };
-    let audited = refusals_file(
-        alloc,
-        reader,
-        &mut journal,
-        asked.takes_torn,
-        &mut Nobody {},
-        writer,
-        filter_of(asked),
-    );
-    ended(rt, audited)
+    ended(rt, said_of_file(alloc, asked, reader, &mut journal, writer))
 }
 
-/// Says which entries of a journal were refused.
+/// Answers what is asked of a journal.
 pub fn answer<R: Files + Eprint, I: Read, W: Write>(
     rt: &R,
     alloc: Global,
@@ -89,6 +117,6 @@ pub fn answer<R: Files + Eprint, I: Read, W: Write>(
 ) -> Result<(), Stop> {
     match asked.journal {
         Some(name) => answer_of_file(rt, alloc, name, asked, reader, writer),
-        None => ended(rt, refusals(alloc, reader, writer, filter_of(asked))),
+        None => ended(rt, said(alloc, asked, reader, writer)),
     }
 }

@@ -1,5 +1,6 @@
--- The command line of `ravenreview` (own): `refusals`, which may be given `--journal FILE` and, with it, `--torn`, and `--since WHEN`,
--- `--by CALLER` and `--of CALLED`. What words come to is what `clap` says of this command.
+-- The command line of `ravenreview` (own): each subcommand may be given `--journal FILE` and, with it, `--torn`; `refusals` and `waits`
+-- also `--since WHEN`, these two and `access` `--by CALLER` and `--of CALLED`, and `who` the word CALLED. What words come to is what
+-- `clap` says of this command.
 use Rattle.std.specs.Prelude.{◌≡◌, ℕ, Bool, true, false, ◌==◌, nat_lt, if◌then◌else◌, List, Option, Some, None, codes, option_map, length}
 use Rattle.std.specs.List.{after_first, before_first, position_or_len}
 use Rattle.std.specs.Borrow.{Bor}
@@ -12,6 +13,8 @@ use Rattle.rv_text.specs.Numbers.{natural_of}
 use Rattle.rv_inquiry.specs.declared.inquiry.From.{From}
 use Rattle.rv_inquiry.specs.declared.inquiry.From.TheVariants as Froms
 use Rattle.rv_inquiry.specs.declared.inquiry.Inquiry.{Inquiry}
+use Rattle.rv_inquiry.specs.declared.inquiry.Question.{Question}
+use Rattle.rv_inquiry.specs.declared.inquiry.Question.TheVariants as Questions
 
 -- a flag
 abbrev pub flag_rule : Text → Rule
@@ -21,17 +24,34 @@ flag_rule name = record (new_rule name) { long = Some name; action = Some SetTru
 abbrev pub value_rule : Text → Rule
 value_rule name = record (new_rule name) { long = Some name; action = Some Set; value_names = 1 }
 
+-- a word that is no flag
+abbrev pub word_rule : Text → Rule
+word_rule name = record (new_rule name) { action = Some Set; value_names = 1 }
+
 -- each may be given a file, and that its end was cut off
 abbrev pub with_journal : App → App
 with_journal app = with_rule (with_rule app (value_rule (codes "journal"))) (flag_rule (codes "torn"))
 
--- and which entries are asked for
+-- and whose calls, and calls of what, are asked for
 abbrev pub with_filter : App → App
-with_filter app =
-    with_rule (with_rule (with_rule app (value_rule (codes "since"))) (value_rule (codes "by"))) (value_rule (codes "of"))
+with_filter app = with_rule (with_rule app (value_rule (codes "by"))) (value_rule (codes "of"))
 
-abbrev pub refusals_app : App
-refusals_app = with_filter (with_journal (new_app (codes "refusals")))
+-- of entries also since when
+abbrev pub filtered_app : Text → App
+filtered_app name = with_filter (with_rule (with_journal (new_app name)) (value_rule (codes "since")))
+
+abbrev pub access_app : App
+access_app = with_filter (with_journal (new_app (codes "access")))
+
+abbrev pub who_app : App
+who_app = with_rule (with_journal (new_app (codes "who"))) (word_rule (codes "of"))
+
+-- the name by which each question is asked
+abbrev pub name_of : Question → Text
+name_of Questions.Refusals = codes "refusals"
+name_of Questions.Waits = codes "waits"
+name_of Questions.Access = codes "access"
+name_of Questions.Who = codes "who"
 
 -- the program, of which one subcommand must be named
 abbrev pub versioned : App
@@ -40,8 +60,11 @@ versioned = on_top (λ s. record s { has_version = true }) (new_app (codes "rave
 abbrev pub alone : App
 alone = on_top (λ s. record s { subcommand_required = true }) versioned
 
+abbrev pub of_entries : App
+of_entries = with_subcommand (with_subcommand alone (filtered_app (codes "refusals")).top) (filtered_app (codes "waits")).top
+
 abbrev pub program : App
-program = with_subcommand alone refusals_app.top
+program = with_subcommand (with_subcommand of_entries access_app.top) who_app.top
 
 -- the text of a flag, as a flag
 abbrev pub IsFlag : Option Text → Bool → Type 0
@@ -73,8 +96,8 @@ from_of (Some word) = from_word word
 abbrev pub text_in : Option (Bor Text) → Option Text
 text_in word = option_map (λ (w : Bor Text). w.now) word
 
--- what `refusals` was given is asked
-pub record IsRefusals (rows : List Row) (asked : Inquiry) : Type 0 where
+-- what a subcommand was given is asked
+pub record IsGiven (rows : List Row) (asked : Inquiry) : Type 0 where
   pub journal : text_in asked.journal ≡ first_of (codes "journal") rows
   pub torn : IsFlag (one_of (codes "torn") rows) asked.takes_torn
   pub since : from_of (first_of (codes "since") rows) ≡ Some asked.since
@@ -83,7 +106,7 @@ pub record IsRefusals (rows : List Row) (asked : Inquiry) : Type 0 where
 
 -- a subcommand with what it was given is asked
 abbrev pub IsInquiry : Text × List Row → Inquiry → Type 0
-IsInquiry found asked = (found.0 ≡ codes "refusals") × IsRefusals found.1 asked
+IsInquiry found asked = (found.0 ≡ name_of asked.question) × IsGiven found.1 asked
 
 -- so it is of words
 abbrev pub Asks : List Text → Inquiry → Type 0

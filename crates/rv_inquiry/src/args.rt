@@ -1,9 +1,9 @@
 //! The arguments of the subcommands.
 
-ghost use Rattle.std.specs.Prelude.{◌≡◌, false, IfOk};
-ghost use Rattle.clap.specs.Words.{app_of, rule_of};
+ghost use Rattle.std.specs.Prelude.{◌≡◌, false, codes, IfOk};
+ghost use Rattle.clap.specs.Words.{app_of, rule_of, with_rule};
 ghost use Rattle.clap.specs.declared.builder.command.Command.TheViews.{out-Command as fields_of};
-ghost use Rattle.rv_inquiry.specs.Inquiries.{flag_rule, value_rule, with_journal, with_filter};
+ghost use Rattle.rv_inquiry.specs.Inquiries.{flag_rule, value_rule, with_journal, with_filter, word_rule};
 
 use clap::{Arg, ArgAction, Command};
 use std::alloc::{AllocError, Global};
@@ -31,6 +31,17 @@ fn valued<'a>(alloc: Global, name: &'a str, value: &'a str, help: &'a str) -> Ar
         .action(ArgAction::Set)
 }
 
+// A word that is no flag, by the name that help shows.
+fn word_arg<'a>(alloc: Global, name: &'a str, value: &'a str, help: &'a str) -> Arg<'a>
+    ensures rule { rule_of result ≡ word_rule name.now }
+    ensures local { result.global ≡ false }
+{
+    Arg::new(alloc, name)
+        .value_name(value)
+        .help(help)
+        .action(ArgAction::Set)
+}
+
 /// A subcommand that may be given the file of a journal, and that its end was cut off.
 pub fn over_journal<'a>(alloc: Global, command: Command<'a>) -> Result<Command<'a>, AllocError>
     requires { (fields_of command).has_globals ≡ false }
@@ -51,10 +62,10 @@ pub fn over_journal<'a>(alloc: Global, command: Command<'a>) -> Result<Command<'
     command.arg(journal)?.arg(torn)
 }
 
-/// A subcommand that may be told which entries are asked for.
-pub fn filtered<'a>(alloc: Global, command: Command<'a>) -> Result<Command<'a>, AllocError>
+/// A subcommand that may be told since when entries are asked for.
+pub fn since<'a>(alloc: Global, command: Command<'a>) -> Result<Command<'a>, AllocError>
     requires { (fields_of command).has_globals ≡ false }
-    ensures app { IfOk result (λ c. app_of c ≡ with_filter (app_of command.entry)) }
+    ensures app { IfOk result (λ c. app_of c ≡ with_rule (app_of command.entry) (value_rule (codes "since"))) }
     ensures local { IfOk result (λ c. (fields_of c).has_globals ≡ false) }
 {
     let since = valued(
@@ -63,6 +74,15 @@ pub fn filtered<'a>(alloc: Global, command: Command<'a>) -> Result<Command<'a>, 
         "WHEN",
         "Leave out what was before entry:N or tick:N",
     );
+    command.arg(since)
+}
+
+/// A subcommand that may be told whose calls, and calls of what, are asked for.
+pub fn filtered<'a>(alloc: Global, command: Command<'a>) -> Result<Command<'a>, AllocError>
+    requires { (fields_of command).has_globals ≡ false }
+    ensures app { IfOk result (λ c. app_of c ≡ with_filter (app_of command.entry)) }
+    ensures local { IfOk result (λ c. (fields_of c).has_globals ≡ false) }
+{
     let by = valued(
         alloc,
         "by",
@@ -75,5 +95,20 @@ pub fn filtered<'a>(alloc: Global, command: Command<'a>) -> Result<Command<'a>, 
         "CALLED",
         "Leave out calls of others than this unit, Unit.Object or Unit.Object.Operation",
     );
-    command.arg(since)?.arg(by)?.arg(of)
+    command.arg(by)?.arg(of)
+}
+
+/// A subcommand whose word that is no flag says calls of what are asked for.
+pub fn named<'a>(alloc: Global, command: Command<'a>) -> Result<Command<'a>, AllocError>
+    requires { (fields_of command).has_globals ≡ false }
+    ensures app { IfOk result (λ c. app_of c ≡ with_rule (app_of command.entry) (word_rule (codes "of"))) }
+    ensures local { IfOk result (λ c. (fields_of c).has_globals ≡ false) }
+{
+    let of = word_arg(
+        alloc,
+        "of",
+        "CALLED",
+        "The unit, Unit.Object or Unit.Object.Operation that is called; all of them, if left out",
+    );
+    command.arg(of)
 }

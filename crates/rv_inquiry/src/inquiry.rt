@@ -13,9 +13,24 @@ pub enum From {
     Tick(u64),
 }
 
-/// What the words of a command line ask: which entries of a journal were refused.
+/// What is asked of a journal.
+#[derive(Clone, Copy, Drop)]
+pub enum Question {
+    /// Which entries were refused.
+    Refusals,
+    /// Who waited, and for how long.
+    Waits,
+    /// Who may call what.
+    Access,
+    /// Who may call an operation, an object or a unit.
+    Who,
+}
+
+/// What the words of a command line ask.
 #[derive(Clone, Copy, Drop)]
 pub struct Inquiry<'a> {
+    /// What is asked.
+    pub question: Question,
     /// The name of the file that holds the journal, where one is given.
     pub journal: Option<&'a str>,
     /// Whether a last line without its line feed was cut off.

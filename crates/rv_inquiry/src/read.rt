@@ -1,21 +1,41 @@
 //! What the words of a command line ask.
 
-ghost use Rattle.std.specs.Prelude.{◌≡◌, List, Some, IfSome, IfOk, codes, map};
+ghost use Rattle.std.specs.Prelude.{◌≡◌, List, Some, IfSome, IfOk, map};
 ghost use Rattle.clap.specs.Matches.{found_of};
 ghost use Rattle.clap.specs.Walk.{Row, Text, rows_of};
 ghost use Rattle.clap.specs.Words.{subcommand_rows_of};
-ghost use Rattle.rv_inquiry.specs.Inquiries.{Asks, IsInquiry, IsRefusals};
+ghost use Rattle.rv_inquiry.specs.Inquiries.{Asks, IsGiven, IsInquiry, name_of};
 
 use crate::command::command;
-use crate::inquiry::{Inquiry, Unasked};
+use crate::inquiry::{Inquiry, Question, Unasked};
 use crate::values::from_of;
 use clap::ArgMatches;
 use clap::error::ErrorKind;
 use std::alloc::Global;
 
-// What `refusals` asks by what it was given; none where a flag has no file, or `--since` has another word.
-fn refusals_asked<'a>(words: &ArgMatches<'a>) -> Option<Inquiry<'a>>
-    ensures { IfSome result (λ asked. IsRefusals (rows_of (found_of words.now)) asked) }
+// What the subcommand of a name asks, if there is one.
+fn question_of(name: &str) -> Option<Question>
+    ensures { IfSome result (λ question. name.now ≡ name_of question) }
+{
+    if name == "refusals" {
+        return Some(Question::Refusals);
+    }
+    if name == "waits" {
+        return Some(Question::Waits);
+    }
+    if name == "access" {
+        return Some(Question::Access);
+    }
+    if name == "who" {
+        return Some(Question::Who);
+    }
+    None
+}
+
+// What is asked by what a subcommand was given; none where a flag has no file, or `--since` has another word.
+fn asked_with<'a>(question: Question, words: &ArgMatches<'a>) -> Option<Inquiry<'a>>
+    ensures question { IfSome result (λ asked. asked.question ≡ question) }
+    ensures given { IfSome result (λ asked. IsGiven (rows_of (found_of words.now)) asked) }
 {
     let journal = words.get_str("journal");
     let takes_torn = words.get_flag("torn");
@@ -26,6 +46,7 @@ fn refusals_asked<'a>(words: &ArgMatches<'a>) -> Option<Inquiry<'a>>
         return None;
     };
     Some(Inquiry {
+        question,
         journal,
         takes_torn,
         since,
@@ -39,10 +60,8 @@ fn inquiry_of<'a>(matches: &ArgMatches<'a>) -> Option<Inquiry<'a>>
     ensures { IfSome result (λ asked. (found : Text × List Row) × (subcommand_rows_of matches.now ≡ Some found) × IsInquiry found asked) }
 {
     let (name, words) = matches.subcommand()?;
-    if name == "refusals" {
-        return refusals_asked(words);
-    }
-    None
+    let question = question_of(name)?;
+    asked_with(question, words)
 }
 
 /// What the words of a command line ask, the first of which is the program's name.

@@ -10,13 +10,14 @@ ghost use Rattle.rv_event.specs.Past.{last_queued, next_of};
 ghost use Rattle.rv_event.specs.declared.entry.Entry.{Entry};
 ghost use Rattle.rv_history.specs.History.{last_list};
 ghost use Rattle.rv_history.specs.Journal.{lists_before};
-ghost use Rattle.rv_refused.specs.Kept.{Keeps, KeepsCalls, KeepsDrops, dropping_number, words_in};
+ghost use Rattle.rv_refused.specs.Kept.{Keeps, KeepsDrops, dropping_number, words_in};
 ghost use Rattle.rv_refused.specs.Refusals.{dropping_words, line_words};
 
 use crate::reasons::line_words;
 use rv_access::Line;
 use rv_event::entry::{Body, EntryRef, Next};
-use rv_event::one_entry::{next_of, queued_by};
+use rv_event::one_entry::next_of;
+use rv_lasting::calls::Calls;
 use std::alloc::{AllocError, Global};
 use std::collections::HashMap;
 
@@ -24,7 +25,7 @@ use std::collections::HashMap;
 #[derive(Drop)]
 pub struct Kept {
     alloc: Global,
-    calls: HashMap<usize, Body>,
+    calls: Calls,
     drops: HashMap<usize, String>,
 }
 
@@ -35,7 +36,7 @@ impl Kept {
     {
         Kept {
             alloc,
-            calls: HashMap::new(alloc),
+            calls: Calls::new(alloc),
             drops: HashMap::new(alloc),
         }
     }
@@ -44,7 +45,7 @@ impl Kept {
     pub fn call(&self, actor: usize) -> Option<Body>
         ensures { (past : List Entry) (lists : List (List Words)) → Keeps self.now past lists → result ≡ last_queued actor past }
     {
-        self.calls.get(&actor).copied()
+        self.calls.of(actor)
     }
 
     /// The words of the line by which an actor was last dropped; empty where it never was.
@@ -55,17 +56,6 @@ impl Kept {
             Some(words) => words.as_str(),
             None => "",
         }
-    }
-
-    // Notes the call that an entry queues.
-    fn note_call(&mut self, entry: &EntryRef<'_>) -> Result<(), AllocError>
-        ensures calls { OnOk result ((past : List Entry) → KeepsCalls self.old past → KeepsCalls self.new (whole entry.now ∷ past)) }
-        ensures drops { self.new.drops ≡ self.old.drops }
-    {
-        if let Some(call) = queued_by(entry) {
-            self.calls.insert(call.actor, call)?;
-        }
-        Ok(())
     }
 
     // Notes the words of the line by which a caller is dropped.
@@ -86,7 +76,7 @@ impl Kept {
             → option_copied line.entry ≡ line_at (last_list lists) (dropping_number (next_of (whole entry.now)))
             → lists_before (whole entry.now) lists ≡ lists → Keeps self.new (whole entry.now ∷ past) lists) }
     {
-        self.note_call(entry)?;
+        self.calls.note(entry)?;
         match next_of(entry) {
             Next::Dropped(actor, _) => self.drop_by(actor, line),
             _ => Ok(()),

@@ -5,11 +5,15 @@
 //! can't be read twice, and a file may change between two reads.
 #![tactic(auto)]
 
+mod granted;
 mod refused;
 mod review;
 mod reviewing;
+mod waited;
 
+pub use granted::{rights, rights_file};
 pub use refused::{refusals, refusals_file};
 pub use rv_audit::observer::{Nobody, Watch};
 pub use rv_refused::{Filter, Since};
 pub use rv_verdict::Audited;
+pub use waited::{waits, waits_file};

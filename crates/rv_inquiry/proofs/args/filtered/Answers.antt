@@ -6,8 +6,6 @@ use Rattle.rv_inquiry.proofs.args.filtered.Goals as goal
 
 pub returns-clause-app : goal.returns-clause-app
 returns-clause-app c =
-    let one : app_of c.in_ok-arg.field-0 ≡ with_rule (app_of c.args.command) (value_rule (codes "since")) =
-    c.in_ok-arg.ensures.shape c.valued-since.ensures.local ∙ ap (with_rule (app_of c.args.command)) c.valued-since.ensures.rule in
-    let two : app_of c.in_ok-arg-2.field-0 ≡ with_rule (with_rule (app_of c.args.command) (value_rule (codes "since"))) (value_rule (codes "by")) =
-    c.in_ok-arg-2.ensures.shape c.valued-by.ensures.local ∙ ap₂ with_rule one c.valued-by.ensures.rule in
-    IfOk-weaker c.arg-3.result _ _ (λ r h. h.shape c.valued-of.ensures.local ∙ ap₂ with_rule two c.valued-of.ensures.rule) c.arg-3.ensures
+    let one : app_of c.in_ok-arg.field-0 ≡ with_rule (app_of c.args.command) (value_rule (codes "by")) =
+    c.in_ok-arg.ensures.shape c.valued-by.ensures.local ∙ ap (with_rule (app_of c.args.command)) c.valued-by.ensures.rule in
+    IfOk-weaker c.arg-2.result _ _ (λ r h. h.shape c.valued-of.ensures.local ∙ ap₂ with_rule one c.valued-of.ensures.rule) c.arg-2.ensures

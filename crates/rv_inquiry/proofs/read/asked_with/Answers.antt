@@ -2,10 +2,10 @@ use Rattle.std.proofs.Common.{◌∙◌, codes, sym, ap}
 use Rattle.clap.specs.Matches.{found_of}
 use Rattle.clap.proofs.WalkLemmas.{first_value-rows, one_text-rows}
 use Rattle.rv_inquiry.specs.Inquiries.{from_of}
-use Rattle.rv_inquiry.proofs.read.refusals_asked.Goals as goal
+use Rattle.rv_inquiry.proofs.read.asked_with.Goals as goal
 
-pub returns : goal.returns
-returns c =
+pub returns-clause-given : goal.returns-clause-given
+returns-clause-given c =
     let given = found_of c.args.words.now in
     record {
       journal = c.get_str-journal.ensures ∙ first_value-rows given (codes "journal");

@@ -1,0 +1,178 @@
+//! Who is granted which call by an access list, by spans of ticks.
+#![tactic(auto)]
+
+ghost use Rattle.std.specs.Prelude.{◌≡◌, ◌++◌, IfOk, OnOk, option_copied, string_bytes};
+ghost use Rattle.rv_grants.specs.Grants.{DecidesBetween, change, decided, decision_text, edges, ends, grants_from, grants_text, is_again, row};
+
+use rv_access::{AccessList, Line, decide};
+use rv_spans::sorted;
+use std::alloc::{AllocError, Global};
+use std::marker::Model;
+
+/// Where no window of a list begins or ends between two ticks, the same line decides at both. A law, on a function that does nothing.
+#[tactic(auto, using(crate::proofs::Between::decides_between))]
+pub fn same_lines_decide_between_edges()
+    ensures { DecidesBetween }
+{}
+
+/// A call: which unit calls which operation of which object.
+#[derive(Drop)]
+pub struct Asking<'a> {
+    /// The unit that calls.
+    pub caller: &'a str,
+    /// The unit of the object.
+    pub unit: &'a str,
+    /// The object.
+    pub object: &'a str,
+    /// The operation.
+    pub operation: &'a str,
+}
+
+impl<'a> Model for Asking<'a> {
+    ghost use Rattle.rv_grants.specs.Grants.{Call};
+
+    ghost Value = { Call };
+
+    ghost view = { λ a. record {
+      caller = a.caller.now;
+      unit = a.unit.now;
+      object = a.object.now;
+      operation = a.operation.now;
+    } };
+}
+
+// Puts the ticks at which the windows of lines begin and end behind others.
+fn put_ends(ticks: &mut Vec<u64>, lines: &[Line]) -> Result<(), AllocError>
+    ensures { OnOk result (ticks.new.items ≡ ticks.old.items ++ ends lines.now) }
+{
+    let [line, lines @ ..] = lines else {
+        return Ok(());
+    };
+    if let Some(window) = line.window() {
+        ticks.push(window.first())?;
+        ticks.push(window.end())?;
+    }
+    put_ends(ticks, lines)
+}
+
+// The ticks at which the windows of a list begin and end, in order.
+fn edges(alloc: Global, list: &AccessList) -> Result<Vec<u64>, AllocError>
+    ensures { IfOk result (λ ticks. ticks.items ≡ edges list.now) }
+{
+    let mut ticks = Vec::new(alloc);
+    put_ends(&mut ticks, list.lines())?;
+    Ok(sorted(ticks))
+}
+
+// What a line decides, in words; without one the call is denied. Err where memory was refused.
+fn decision_text(alloc: Global, line: Option<&Line>) -> Result<String, AllocError>
+    ensures { IfOk result (λ text. string_bytes text ≡ decision_text (option_copied line.entry)) }
+{
+    let Some(line) = line else {
+        return String::from_str(alloc, "not granted: no line");
+    };
+    let words = line.text(alloc)?;
+    let words = words.as_str();
+    if line.allows() {
+        return format!(in alloc; "granted: {words}");
+    }
+    format!(in alloc; "not granted: {words}")
+}
+
+// Puts a row: who may call what, from which tick on.
+fn put_words(
+    text: &mut String,
+    asking: &Asking<'_>,
+    tick: u64,
+    decision: &str,
+) -> Result<(), AllocError>
+    ensures { OnOk result (string_bytes text.new ≡ string_bytes text.old ++ row asking.now tick decision.now) }
+{
+    let caller = asking.caller;
+    let unit = asking.unit;
+    let object = asking.object;
+    let operation = asking.operation;
+    write!(
+        text,
+        "{caller} {unit}.{object} {operation} from tick {tick} -> {decision}\n"
+    )
+}
+
+// Whether a line decided before.
+fn is_again(last: Option<usize>, number: usize) -> bool
+    ensures { result ≡ is_again last number }
+{
+    match last {
+        Some(last) => last == number,
+        None => false,
+    }
+}
+
+// Puts the row of a call from a tick on, at which the line of this number decides, where another decided before.
+fn put_change(
+    alloc: Global,
+    text: &mut String,
+    list: &AccessList,
+    asking: &Asking<'_>,
+    last: Option<usize>,
+    tick: u64,
+    number: usize,
+) -> Result<(), AllocError>
+    ensures { OnOk result (string_bytes text.new ≡ string_bytes text.old ++ change list.now asking.now last tick number) }
+{
+    if is_again(last, number) {
+        return Ok(());
+    }
+    let decision = decision_text(alloc, list.line(number))?;
+    put_words(text, asking, tick, decision.as_str())
+}
+
+// The line that decides a call at a tick.
+fn decided(list: &AccessList, asking: &Asking<'_>, tick: u64) -> usize
+    ensures { result ≡ decided list.now asking.now tick }
+{
+    decide(
+        list,
+        asking.caller,
+        asking.unit,
+        asking.object,
+        asking.operation,
+        tick,
+    )
+    .1
+}
+
+// Puts the rows of a call behind a text: one for each of these ticks at which another line decides than before.
+fn put_from(
+    alloc: Global,
+    text: &mut String,
+    list: &AccessList,
+    asking: &Asking<'_>,
+    last: Option<usize>,
+    ticks: &[u64],
+) -> Result<(), AllocError>
+    ensures { OnOk result (string_bytes text.new ≡ string_bytes text.old ++ grants_from list.now asking.now last ticks.now) }
+{
+    let [tick, ticks @ ..] = ticks else {
+        return Ok(());
+    };
+    let number = decided(list, asking, *tick);
+    put_change(alloc, text, list, asking, last, *tick, number)?;
+    put_from(alloc, text, list, asking, Some(number), ticks)
+}
+
+/// Puts the rows of a call behind a text: from tick 0 on, and from each tick at which another line decides than before. Err where memory
+/// was refused.
+pub fn put_grants(
+    alloc: Global,
+    text: &mut String,
+    list: &AccessList,
+    asking: &Asking<'_>,
+) -> Result<(), AllocError>
+    ensures { OnOk result (string_bytes text.new ≡ string_bytes text.old ++ grants_text list.now asking.now) }
+{
+    let mut ticks = Vec::new(alloc);
+    ticks.push(0)?;
+    ticks.extend_from_slice(edges(alloc, list)?.as_slice())?;
+    put_from(alloc, text, list, asking, None, ticks.as_slice())
+}

@@ -1,0 +1,5 @@
+pub mod Calls
+pub mod Lasting
+pub mod Lines
+pub mod Rows
+pub mod Tracks

@@ -1,0 +1,195 @@
+//! The rows of a list over the units that are loaded.
+
+ghost use Rattle.std.specs.Prelude.{◌≡◌, ◌++◌, OnOk, codes, length, option_map, string_bytes, suc};
+ghost use Rattle.rv_shape.specs.Catalogue.{all_objects, place, target};
+ghost use Rattle.rv_shape.specs.Readers.{target_of};
+ghost use Rattle.rv_rights.specs.Rights.{call_of, grants_of, is_handled, operation_count, rights_at, rights_below, rights_of, rights_of_lines, rights_of_units, rights_on, takes_unit};
+
+use rv_access::AccessList;
+use rv_grants::{Asking, put_grants};
+use rv_refused::Filter;
+use rv_shape::actor::Callee;
+use rv_shape::catalogue::Catalogue;
+use rv_shape::object::Object;
+use rv_shape::shape::UnitShape;
+use rv_text::is_same_name;
+use std::alloc::{AllocError, Global};
+
+// Whether a unit is taken: without a word each is.
+fn takes_unit(by: Option<&str>, unit: &str) -> bool
+    ensures { result ≡ takes_unit (option_map (λ word. word.now) by.entry) unit.now }
+{
+    match by {
+        Some(word) => is_same_name(word, unit),
+        None => true,
+    }
+}
+
+// Puts what a unit is granted of a target behind a text.
+fn put_grants_of(
+    alloc: Global,
+    text: &mut String,
+    list: &AccessList,
+    callee: &Callee<'_>,
+    caller: &str,
+) -> Result<(), AllocError>
+    ensures { OnOk result (string_bytes text.new ≡ string_bytes text.old ++ grants_of list.now (call_of caller.now (target_of callee.now))) }
+{
+    match *callee {
+        Callee::Nowhere => Ok(()),
+        Callee::Protected(shape, object, operation) => put_grants(
+            alloc,
+            text,
+            list,
+            &Asking {
+                caller,
+                unit: shape.name(),
+                object: object.name(),
+                operation: operation.name(),
+            },
+        ),
+        Callee::Suspension(shape, object, operation) => {
+            let operation = format!(in alloc; "{operation}")?;
+            put_grants(
+                alloc,
+                text,
+                list,
+                &Asking {
+                    caller,
+                    unit: shape.name(),
+                    object: object.name(),
+                    operation: operation.as_str(),
+                },
+            )
+        }
+    }
+}
+
+// The same, where the filter takes the unit.
+fn put_rights_of(
+    alloc: Global,
+    text: &mut String,
+    filter: &Filter<'_>,
+    list: &AccessList,
+    callee: &Callee<'_>,
+    caller: &str,
+) -> Result<(), AllocError>
+    ensures { OnOk result (string_bytes text.new ≡ string_bytes text.old ++ rights_of filter.now list.now (target_of callee.now) caller.now) }
+{
+    if takes_unit(filter.by, caller) {
+        return put_grants_of(alloc, text, list, callee, caller);
+    }
+    Ok(())
+}
+
+// The same of units.
+fn put_rights_of_units(
+    alloc: Global,
+    text: &mut String,
+    filter: &Filter<'_>,
+    list: &AccessList,
+    callee: &Callee<'_>,
+    shapes: &[UnitShape],
+) -> Result<(), AllocError>
+    ensures { OnOk result (string_bytes text.new ≡ string_bytes text.old ++ rights_of_units filter.now list.now (target_of callee.now) shapes.now) }
+{
+    let [shape, shapes @ ..] = shapes else {
+        return Ok(());
+    };
+    put_rights_of(alloc, text, filter, list, callee, shape.name())?;
+    put_rights_of_units(alloc, text, filter, list, callee, shapes)
+}
+
+// Whether a target is a handler (C.3).
+fn is_handled(callee: &Callee<'_>) -> bool
+    ensures { result ≡ is_handled (target_of callee.now) }
+{
+    match *callee {
+        Callee::Protected(_, _, operation) => operation.kind().is_handler(),
+        Callee::Nowhere => false,
+        Callee::Suspension(_, _, _) => false,
+    }
+}
+
+// The same of the lines.
+fn put_rights_of_lines(
+    alloc: Global,
+    text: &mut String,
+    filter: &Filter<'_>,
+    list: &AccessList,
+    callee: &Callee<'_>,
+) -> Result<(), AllocError>
+    ensures { OnOk result (string_bytes text.new ≡ string_bytes text.old ++ rights_of_lines filter.now list.now (target_of callee.now)) }
+{
+    if is_handled(callee) {
+        return put_rights_of(alloc, text, filter, list, callee, "Interrupts");
+    }
+    Ok(())
+}
+
+// The same of all, of an operation, where the filter takes that.
+fn put_rights_at(
+    alloc: Global,
+    text: &mut String,
+    filter: &Filter<'_>,
+    list: &AccessList,
+    shapes: &[UnitShape],
+    callee: &Callee<'_>,
+) -> Result<(), AllocError>
+    ensures { OnOk result (string_bytes text.new ≡ string_bytes text.old ++ rights_at filter.now list.now shapes.now (target_of callee.now)) }
+{
+    if !filter.takes_of(alloc, callee)? {
+        return Ok(());
+    }
+    put_rights_of_units(alloc, text, filter, list, callee, shapes)?;
+    put_rights_of_lines(alloc, text, filter, list, callee)
+}
+
+// How many operations an object has, if there is one of this number.
+fn operation_count(catalogue: &Catalogue, object: usize) -> usize
+    ensures { result ≡ operation_count (place catalogue.now object) }
+{
+    match catalogue.object(object) {
+        Some((_, Object::Protected(protected))) => protected.operations().len(),
+        Some((_, Object::Suspension(_))) => 4,
+        None => 0,
+    }
+}
+
+// The same of an object.
+fn put_rights_on(
+    alloc: Global,
+    text: &mut String,
+    filter: &Filter<'_>,
+    list: &AccessList,
+    catalogue: &Catalogue,
+    object: usize,
+) -> Result<(), AllocError>
+    ensures { OnOk result (string_bytes text.new ≡ string_bytes text.old
+        ++ rights_on filter.now list.now catalogue.now object (operation_count (place catalogue.now object))) }
+{
+    let count = operation_count(catalogue, object);
+    for operation in 0..count {
+        let callee = catalogue.callee(object, operation + 1);
+        put_rights_at(alloc, text, filter, list, catalogue.shapes(), &callee)?;
+    }
+    Ok(())
+}
+
+/// Puts what all are granted behind a text, of which the filter takes what is called and who calls. Err where memory was refused.
+pub fn put_rights(
+    alloc: Global,
+    text: &mut String,
+    filter: &Filter<'_>,
+    list: &AccessList,
+    catalogue: &Catalogue,
+) -> Result<(), AllocError>
+    ensures { OnOk result (string_bytes text.new ≡ string_bytes text.old
+        ++ rights_below filter.now list.now catalogue.now (length (all_objects catalogue.now))) }
+{
+    let count = catalogue.objects();
+    for object in 0..count {
+        put_rights_on(alloc, text, filter, list, catalogue, object + 1)?;
+    }
+    Ok(())
+}

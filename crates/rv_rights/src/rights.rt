@@ -1,0 +1,96 @@
+//! Who may call what behind a journal, by an observer of its audit.
+
+ghost use Rattle.std.specs.Prelude.{◌≡◌, IfOk, OnOk, string_bytes};
+ghost use Rattle.rv_history.specs.History.{History, force};
+ghost use Rattle.rv_history.specs.Legal.{empty};
+ghost use Rattle.rv_history.specs.declared.limits.Limits.{Limits};
+ghost use Rattle.rv_refused.specs.Filters.{FilterText};
+ghost use Rattle.rv_rights.specs.Following.{Follows};
+ghost use Rattle.rv_rights.specs.Rights.{rights_text};
+
+use crate::listing::put_rights;
+use rv_access::AccessList;
+use rv_audit::observer::Observer;
+use rv_event::entry::Answer;
+use rv_host::host::Host;
+use rv_reading::deed::Deed;
+use rv_refused::Filter;
+use rv_shape::catalogue::Catalogue;
+use rv_shape::shape::UnitShape;
+use std::alloc::{AllocError, Global};
+
+/// Keeps the list in force while a journal is audited, and lists what it grants. Of the filter it heeds who calls, a unit or
+/// `Interrupts`, and what is called.
+#[derive(Drop)]
+pub struct Rights<'f> {
+    alloc: Global,
+    filter: Filter<'f>,
+    list: AccessList,
+}
+
+// The list in force. Err where memory was refused.
+fn list_of(alloc: Global, host: &Host) -> Result<AccessList, AllocError>
+    ensures { IfOk result (λ list. list ≡ force host.now) }
+{
+    match host.list() {
+        Some(list) => list.copy(),
+        None => Ok(AccessList::new(alloc)),
+    }
+}
+
+impl<'f> Rights<'f> {
+    /// Before the first line of a journal.
+    pub fn new(alloc: Global, filter: Filter<'f>) -> Rights<'f>
+        ensures filter { result.filter ≡ filter.entry }
+        ensures begins { (limits : Limits) → Follows result.filter result (empty limits) }
+    {
+        Rights {
+            alloc,
+            filter,
+            list: AccessList::new(alloc),
+        }
+    }
+
+    /// The rows. Err where memory was refused.
+    pub fn into_text(self, catalogue: &Catalogue) -> Result<String, AllocError>
+        ensures { (filter : FilterText) (h : History) → catalogue.now ≡ h.shapes → Follows filter self.entry h →
+            IfOk result (λ text. string_bytes text ≡ rights_text filter h) }
+    {
+        let mut text = String::new(self.alloc);
+        put_rights(self.alloc, &mut text, &self.filter, &self.list, catalogue)?;
+        Ok(text)
+    }
+}
+
+impl<'f> Observer for Rights<'f> {
+    ghost follows = { λ begun it units h. Follows begun.filter it h };
+
+    ghost awaits = { λ begun it units h told. Follows begun.filter it h };
+
+    fn before(
+        &mut self,
+        _units: &[UnitShape],
+        _host: &Host,
+        _number: usize,
+        _deed: &Deed<'_>,
+    ) -> Result<(), AllocError> {
+        Ok(())
+    }
+
+    fn after(
+        &mut self,
+        _units: &[UnitShape],
+        host: &Host,
+        deed: &Deed<'_>,
+        _answer: &Answer,
+    ) -> Result<(), AllocError> {
+        match *deed {
+            Deed::Asks(_, _, _) => Ok(()),
+            Deed::Loads(_, _, _) => Ok(()),
+            Deed::Lists(_, _, _) => {
+                self.list = list_of(self.alloc, host)?;
+                Ok(())
+            }
+        }
+    }
+}

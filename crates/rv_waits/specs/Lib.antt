@@ -1,0 +1,3 @@
+pub mod Following
+pub mod Lasting
+pub mod Waits
