@@ -6,7 +6,6 @@ mod feed;
 mod listening;
 mod pair;
 mod piece;
-mod rest;
 mod rule;
 mod speaker;
 
