@@ -128,7 +128,7 @@ pub ends_not_by_fault : (before after : List Piece) (fault : InputFault) (is_sai
 ends_not_by_fault before after fault true P says going over = absurd (not_over_by_fault before after fault says over)
 ends_not_by_fault before after fault false P says going over = absurd (still_going before after says going over)
 
-bytes_both : (xs ys : List Piece) → all_bytes (xs ++ ys) ≡ all_bytes xs ++ all_bytes ys
+pub bytes_both : (xs ys : List Piece) → all_bytes (xs ++ ys) ≡ all_bytes xs ++ all_bytes ys
 bytes_both [] ys = refl
 bytes_both (x ∷ xs) ys = ap (λ (l : List ℕ). bytes_of x ++ l) (bytes_both xs ys) ∙ sym (append_assoc (bytes_of x) (all_bytes xs) (all_bytes ys))
 

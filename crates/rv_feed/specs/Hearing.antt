@@ -6,6 +6,7 @@ use Rattle.std.specs.declared.io.Error.{Error}
 use Rattle.std.specs.declared.io.ErrorKind.TheVariants.{UnexpectedEof}
 use Rattle.crossbeam_channel.specs.Claims.{view}
 use Rattle.rv_input.specs.Coming.{Reading}
+use Rattle.rv_input.specs.Whole.{HasSections, IsPast}
 use Rattle.rv_input.specs.declared.fault.InputFault.{InputFault}
 use Rattle.rv_input.specs.declared.fault.InputFault.TheVariants as Faults
 use Rattle.rv_feed.specs.Order.{IsOver, all_bytes, pieces_known}
@@ -63,6 +64,10 @@ Hears heard heard' old new (Ok Over) = FindsEnd heard heard' old new
 Hears heard heard' old new (Err fault) =
     ((piece : Piece) × (heard' ≡ heard ++ piece ∷ []) × Fails piece fault × (new ≡ old)) ⊎ (IsLost fault × Waits heard heard' old new)
 
+-- so many pieces were taken, one after another, and their bytes put behind what was read ahead, and nothing else
+abbrev pub HearsOn : List Piece → List Piece → Reading → Reading → Type 0
+HearsOn heard heard' old new = (pieces : List Piece) × (heard' ≡ heard ++ pieces) × (new ≡ record old { ahead = old.ahead ++ all_bytes pieces })
+
 -- what the pieces are that were taken of a pipe which ends a run, where there is one
 abbrev pub told : Option Feed → Option (List Piece)
 told stop = option_map heard stop
@@ -71,6 +76,11 @@ told stop = option_map heard stop
 abbrev pub IsStopped : Option (List Piece) → Type 0
 IsStopped None = ⊥
 IsStopped (Some pieces) = IsOver pieces
+
+-- What stands before the commands of an input has come whole, or no more is waited for: the input went past its greatest length,
+-- is over, or was ended from outside.
+abbrev pub SectionsCome : List Piece → Option (List Piece) → Reading → Type 0
+SectionsCome heard told input = HasSections input.ahead ⊎ (IsPast input ⊎ (IsOver heard ⊎ IsStopped told))
 
 -- Handing on
 

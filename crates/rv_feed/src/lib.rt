@@ -7,6 +7,7 @@ mod listening;
 mod pair;
 mod piece;
 mod rule;
+mod sections;
 mod speaker;
 
 pub use feed::Came;
