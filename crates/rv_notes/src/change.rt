@@ -1,6 +1,6 @@
 //! The notes on a change of one line of a list.
 
-ghost use Rattle.std.specs.Prelude.{◌≡◌, true, false, IfOk, List, string_bytes};
+ghost use Rattle.std.specs.Prelude.{◌≡◌, true, false, IfOk, List, Some, string_bytes};
 ghost use Rattle.std.specs.List.{Contains};
 ghost use Rattle.rv_notes.specs.Changes.{AreChangeNotes, AreNew, IsNew, line_changed, made};
 ghost use Rattle.rv_notes.specs.Notes.{AreNotes};
@@ -79,6 +79,26 @@ pub fn line_changed(after: &AccessList, change: &Change) -> usize
     }
 }
 
+// The notes on a change that makes this list.
+fn notes_made(
+    alloc: Global,
+    catalogue: &Catalogue,
+    before: &AccessList,
+    after: &AccessList,
+    change: &Change,
+) -> Result<Vec<Note>, AllocError>
+    ensures { Some after.now ≡ made before.now change.now → IfOk result (λ notes. AreChangeNotes catalogue.now before.now change.now notes.items) }
+{
+    let old = notes(alloc, catalogue, before)?;
+    let new = notes(alloc, catalogue, after)?;
+    new_ones(
+        alloc,
+        old.as_slice(),
+        new.as_slice(),
+        line_changed(after, change),
+    )
+}
+
 /// The notes on a change of one line, over the units that are loaded: those on that line, and those that the list hadn't
 /// before; none on a line less, on a whole list, and where the change makes no list. Err where memory was refused.
 pub fn change_notes(
@@ -89,17 +109,10 @@ pub fn change_notes(
 ) -> Result<Vec<Note>, AllocError>
     ensures { IfOk result (λ notes. AreChangeNotes catalogue.now before.now change.now notes.items) }
 {
-    let Some(after) = changed(before, change)? else {
-        return Ok(Vec::new(alloc));
-    };
-    let old = notes(alloc, catalogue, before)?;
-    let new = notes(alloc, catalogue, &after)?;
-    new_ones(
-        alloc,
-        old.as_slice(),
-        new.as_slice(),
-        line_changed(&after, change),
-    )
+    match changed(before, change)? {
+        Some(after) => notes_made(alloc, catalogue, before, &after, change),
+        None => Ok(Vec::new(alloc)),
+    }
 }
 
 /// What is told of a change of one line, a line each: `warning: list line 3 names Plant.Vlave; Plant has Valve`. Err where
@@ -116,7 +129,7 @@ pub fn change_text(
     let Some(after) = changed(before, change)? else {
         return Ok(text);
     };
-    let told = change_notes(alloc, catalogue, before, change)?;
+    let told = notes_made(alloc, catalogue, before, &after, change)?;
     put_notes(&mut text, alloc, catalogue, &after, told.as_slice())?;
     Ok(text)
 }
