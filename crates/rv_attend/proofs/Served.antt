@@ -150,8 +150,11 @@ if_on : {C : Type 0} (holds : C → Holding) (terms : Terms) (opened : Filed) (m
     ⊎ ((point_of holds n ≡ point_of holds u) × EndsFor terms (point_of holds m) (point_of holds u) result)
 if_on holds terms opened m u n (Ok On) result plain same unread hears goes stands serves = inl (serves_on holds m u n result plain unread hears goes serves)
 if_on holds terms opened m u n (Ok Out) result plain same unread hears goes stands ends =
-    inr (ap (λ (x : Moment _). point_of holds x) ends.0, subst (λ (r : Result Goes KeptFailure). EndsFor terms (point_of holds m) (point_of holds u) r) (sym ends.1)
-    (ends_out holds terms opened m u same hears stands goes))
+    inr (
+      ap (λ (x : Moment _). point_of holds x) ends.0,
+      subst (λ (r : Result Goes KeptFailure). EndsFor terms (point_of holds m) (point_of holds u) r) (sym ends.1)
+          (ends_out holds terms opened m u same hears stands goes),
+    )
 if_on holds terms opened m u n (Err failure) result plain same unread hears goes stands ends =
     inr (ap (λ (x : Moment _). point_of holds x) ends.0, subst (λ (r : Result Goes KeptFailure). EndsFor terms (point_of holds m) (point_of holds u) r) (sym ends.1) tt)
 

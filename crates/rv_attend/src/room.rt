@@ -124,12 +124,7 @@ fn is_low(asked: &Attention, capacity: usize, used: usize) -> bool
 }
 
 // Where units came, says whether the journal doesn't hold what quotas let them add.
-fn check_promise<E: Write>(
-    session: &Session,
-    asked: &Attention,
-    room: &mut Room,
-    errors: &mut E,
-)
+fn check_promise<E: Write>(session: &Session, asked: &Attention, room: &mut Room, errors: &mut E)
     ensures { room.new.capacity ≡ room.old.capacity }
 {
     let catalogue = session.staff.catalogue();
@@ -289,12 +284,7 @@ pub(crate) fn keep_room<T: Wait + Clock, E: Write>(
     }
     check_promise(session, asked, room, errors);
     for _ in 0..MOST_DUES {
-        let due = room.guard.next(
-            session.staff.catalogue(),
-            &room.tally,
-            room.capacity,
-            used,
-        );
+        let due = room.guard.next(session.staff.catalogue(), &room.tally, room.capacity, used);
         match do_due(rt, session, asked, room, due, used, errors) {
             Then::Next => {}
             Then::Rest => return Goes::On,

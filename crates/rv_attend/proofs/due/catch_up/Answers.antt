@@ -18,11 +18,11 @@ loop-init g c = record {
 pub loop-preserved : goal.loop-preserved
 loop-preserved g c = record {
   tends = (
-  λ opened kept. c.in-Ok.ensures.tends.0 opened (c.loop.invariant.tends.0 opened kept),
-  chores_on _ _ _ c.loop.invariant.tends.1 c.do_round.ensures.tends.1,
-  c.do_round.ensures.tends.2 ∙ c.loop.invariant.tends.2,
-  c.do_round.ensures.tends.3 ∙ c.loop.invariant.tends.3,
-);
+    λ opened kept. c.in-Ok.ensures.tends.0 opened (c.loop.invariant.tends.0 opened kept),
+    chores_on _ _ _ c.loop.invariant.tends.1 c.do_round.ensures.tends.1,
+    c.do_round.ensures.tends.2 ∙ c.loop.invariant.tends.2,
+    c.do_round.ensures.tends.3 ∙ c.loop.invariant.tends.3,
+  );
   feed = c.is_last.ensures ∙ c.do_round.ensures.feed ∙ c.loop.invariant.feed;
 }
 
