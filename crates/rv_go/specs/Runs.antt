@@ -46,7 +46,6 @@ AreRuns u budget heard runs = All (IsRun u budget heard) runs
 abbrev pub IsOf : ℕ → Text → List Run → ℕ → Type 0
 IsOf actor text runs place = (default : Run) → ((get_or runs place default).actor ≡ actor) × ((get_or runs place default).text ≡ text)
 
--- the machines that there are run the bodies that are loaded
-abbrev pub AreKept : UnitBodies → ℕ → List Heard → Option Running → Type 0
-AreKept bodies budget heard None = Unit {0}
-AreKept bodies budget heard (Some r) = (flat_view r.table ≡ bodies) × AreRuns r.table budget heard r.runs.items
+-- the machines run the bodies that are loaded
+abbrev pub IsKept : UnitBodies → ℕ → List Heard → Running → Type 0
+IsKept bodies budget heard r = ∥ flat_view r.table ≡ bodies ∥₁ × AreRuns r.table budget heard r.runs.items

@@ -1,10 +1,10 @@
 //! What `go` asks.
 
-ghost use Rattle.std.specs.Prelude.{◌≡◌, IfOk, Some, option_map};
+ghost use Rattle.std.specs.Prelude.{◌≡◌, IfOk, option_map};
 ghost use Rattle.rv_exec.specs.Bodies.{bodies_view};
 ghost use Rattle.rv_go.specs.Texts.{texts_view};
 ghost use Rattle.rv_go.specs.Goes.{task_asks, handler_asks, line_asks, asks};
-ghost use Rattle.rv_go.specs.Runs.{asked_by, settled, AreKept};
+ghost use Rattle.rv_go.specs.Runs.{asked_by, settled, IsKept};
 
 use crate::run::Text;
 use crate::running::Running;
@@ -18,7 +18,7 @@ use std::alloc::{AllocError, Global};
 impl Texts {
     // The machines that run texts are taken out; where there are none yet, they are made. Err where memory was refused.
     fn taken(&mut self, alloc: Global) -> Result<Running, AllocError>
-        ensures kept { IfOk result (λ running. AreKept (bodies_view self.old.bodies) self.old.budget self.old.heard.items (Some running)) }
+        ensures kept { IfOk result (λ running. IsKept (bodies_view self.old.bodies) self.old.budget self.old.heard.items running) }
         ensures bodies { self.new.bodies ≡ self.old.bodies }
         ensures heard { self.new.heard ≡ self.old.heard }
         ensures budget { self.new.budget ≡ self.old.budget }

@@ -1,7 +1,8 @@
 //! The texts of actors: the bodies of the loaded units, and what actors were answered since their texts began.
 
+ghost use Rattle.std.specs.Option.{ForSome};
 ghost use Rattle.rv_exec.specs.Bodies.{bodies_view};
-ghost use Rattle.rv_go.specs.Runs.{AreKept};
+ghost use Rattle.rv_go.specs.Runs.{IsKept};
 
 use crate::running::Running;
 use rv_event::entry::Answer;
@@ -28,5 +29,5 @@ pub struct Texts {
     pub budget: u32,
     /// The machines that run texts, from the first `go` behind a load on.
     pub running: Option<Running>,
-    ghost kept: { AreKept (bodies_view bodies) budget heard.items running },
+    ghost kept: { ForSome running (λ r. IsKept (bodies_view bodies) budget heard.items r) },
 }
