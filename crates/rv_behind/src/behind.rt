@@ -11,7 +11,7 @@ ghost use Rattle.rv_behind.specs.Acting.{AreBrought, Does, changes};
 
 use crate::event::{Ask, Event, Lent, Letter, NONE, Reply};
 use begun::begun_by;
-use rv_event::entry::{Answer, Request};
+use rv_event::entry::{Answer, Next, Request};
 use rv_exec::bodies::Bodies;
 use rv_history::limits::Limits;
 use rv_host::host::Host;
@@ -32,12 +32,27 @@ pub struct Behind {
     pub host: Box<Host>,
     /// The bodies of its units.
     pub bodies: Arc<Bodies, Global>,
+    /// Whether somebody was told Busy since others were last told that they may go on.
+    pub is_awaited: bool,
     pub ghost brought: { AreBrought host.value (arc_value bodies) },
 }
 
 // Whether a body starts with the answer.
 fn starts(answer: &Answer) -> bool {
     matches!(answer, Answer::Started(_) | Answer::Woken(Some(_)))
+}
+
+// Whether others may go on after an answer, and wait for that; whether somebody waits for it after this one, where somebody
+// did before it. What is carried out, and an end that hands an object on or drops a caller, may end any wait. Any other end frees
+// those alone who were told Busy, all of them before it. A start, a refusal, and the beginning and the end of the actor's own
+// wait free nobody.
+fn rings_for(answer: &Answer, is_awaited: bool) -> (bool, bool) {
+    match answer {
+        Answer::Busy => (false, true),
+        Answer::Done(Next::Nothing) => (is_awaited, false),
+        Answer::Done(_) | Answer::Accepted(_) => (true, false),
+        _ => (false, is_awaited),
+    }
 }
 
 // Whether the operator alone may ask it.
@@ -62,6 +77,7 @@ impl Behind {
                 alloc,
                 host,
                 bodies,
+                is_awaited: false,
             }),
             Err(AllocFailed { value }) => Err(value),
         }
@@ -85,11 +101,11 @@ impl Behind {
         }
     }
 
-    // The bodies, for an answer that starts one.
-    fn lend(&self, answer: &Answer) -> Option<Lent>
+    // The bodies, for an answer that starts one, where they are wanted.
+    fn lend(&self, are_wanted: bool, answer: &Answer) -> Option<Lent>
         ensures { IfSome result (λ l. bodies_view (arc_value l.bodies) ≡ bodies_view (arc_value self.now.bodies)) }
     {
-        if !starts(answer) {
+        if !are_wanted || !starts(answer) {
             return None;
         }
         self.share()
@@ -118,7 +134,10 @@ impl Behind {
             &letter.request,
             &letter.answer,
         );
-        letter.lent = self.lend(&letter.answer);
+        letter.lent = self.lend(letter.wants_bodies, &letter.answer);
+        let (rings, is_awaited) = rings_for(&letter.answer, self.is_awaited);
+        letter.rings = rings;
+        self.is_awaited = is_awaited;
     }
 
     // A request, as one of several things to ask.
@@ -127,6 +146,7 @@ impl Behind {
         ensures about { self.new.host.value.limits ≡ self.old.host.value.limits }
     {
         let mut letter = Letter::new(request);
+        letter.wants_bodies = true;
         self.step(actor, &mut letter);
         let Letter {
             answer,

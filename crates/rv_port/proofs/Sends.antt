@@ -134,7 +134,7 @@ pub bodies_arc_send : IsSend (arc.the_row bodies.the_row global.the_row ghosts)
 bodies_arc_send = arc_crosses.the_send bodies.the_row global.the_row ghosts bodies_send global_crosses.the_send bodies_sync global_crosses.the_sync heap_crosses.the_frees
 
 behind_send : IsSend behind.the_row
-behind_send = recorded_send (behind.the_field).row _ _ (behind.the_type).to_one (struct_send (shape behind.the_type) (global_crosses.the_field_send, (Box-send host.the_row host_crosses.the_send, (bodies_arc_send, tt))))
+behind_send = recorded_send (behind.the_field).row _ _ (behind.the_type).to_one (struct_send (shape behind.the_type) (global_crosses.the_field_send, (Box-send host.the_row host_crosses.the_send, (bodies_arc_send, (plain_send _ _ _ _ _, tt)))))
 
 bell_arc_send : IsSend (arc.the_row bell.the_row global.the_row ghosts)
 bell_arc_send = arc_crosses.the_send bell.the_row global.the_row ghosts bell_crosses.the_send global_crosses.the_send bell_crosses.the_sync global_crosses.the_sync heap_crosses.the_frees

@@ -114,7 +114,7 @@ impl Asker {
                 return Err(Worn);
             };
             if !must_wait(&letter.answer) {
-                self.bell.tell(&letter.answer);
+                self.bell.tell_of(letter);
                 return Ok(());
             }
             self.bell.wait_past(rt, rings);

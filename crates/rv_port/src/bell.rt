@@ -1,5 +1,10 @@
 //! Tells the ports of a turn that they may go on.
+//!
+//! Who is answered Busy, or Waiting, looks at how often the bell has rung before it asks, and waits until it has rung since.
+//! Whether others wait for an answer is known behind the turn, where each answer comes before or behind each other: an end that
+//! nobody waits for doesn't ring.
 
+use rv_behind::event::Letter;
 use rv_event::entry::Answer;
 use std::sync::Wait;
 use std::sync::atomic::{AtomicU64, Ordering};
@@ -42,6 +47,13 @@ impl Bell {
     /// Rings where others may go on after the answer.
     pub(crate) fn tell(&self, answer: &Answer) {
         if frees(answer) {
+            self.ring();
+        }
+    }
+
+    /// Rings where others may go on after the answer in a letter, and wait for that.
+    pub(crate) fn tell_of(&self, letter: &Letter) {
+        if letter.rings {
             self.ring();
         }
     }

@@ -77,6 +77,7 @@ impl Asker {
         ensures { Waited self.old.pass self.old.is_refused request.now result self.new.pass self.new.is_refused }
     {
         let mut letter = Letter::new(&Request::Resume);
+        letter.wants_bodies = true;
         let Ok(()) = self.insist(rt, &mut letter) else {
             return Reached::Stopped;
         };
@@ -94,6 +95,7 @@ impl Asker {
     {
         let rings = self.bell.rings();
         let mut letter = Letter::new(request);
+        letter.wants_bodies = true;
         let Ok(()) = self.insist(rt, &mut letter) else {
             return Reached::Stopped;
         };

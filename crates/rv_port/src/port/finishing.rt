@@ -25,7 +25,7 @@ fn ask_quit<R: Wait>(rt: &R, asker: &mut Asker)
     let Ok(()) = asker.try_ask(rt, &mut letter) else {
         return;
     };
-    asker.bell.tell(&letter.answer);
+    asker.bell.tell_of(&letter);
 }
 
 // The same. The port stays what it was.
