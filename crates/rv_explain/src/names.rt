@@ -123,15 +123,18 @@ fn of_misfit<'a>(misfit: &Misfit<'_, 'a>, fault: UnitFault) -> Result<Cause<'a>,
     }
 }
 
-// What the declarations of a text mean, if its names are bound.
+// What the declarations of a text mean, where its types have a fault: its names are bound then.
 fn outline(
-    alloc: Global,
+    explained: Explained<'_>,
     tree: &UnitTree,
-    catalogue: &Catalogue,
+    fault: UnitFault,
 ) -> Result<Option<Outline>, AllocError> {
+    let UnitFault::Types(_) = fault else {
+        return Ok(None);
+    };
     let mut faults = Faults::new();
-    match resolve(alloc, tree, catalogue) {
-        Ok(named) => Ok(Some(outline_of(alloc, &named, &mut faults)?)),
+    match resolve(explained.alloc, tree, explained.catalogue) {
+        Ok(named) => Ok(Some(outline_of(explained.alloc, &named, &mut faults)?)),
         Err(_) => Ok(None),
     }
 }
@@ -168,7 +171,7 @@ fn looked_at<'a>(
     let units = protected_units(alloc, tree)?;
     let seen = seen_at(alloc, tree, units.as_slice(), explained.catalogue, place)?;
     let names = candidates(alloc, explained.tokens, explained.catalogue)?;
-    let outline = outline(alloc, tree, explained.catalogue)?;
+    let outline = outline(explained, tree, fault)?;
     let misfit = Misfit {
         alloc,
         tokens: words,

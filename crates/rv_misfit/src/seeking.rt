@@ -9,7 +9,7 @@ use rv_scope::Declared;
 use rv_seen::Site;
 use rv_shape::kind::ValueType;
 use rv_tree::{
-    Declaration, Expression, HighestOperator, Iteration, Local, Name, OperationBody,
+    Aspect, Declaration, Expression, HighestOperator, Iteration, Local, Name, OperationBody,
     ProtectedElement, Statement,
 };
 
@@ -18,6 +18,8 @@ use rv_tree::{
 enum Why<'s> {
     Condition,
     Barrier,
+    /// An aspect (D.1).
+    Priority,
     /// `delay until`.
     Delay,
     /// What is assigned.
@@ -71,6 +73,7 @@ fn said_of(why: Why<'_>) -> &'static str {
     match why {
         Why::Condition => "{4}{0} is {1}; a condition is Boolean (5.3)",
         Why::Barrier => "{4}{0} is {1}; a barrier is Boolean (9.5.2)",
+        Why::Priority => "{4}{0} is {1}; a priority is {2} (D.1)",
         Why::Delay => "{4}{0} is {1}; delay until takes a Time (9.6)",
         Why::Target(_) => "{4}{0} is {1}; {3} is {2} (5.2)",
         Why::Parameter(_, _) => "{4}{0} is {1}; the parameter of {3} is {2} (6.4.1)",
@@ -108,9 +111,23 @@ impl<'s, 'a> Misfit<'s, 'a> {
         sought(e, range.of, Why::Mark(mark))
     }
 
+    // The value of the aspect that the place stands in.
+    fn of_aspect(&self, aspects: &'s Vec<Aspect>) -> Option<Sought<'s>> {
+        let at = self.words.place(0);
+        let mut found = None;
+        for aspect in aspects {
+            if aspect.name.at <= at {
+                found = aspect.value.as_ref();
+            }
+        }
+        sought(found?, ValueType::Integer, Why::Priority)
+    }
+
     // The value of a declaration of the package.
     fn of_declaration(&self, one: &'s Declaration) -> Option<Sought<'s>> {
         match one {
+            Declaration::Protected(unit) => self.of_aspect(&unit.aspects),
+            Declaration::Task(task) => self.of_aspect(&task.aspects),
             Declaration::Constant {
                 mark: Some(mark),
                 value,
