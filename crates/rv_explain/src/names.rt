@@ -124,7 +124,7 @@ fn of_misfit<'a>(misfit: &Misfit<'_, 'a>, fault: UnitFault) -> Result<Cause<'a>,
 }
 
 // What the declarations of a text mean, where its types have a fault: its names are bound then.
-fn outline(
+fn outlined(
     explained: Explained<'_>,
     tree: &UnitTree,
     fault: UnitFault,
@@ -171,7 +171,7 @@ fn looked_at<'a>(
     let units = protected_units(alloc, tree)?;
     let seen = seen_at(alloc, tree, units.as_slice(), explained.catalogue, place)?;
     let names = candidates(alloc, explained.tokens, explained.catalogue)?;
-    let outline = outline(explained, tree, fault)?;
+    let outline = outlined(explained, tree, fault)?;
     let misfit = Misfit {
         alloc,
         tokens: words,
@@ -276,12 +276,12 @@ fn put(
 
 // The faults that were told, by the words at which they stand, and what is said of those behind the first.
 #[derive(Drop)]
-struct Told<'a> {
+struct More<'a> {
     words: Vec<&'a str>,
     text: String,
 }
 
-impl<'a> Told<'a> {
+impl<'a> More<'a> {
     // Whether a fault was told at such a word.
     fn has(&self, word: &str) -> bool {
         for other in &self.words {
@@ -315,7 +315,7 @@ fn next_fault<'a>(
     part: &Part<'_>,
     words: &[Token<'a>],
     place: usize,
-    told: &mut Told<'a>,
+    told: &mut More<'a>,
 ) -> Result<Option<Vec<Token<'a>>>, AllocError> {
     let Ok(tree) = read_words(explained.alloc, words, explained.text.len()) else {
         return Ok(None);
@@ -344,7 +344,7 @@ pub(crate) fn more_faults<'a>(
     at: usize,
 ) -> Result<String, AllocError> {
     let alloc = explained.alloc;
-    let mut told = Told {
+    let mut told = More {
         words: Vec::new(alloc),
         text: String::new(alloc),
     };

@@ -59,7 +59,7 @@ fn is_same(one: ValueType, other: ValueType) -> bool {
 }
 
 // An expression of which a type is wanted.
-fn sought<'s>(e: &'s Expression, of: ValueType, why: Why<'s>) -> Option<Sought<'s>> {
+fn wanting<'s>(e: &'s Expression, of: ValueType, why: Why<'s>) -> Option<Sought<'s>> {
     Some(Sought {
         e,
         of: Some(of),
@@ -108,7 +108,7 @@ impl<'s, 'a> Misfit<'s, 'a> {
     // The values that a declaration with a mark takes.
     fn of_marked(&self, mark: &'s Name, e: &'s Expression) -> Option<Sought<'s>> {
         let (range, _) = self.marked(mark)?;
-        sought(e, range.of, Why::Mark(mark))
+        wanting(e, range.of, Why::Mark(mark))
     }
 
     // The value of the aspect that the place stands in.
@@ -120,7 +120,7 @@ impl<'s, 'a> Misfit<'s, 'a> {
                 found = aspect.value.as_ref();
             }
         }
-        sought(found?, ValueType::Integer, Why::Priority)
+        wanting(found?, ValueType::Integer, Why::Priority)
     }
 
     // The value of a declaration of the package.
@@ -141,19 +141,19 @@ impl<'s, 'a> Misfit<'s, 'a> {
     fn of_statement(&self, one: &'s Statement) -> Option<Sought<'s>> {
         match one {
             Statement::If { condition, .. } | Statement::Exit(_, Some(condition)) => {
-                sought(condition, ValueType::Boolean, Why::Condition)
+                wanting(condition, ValueType::Boolean, Why::Condition)
             }
             Statement::Assignment(target, e) => {
                 let declared = self.seen.scope.visible(target)?;
                 let range = self.range_of(declared)?;
-                sought(e, range.of, Why::Target(declared))
+                wanting(e, range.of, Why::Target(declared))
             }
             Statement::Return(_, Some(e)) => {
                 let body = self.seen.body?;
                 let (range, _) = self.marked(body.mark()?)?;
-                sought(e, range.of, Why::Result(body))
+                wanting(e, range.of, Why::Result(body))
             }
-            Statement::Delay { time, .. } => sought(time, ValueType::Time, Why::Delay),
+            Statement::Delay { time, .. } => wanting(time, ValueType::Time, Why::Delay),
             Statement::Call(name, arguments) => self.of_argument(name, arguments),
             _ => None,
         }
@@ -173,7 +173,7 @@ impl<'s, 'a> Misfit<'s, 'a> {
         match self.operation_of(declared) {
             Some(operation) => {
                 let parameter = operation.parameters().get(index)?;
-                sought(e, parameter.range.of, Why::Parameter(declared, index))
+                wanting(e, parameter.range.of, Why::Parameter(declared, index))
             }
             None => Some(Sought {
                 e,
@@ -201,9 +201,9 @@ impl<'s, 'a> Misfit<'s, 'a> {
                     ..
                 },
             ) => self.of_marked(mark, e),
-            Site::Barrier(e) => sought(e, ValueType::Boolean, Why::Barrier),
+            Site::Barrier(e) => wanting(e, ValueType::Boolean, Why::Barrier),
             Site::Elsif(e) | Site::Turns(Iteration::While(e)) => {
-                sought(e, ValueType::Boolean, Why::Condition)
+                wanting(e, ValueType::Boolean, Why::Condition)
             }
             Site::Statement(one) => self.of_statement(one),
             _ => None,
@@ -240,12 +240,12 @@ impl<'s, 'a> Misfit<'s, 'a> {
                 why: whole.why,
             }),
             Expression::Highest(_, HighestOperator::Not, e) => {
-                sought(e, ValueType::Boolean, Why::Logical)
+                wanting(e, ValueType::Boolean, Why::Logical)
             }
             Expression::Highest(_, HighestOperator::Abs, e) => {
-                sought(e, ValueType::Integer, Why::Multiplying)
+                wanting(e, ValueType::Integer, Why::Multiplying)
             }
-            Expression::Signed(_, _, e) => sought(e, ValueType::Integer, Why::Adding),
+            Expression::Signed(_, _, e) => wanting(e, ValueType::Integer, Why::Adding),
             Expression::Relation(left, _, right) => self.in_relation(left, right),
             Expression::Call(name, arguments) => self.of_argument(name, arguments),
             _ => self.operand_of(whole.e),
@@ -262,7 +262,7 @@ impl<'s, 'a> Misfit<'s, 'a> {
                         found = one;
                     }
                 }
-                sought(found, ValueType::Boolean, Why::Logical)
+                wanting(found, ValueType::Boolean, Why::Logical)
             }
             Expression::Product(first, more) => {
                 let mut found: &'s Expression = first;
@@ -271,7 +271,7 @@ impl<'s, 'a> Misfit<'s, 'a> {
                         found = &one.operand;
                     }
                 }
-                sought(found, ValueType::Integer, Why::Multiplying)
+                wanting(found, ValueType::Integer, Why::Multiplying)
             }
             Expression::Sum(first, more) => {
                 let mut found: &'s Expression = first;
@@ -301,7 +301,7 @@ impl<'s, 'a> Misfit<'s, 'a> {
                     why: Why::Adding,
                 })
             }
-            _ => sought(found, ValueType::Integer, Why::Adding),
+            _ => wanting(found, ValueType::Integer, Why::Adding),
         }
     }
 
