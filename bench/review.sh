@@ -67,7 +67,7 @@ expect 0 access <"$work/whole"
 expect 0 access_by --by interrupts --journal "$work/journal" <"$work/units"
 expect 0 access_of --by nav --of plant.ready.set_true --journal "$work/journal" <"$work/units"
 expect 2 nothing --since tick:1 --journal "$work/journal" <"$work/units"
-asked=who
+asked="who"
 expect 0 who plant.valve.set --journal "$work/journal" <"$work/units"
 asked=refusals
 
