@@ -3,13 +3,10 @@
 
     bench/audit_damage.py [--all] [--program PATH]    # the six rows below, or all rows that the model can play
     bench/audit_damage.py [--all] --write FOLDER      # a file for each case instead, NAME and NAME.stdout, with NAME.args
-    bench/audit_damage.py --rows                      # the files of the six rows and of one of its own that crates/host_rows plays
 
 Each entry is taken out, doubled and exchanged with its neighbour, with the numbers as they were and numbered anew; each digit is
 changed; each word is doubled; each letter is put into the other case; a carriage return is put before each line feed and into the
-middle of each line; and the journal is cut at every byte. `--rows` writes a line for each way and place, the places of a way
-numbered from 1, and one for neighbouring places of one verdict: there a journal is judged byte for byte, as one in a file of its
-own, while in a script a carriage return before a line feed is dropped.
+middle of each line; and the journal is cut at every byte.
 """
 import argparse
 import os
@@ -18,7 +15,6 @@ import subprocess
 import sys
 from collections import Counter
 from collections.abc import Callable, Iterator
-from itertools import groupby
 from multiprocessing import Pool
 from pathlib import Path
 from typing import NamedTuple
@@ -26,18 +22,17 @@ from typing import NamedTuple
 TOP = Path(__file__).resolve().parent.parent
 sys.path.insert(0, str(TOP / "bench/model"))
 
-from audit import Auditor, audit, read_settings_of, section_text  # noqa: E402
+from audit import audit  # noqa: E402
 from play import Fault, Outcome, play, sections_of  # noqa: E402
 
 ROWS = TOP / "crates/rv_rows/data"
-AUDITS = TOP / "crates/host_rows/data"
 PROGRAM = TOP / "crates/ravenhost/out/ravenhost"
 USUAL = (
     "last_line_decides", "second_caller_while_procedure_runs", "grant_taken_away_while_queued", "full_journal_and_halt",
-    "go_two_units", "call_without_a_list",
+    "go_two_units", "call_without_a_list", "judged_queue_of_two",
 )
-# Rows of crates/host_rows that are damaged there.
-OWN = ("queue_of_two",)
+# The row of a journal that is judged, and not played, which is damaged as well: its queues take two callers.
+JUDGED = "judged_queue_of_two"
 # The units of `go_two_units`, whose texts the model can't read, as shapes (own: written down by hand from the texts).
 INTEGER = f"{-2**31} {2**31 - 1}"
 TWO_UNITS = f"""@shape
@@ -141,6 +136,9 @@ def kept_sections(script: str) -> str:
 def judged_alone(name: str) -> tuple[str, str, str] | None:
     """The sections of a row, the same for the model, and its journal; or nothing where the model can't play it."""
     script = (ROWS / f"{name}.raven").read_bytes()
+    if name == JUDGED:
+        sections, _, journal = script.decode().partition("@journal\n")
+        return sections, sections, journal
     if name == "go_two_units":
         text = script.decode()
         return text[:text.index("@list")], TWO_UNITS, (ROWS / f"{name}.journal").read_text()
@@ -183,50 +181,6 @@ def write(folder: Path, names: list[str]) -> int:
     return 0
 
 
-def judged(sections: str, journal: str) -> str:
-    """The verdict on a journal over these settings and shapes, byte for byte."""
-    auditor = Auditor()
-    for opening, lines, place in sections_of(sections):
-        if opening == "@host.toml":
-            read_settings_of(auditor, section_text(sections, place), place)
-        else:
-            auditor.units.append(lines)
-    return auditor.journal(journal)
-
-
-def places(first: int, last: int) -> str:
-    return str(first) if first == last else f"{first}..{last}"
-
-
-def verdict_lines(sections: str, journal: str) -> Iterator[str]:
-    """The lines on a journal's damages."""
-    for way, of_way in groupby(damaged(journal), lambda each: each.way):
-        last = 0
-        for verdict, equal in groupby(judged(sections, each.journal) for each in of_way):
-            first, last = last + 1, last + len(list(equal))
-            yield f"{way} {places(first, last)} -> {verdict}"
-
-
-def sections_and_journal(name: str) -> tuple[str, str]:
-    """Those of a usual row, or of a row of crates/host_rows alone."""
-    if name in USUAL:
-        _, sections, journal = judged_alone(name)
-        return sections, journal
-    sections, _, journal = (AUDITS / f"{name}.raven").read_text().partition("@journal\n")
-    return sections, journal
-
-
-def write_rows() -> int:
-    """Writes what crates/host_rows plays of the usual rows, and the damages of its own."""
-    for name in (*USUAL, *OWN):
-        sections, journal = sections_and_journal(name)
-        (AUDITS / f"{name}.raven").write_text(f"{sections}@journal\n{journal}")
-        (AUDITS / f"{name}.said").write_text(judged(sections, journal))
-        (AUDITS / f"{name}.damaged").write_text("".join(verdict_lines(sections, journal)))
-        print(f"{name}: {sum(1 for _ in damaged(journal))} damaged journals")
-    return 0
-
-
 class Compared(NamedTuple):
     """How often each verdict was due in a row's cases, and the cases in which the program said another."""
     verdicts: Counter[str]
@@ -263,11 +217,8 @@ def main() -> int:
     parser.add_argument("--all", action="store_true")
     parser.add_argument("--program", type=Path, default=PROGRAM)
     parser.add_argument("--write", type=Path, metavar="FOLDER")
-    parser.add_argument("--rows", action="store_true")
     arguments = parser.parse_args()
     names = [path.stem for path in sorted(ROWS.glob("*.raven"))] if arguments.all else list(USUAL)
-    if arguments.rows:
-        return write_rows()
     if arguments.write:
         return write(arguments.write, names)
     program = arguments.program.absolute()

@@ -12,9 +12,15 @@ use std::alloc::{AllocError, Global};
 use std::collections::HashMap;
 
 /// The last queued call of each actor (9.5.3).
-#[derive(Drop)]
 pub struct Calls {
     items: HashMap<usize, Body>,
+}
+
+impl Drop for Calls {
+    // A function of its own: a derived one is written out wherever one is let go, and proved there.
+    fn drop(self) {
+        let Calls { items: _ } = self;
+    }
 }
 
 impl Calls {

@@ -21,11 +21,21 @@ use std::alloc::{AllocError, Global};
 
 /// Keeps the list in force while a journal is audited, and lists what it grants. Of the filter it heeds who calls, a unit or
 /// `Interrupts`, and what is called.
-#[derive(Drop)]
 pub struct Rights<'f> {
     alloc: Global,
     filter: Filter<'f>,
     list: AccessList,
+}
+
+impl<'f> Drop for Rights<'f> {
+    // A function of its own: a derived one is written out wherever one is let go, and proved there.
+    fn drop(self) {
+        let Rights {
+            alloc: _,
+            filter: _,
+            list: _,
+        } = self;
+    }
 }
 
 // The list in force. Err where memory was refused.

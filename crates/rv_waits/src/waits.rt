@@ -30,7 +30,6 @@ use rv_shape::shape::UnitShape;
 use std::alloc::{AllocError, Global};
 
 /// Gathers the waits of a journal that a filter takes, and how long bodies lasted and how late delays ended, while it is audited.
-#[derive(Drop)]
 pub struct Waits<'f> {
     alloc: Global,
     filter: Filter<'f>,
@@ -40,6 +39,22 @@ pub struct Waits<'f> {
     delays: Track,
     tick: u64,
     text: String,
+}
+
+impl<'f> Drop for Waits<'f> {
+    // A function of its own: a derived one is written out wherever one is let go, and proved there.
+    fn drop(self) {
+        let Waits {
+            alloc: _,
+            filter: _,
+            calls: _,
+            waits: _,
+            bodies: _,
+            delays: _,
+            tick: _,
+            text: _,
+        } = self;
+    }
 }
 
 impl<'f> Waits<'f> {
@@ -208,7 +223,17 @@ impl<'f> Waits<'f> {
     {
         self.put_lasting(catalogue)?;
         self.put_rows(catalogue)?;
-        Ok(self.text)
+        let Waits {
+            alloc: _,
+            filter: _,
+            calls: _,
+            waits: _,
+            bodies: _,
+            delays: _,
+            tick: _,
+            text,
+        } = self;
+        Ok(text)
     }
 }
 
