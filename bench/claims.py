@@ -5,7 +5,8 @@
 
 A name is a function, a clause, a type, a field or a definition. It has to be declared in src/ or specs/ of a crate: below a head
 that names crates, in one of these or of those that they stand on, or in a crate that the same paragraph names. What has a stroke is a
-file of the repository, with `*` for any letters, and CRATE for any crate; a row is a file of crates/rv_rows/data. WORDS has what is no name of the sources.
+file of the repository, with `*` for any letters, and CRATE for any crate; a row is a file of crates/rv_rows/data. WORDS has what is
+no name of the sources.
 """
 import re
 import sys
@@ -15,7 +16,9 @@ TOP = Path(__file__).resolve().parents[1]
 CRATES = TOP / "crates"
 PAGE = TOP / "docs" / "CLAIMS.md"
 # What is written as code and isn't declared: words of scripts, answers and command lines, and what the toolchain or std has.
-WORDS = frozenset("rt ci full done stopped unattached audit play check append raise exit go in FROM deny allow run UNIT FILE None Ok Err Integer Interrupts remaining contents".split())
+WORDS = frozenset(
+    "rt ci full done stopped unattached audit play check append raise exit go in FROM deny allow run UNIT FILE None Ok Err Integer Interrupts "
+    "remaining contents".split())
 CRATE = r"\b(rv_\w+|host_rows|thread_rows|embedding|raven\w+)\b"
 NAME = re.compile(r"[A-Za-z_]\w*(?:::[A-Za-z_]\w*)*")
 DECLARED_RT = (
