@@ -79,6 +79,10 @@ trials() {
     run check
     due "a refused script" 1 "$folder/nothing" 'script line 1: list BadWord at line 1'
 
+    cp examples/first.raven "$folder/in"
+    run audit --script --journal "$folder/journal"
+    due "an audit over what was played" 0 <(echo "legal 6 entries") "$told"
+
     : >"$folder/in"
     run play --nonsense
     due "a flag that there isn't" 2 "$folder/nothing" "For more information, try '--help'."
@@ -145,7 +149,7 @@ untried() {
     (PATH=$path && command -v rt >/dev/null) || {
         rm -rf "$folder/clone/crates/ravenhost/out/trial"
         PATH=$path run play
-        due "no rt" 127 "$folder/nothing" "ravenhost: nothing is proved, a trial has to be built, and rt*"
+        due "no rt" 127 "$folder/nothing" "ravenhost: nothing is proved, a trial has to be built, and rt isn't on PATH: *the Rattle kit*"
     }
 }
 
@@ -221,6 +225,7 @@ started() {
     due "a proved program beside a trial" 0 <(echo "proved run") ''
     run run --trial
     due "the trial beside it" 0 <(echo "trial run") "$told"
+    rm "$program" "$program.kit" "$trial"
 }
 
 : >"$folder/nothing"

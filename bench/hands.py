@@ -3,8 +3,9 @@
 
     bench/hands.py [LAUNCHER]           the launcher is ./ravenhost of this checkout where none is named
 
-Two runs on one journal; standard input, output or error closed before the start; a limit on the size of files; a journal's file
-that a wrong command line would leave behind. It needs flock, and a program: the proved one or the trial that is kept.
+Two runs on one journal; a journal that others cut off, remove or replace; standard input, output or error closed before the
+start; a limit on the size of files; a journal's file that a wrong command line would leave behind. It needs flock, and a program:
+the proved one or the trial that is kept.
 """
 import os
 import subprocess
@@ -86,6 +87,21 @@ def two_runs_on_one_file(hands: Hands) -> None:
     hands.due("its journal is whole", hands.judged(journal) == 0, journal.read_bytes()[-200:])
 
 
+def journals_that_others_change(hands: Hands) -> None:
+    for what, change in (("cut off", lambda file: os.truncate(file, 0)), ("removed", os.unlink), ("replaced", lambda file: os.replace(other, file))):
+        journal, other = hands.folder / f"{what.replace(' ', '')}.journal", hands.folder / "other.journal"
+        other.write_bytes(b"1 operator load Plant -> accepted 0\n")
+        with subprocess.Popen([hands.launcher, "run", "--journal", journal], stdin=subprocess.PIPE, stdout=subprocess.PIPE, stderr=subprocess.PIPE) as run:
+            assert run.stdin and run.stdout and run.stderr
+            run.stdin.write(PLANT + b"tick 1\n")
+            run.stdin.flush()
+            run.stdout.readline()
+            change(journal)
+            _, told = run.communicate(b"tick 1\nquit\n", timeout=SECONDS)
+        hands.due(f"a run whose journal is {what} ends with 4", run.returncode == 4, run.returncode)
+        hands.due("and says why", b"while the run wrote it" in told, told)
+
+
 def streams_that_are_closed(hands: Hands) -> None:
     for streams, words in ((">&-", ["run", "--journal"]), ("2>&-", ["run", "--journal"]), (">&- 2>&-", ["run", "--journal"])):
         journal = hands.folder / f"closed{len(streams)}.journal"
@@ -114,7 +130,8 @@ def wrong_command_lines(hands: Hands) -> None:
     hands.due("and leaves no file", not journal.exists(), journal)
 
 
-CASES: tuple[Callable[[Hands], None], ...] = (two_runs_on_one_file, streams_that_are_closed, limits_on_files, wrong_command_lines)
+CASES: tuple[Callable[[Hands], None], ...] = (
+    two_runs_on_one_file, journals_that_others_change, streams_that_are_closed, limits_on_files, wrong_command_lines)
 
 
 def main(words: list[str]) -> int:

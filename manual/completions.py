@@ -99,7 +99,7 @@ def described():
             command.flags, command.word = flags(text), word(text)
     for left, about in rows(page("launcher"), "Of the script ./ravenhost:"):
         # (a word of the launcher's own is no flag, and isn't completed)
-        if re.fullmatch(r"[a-z]+ FOLDER", left):
+        if re.fullmatch(r"[a-z]+(?: FOLDER)?", left):
             continue
         row = re.fullmatch(r"(?:(\w+) )?(--[\w-]+)(?: ([A-Z]+))?", left)
         if not row or (row[1] or "") not in commands:
