@@ -54,7 +54,6 @@ ROWS = [
     ("{} check --e", ONE, "{} check --explain "),
     ("{} check --", ALL, "{} check --color --explain --help --notes --script --warnings-are-errors "),
     ("{} check --s", ONE, "{} check --script "),
-    ("{} audit --", ALL, "{} audit --color --explain --help --journal --torn"),
     ("{} audit --t", ONE, "{} audit --torn "),
     ("{} audit --torn --j", ONE, "{} audit --torn --journal"),
     ("{} audit --journal x", ONE, "{} audit --journal x-one.journal "),
@@ -63,7 +62,6 @@ ROWS = [
     ("{} audit --journal y", ONE, "{} audit --journal y-folder/"),
     ("{} audit --journal y-folder/", ONE, "{} audit --journal y-folder/inner.journal "),
     ("{} audit --journal ~/x", ONE, "{} audit --journal ~/x-one.journal "),
-    ("{} audit --journal x-one.journal --", ALL, "{} audit --journal x-one.journal --color --explain --torn"),
     ("{} play < z", ONE, "{} play < z.raven "),
     ("{} play <z", ONE, "{} play <z.raven "),
     ("{} play >>z", ONE, "{} play >>z.raven "),
@@ -89,6 +87,8 @@ OF_PROGRAM = [
     ("{} -", ALL, "{} --help --version -V -h"),
     ("{} run --", ALL, "{} run --color --console --explain --halt-below --help --journal --notes --quota --stop-by --sync --tick --warnings-are-errors "),
     ("{} --in", ONE, "{} --in"),
+    ("{} audit --", ALL, "{} audit --color --explain --help --journal --torn"),
+    ("{} audit --journal x-one.journal --", ALL, "{} audit --journal x-one.journal --color --explain --torn"),
 ]
 OF_LAUNCHER = [
     ("{} --", ALL, "{} --help --install --prove --version"),
@@ -97,6 +97,8 @@ OF_LAUNCHER = [
     ("{} --install y", ONE, "{} --install y-folder/"),
     ("{} --install x", ONE, "{} --install x"),
     ("{} --prove ", ALL, "{} --prove "),
+    ("{} audit --", ALL, "{} audit --color --explain --help --journal --script --torn"),
+    ("{} audit --journal x-one.journal --", ALL, "{} audit --journal x-one.journal --color --explain --script --torn"),
 ]
 
 

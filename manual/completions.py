@@ -12,8 +12,9 @@ import sys
 TOP = os.path.dirname(os.path.dirname(os.path.abspath(__file__)))
 PAGES = "crates/ravenhost/usage"
 
-# The flags that stand alone.
+# The flags that stand alone; the launcher's do too, but for those that a word of the program may stand beside.
 HELP, VERSION = ("-h", "--help"), ("-V", "--version")
+BESIDE = ("--script",)
 
 # What completes a value of no listed words, or a word that is no flag, by the name that the help gives it.
 FILES, FOLDERS, COMMANDS = "files", "folders", "commands"
@@ -182,7 +183,7 @@ def bash(commands, kept):
     # Two commands may have a flag of one name, which takes the same.
     values = list(dict.fromkeys((" | ".join(flag.spellings), flag.value if isinstance(flag.value, str) else " ".join(flag.value))
                                 for flag in of_all if flag.value))
-    alone = [*HELP, *VERSION, *(spelling for command in commands.values() for flag in command.launcher for spelling in flag.spellings)]
+    alone = [*HELP, *VERSION, *(spelling for command in commands.values() for flag in command.launcher for spelling in flag.spellings if spelling not in BESIDE)]
     worded = [(name, WORDS[command.word]) for name, command in commands.items() if command.word]
     text = BASH
     for mark, words in (("subcommands", bash_rows(subcommands)), ("flags", bash_rows(flagged)),
@@ -284,7 +285,7 @@ def zsh_case(name, command):
     lines = [f"        {name})"]
     if command.launcher:
         lines += ["            if (( $#launcher )); then", "                launcher_of=("]
-        lines += [f"                    {zsh_flag(flag, True)}" for flag in command.launcher]
+        lines += [f"                    {zsh_flag(flag, flag.spellings[0] not in BESIDE)}" for flag in command.launcher]
         lines += ["                )", "            fi"]
     lines.append("            _arguments \\")
     lines += [f"                {zsh_flag(flag, is_alone(flag))} \\" for flag in command.flags]

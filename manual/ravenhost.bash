@@ -26,6 +26,7 @@ _ravenhost_launcher_flags() {
     case $1 in
         "") echo "--prove --install" ;;
         run) echo "--trial" ;;
+        audit) echo "--script" ;;
     esac
 }
 
