@@ -140,13 +140,31 @@ def chained_constants(count: int) -> str:
             "package body Long is\n   protected body Tank is\n      procedure Fill is\n      begin\n         Level := 1;\n      end Fill;\n   end Tank;\nend Long;\n")
 
 
-def changes_script(changes: int) -> str:
+def shapes_of_64() -> str:
+    """64 units of four objects each."""
+    return "".join(f"@shape\nunit Unit_{n}\ntask Worker 10\n" + "".join(f"protected Cell_{k} 20\nscalar 0 9 0\nprocedure Put in 0 9\nfunction Get 0 9\n" for k in range(4))
+                   for n in range(64))
+
+
+def lines_of_512(verb: str) -> str:
+    """A list of 512 lines over these units."""
+    return "@list\n" + "".join(f"{verb} Unit_{n % 64} Unit_{(n * 7) % 64}.Cell_{n % 4} Put\n" for n in range(512))
+
+
+def changes_script(changes: int, window: str = "") -> str:
     """One line of 512 changed, so many times, over 64 units of four objects each."""
-    units = "".join(f"@shape\nunit Unit_{n}\ntask Worker 10\n" + "".join(f"protected Cell_{k} 20\nscalar 0 9 0\nprocedure Put in 0 9\nfunction Get 0 9\n" for k in range(4))
-                    for n in range(64))
-    lines = "".join(f"allow Unit_{n % 64} Unit_{(n * 7) % 64}.Cell_{n % 4} Put\n" for n in range(512))
-    asked = "".join(f"operator replace 256 {('deny', 'allow')[n % 2]} Unit_3 Unit_9.Cell_1 Put\n" for n in range(changes))
-    return settings(4_096) + units + "@list\n" + lines + "@steps\n" + asked
+    asked = "".join(f"operator replace 256 {('deny', 'allow')[n % 2]} Unit_3 Unit_9.Cell_1 Put{window}\n" for n in range(changes))
+    return settings(4_096) + shapes_of_64() + lines_of_512("allow") + "@steps\n" + asked
+
+
+def windows_script(changes: int) -> str:
+    """The same of a line with a window."""
+    return changes_script(changes, " from 5 until 10")
+
+
+def lists_script(lists: int) -> str:
+    """A list of 512 lines set whole, so many times."""
+    return settings(4_096) + shapes_of_64() + "".join(lines_of_512(("deny", "allow")[n % 2]) for n in range(lists))
 
 
 class Programs:
@@ -199,6 +217,8 @@ ROWS = (
     Row("check, local declarations", "declaration", (4_000, 8_000), asked(["check"], local_declarations), True),
     Row("check, chained constants", "constant", (4_000, 8_000), asked(["check"], chained_constants), True),
     Row("one of 512 lines changed", "change", (4, 12), asked(["play"], changes_script)),
+    Row("one of 512 lines changed, with a window", "change", (4, 12), asked(["play"], windows_script)),
+    Row("a list of 512 lines set whole", "list", (4, 12), asked(["play"], lists_script)),
 )
 
 
