@@ -1,7 +1,6 @@
 //! What stands against the text of a shape.
 
 use crate::cause::Cause;
-use crate::known::Known;
 use crate::line::{Form, Line, is_listed, is_number, said_of};
 use rv_text::{integer_of, is_identifier, is_same_name, next_line};
 use std::alloc::{AllocError, Global};
@@ -247,12 +246,12 @@ pub fn bad_text<'a>(lines: &[Line<'a>]) -> Cause<'a> {
     bad_barrier(lines)
 }
 
-/// That a unit may not have its name.
-pub fn unit_name<'a>(at: usize, name: &'a str, known: &Known<'_>) -> Option<Cause<'a>> {
+/// That a unit may not have its name, where these units are loaded.
+pub fn unit_name<'a>(at: usize, name: &'a str, loaded: &[&str]) -> Option<Cause<'a>> {
     if is_listed(&RESERVED, name) {
         return Some(Cause::of(at, "{0} is a name that no unit may have", name));
     }
-    if known.has_unit(name) {
+    if is_listed(loaded, name) {
         return Some(Cause::of(at, "a unit {0} is loaded already", name));
     }
     None
@@ -281,11 +280,11 @@ fn is_before(lines: &[Line<'_>], line: &Line<'_>) -> bool {
     is_found
 }
 
-/// Which name is taken.
-pub fn name_taken<'a>(lines: &[Line<'a>], known: &Known<'_>) -> Cause<'a> {
+/// Which name is taken, where these units are loaded.
+pub fn name_taken<'a>(lines: &[Line<'a>], loaded: &[&str]) -> Cause<'a> {
     for (number, line) in lines.iter().enumerate() {
         if number == 0 {
-            if let Some(cause) = unit_name(line.at(1), line.word(1), known) {
+            if let Some(cause) = unit_name(line.at(1), line.word(1), loaded) {
                 return cause;
             }
         } else if !line.is(0, "scalar") && is_before(front(lines, number), line) {

@@ -3,7 +3,6 @@
 use crate::excerpt::Excerpt;
 use crate::spot::{Spot, spot_of};
 use rv_cause::cause::Cause;
-use rv_cause::known::Known;
 use rv_fault::Part;
 use std::alloc::{AllocError, Global};
 use std::fmt;
@@ -14,35 +13,52 @@ use std::fmt;
 pub struct Explanation<'a> {
     excerpt: Option<Excerpt<'a>>,
     sentence: String,
+    // What is said of more faults, in lines of their own.
+    more: String,
 }
 
-// What is said of a cause at a place, whose other place stands in a line, where this is known.
+impl<'a> Explanation<'a> {
+    /// The same, with what is said of more faults, in lines of their own.
+    pub(crate) fn with_more(self, more: String) -> Explanation<'a> {
+        let Explanation {
+            excerpt,
+            sentence,
+            more: _,
+        } = self;
+        Explanation {
+            excerpt,
+            sentence,
+            more,
+        }
+    }
+}
+
+// What is said of a cause at a place, whose other place stands in a line.
 fn at_spot<'a>(
     alloc: Global,
     spot: Spot<'a>,
     cause: &Cause<'_>,
-    known: &Known<'_>,
     line: usize,
 ) -> Result<Explanation<'a>, AllocError> {
     Ok(Explanation {
         excerpt: Some(Excerpt::new(spot)),
-        sentence: cause.sentence(alloc, known, line)?,
+        sentence: cause.sentence(alloc, line)?,
+        more: String::new(alloc),
     })
 }
 
-/// What is said of a cause, whose place counts in a line, where this is known.
+/// What is said of a cause, whose place counts in a line.
 pub(crate) fn of_line<'a>(
     alloc: Global,
     spot: &Spot<'a>,
     cause: &Cause<'_>,
-    known: &Known<'_>,
 ) -> Result<Explanation<'a>, AllocError> {
     let spot = Spot {
         number: spot.number,
         line: spot.line,
         offset: cause.at,
     };
-    at_spot(alloc, spot, cause, known, spot.number)
+    at_spot(alloc, spot, cause, spot.number)
 }
 
 /// The same of one whose place counts in a part's text, without carriage returns before line feeds.
@@ -50,10 +66,9 @@ pub(crate) fn of_part<'a>(
     alloc: Global,
     part: &Part<'a>,
     cause: &Cause<'_>,
-    known: &Known<'_>,
 ) -> Result<Explanation<'a>, AllocError> {
     let other = spot_of(part, cause.other.unwrap_or(cause.at));
-    at_spot(alloc, spot_of(part, cause.at), cause, known, other.number)
+    at_spot(alloc, spot_of(part, cause.at), cause, other.number)
 }
 
 /// The same of one without a place.
@@ -61,6 +76,7 @@ pub(crate) fn of_script<'a>(alloc: Global, sentence: &str) -> Result<Explanation
     Ok(Explanation {
         excerpt: None,
         sentence: String::from_str(alloc, sentence)?,
+        more: String::new(alloc),
     })
 }
 
@@ -69,6 +85,7 @@ pub(crate) fn nothing<'a>(alloc: Global) -> Explanation<'a> {
     Explanation {
         excerpt: None,
         sentence: String::new(alloc),
+        more: String::new(alloc),
     }
 }
 
@@ -82,6 +99,7 @@ impl fmt::Display for Explanation<'_> {
         }
         f.write_str("  = ")?;
         f.write_str(self.sentence.as_str())?;
-        f.write_str("\n")
+        f.write_str("\n")?;
+        f.write_str(self.more.as_str())
     }
 }

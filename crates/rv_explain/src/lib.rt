@@ -6,6 +6,7 @@ mod excerpt;
 mod explanation;
 mod finding;
 mod grammar;
+mod names;
 mod parts;
 mod places;
 pub mod spot;

@@ -2,46 +2,54 @@
 
 use crate::explanation::{Explanation, of_part};
 use crate::grammar::Stop;
-use crate::parts::{known_before, texts_before};
+use crate::names::{Explained, cause_at, more_faults};
+use crate::parts::{catalogue_before, unit_names};
 use crate::places::place_of;
 use rv_cause::around::Around;
-use rv_cause::cases::told;
 use rv_cause::cause::Cause;
-use rv_cause::known::Known;
 use rv_cause::words::Words;
-use rv_cause::{grammar, lexical, names, nulls, restrictions, shapes, types, unknown};
+use rv_cause::{grammar, lexical, nulls, shapes};
 use rv_fault::Part;
 use rv_lex::fault::LexFault;
 use rv_lex::lexer::tokens;
 use rv_lex::token::Token;
-use rv_names::NameFault;
-use rv_parse::ParseFault;
+use rv_parse::{ParseFault, parse};
 use rv_reason::reason_of;
-use rv_restrict::Restriction;
 use rv_script::unit_text::unit_text;
 use rv_shape::fault::ShapeFault;
-use rv_static::TypeFault;
+use rv_tree::UnitTree;
 use rv_unit::UnitFault;
 use std::alloc::{AllocError, Global};
 
-// A unit text at a place, and what is declared.
+// A unit text at a place.
 #[derive(Clone, Copy)]
-struct Seen<'t, 'a, 'k> {
+struct Seen<'t, 'a> {
     tokens: &'t [Token<'a>],
     words: Words<'t, 'a>,
     around: Around<'a>,
-    known: &'k Known<'a>,
 }
 
 const NO_MEMORY: &str = "memory was refused";
 
 const NOT_ASCII: &str = "characters that aren't ASCII stand in comments only (2.1)";
 
+// The cause of digits with a fraction, where the words before them make it clearer.
+fn of_fraction(alloc: Global, text: &str, at: usize) -> Option<Cause<'_>> {
+    let Ok(front) = tokens(alloc, text.get(..at)?) else {
+        return None;
+    };
+    let words = front.as_slice();
+    lexical::bad_fraction(text, at, &Words::from(words, words.len()))
+}
+
 // The cause of a fault of words.
-fn of_words(text: &str, fault: LexFault) -> Cause<'_> {
+fn of_words(alloc: Global, text: &str, fault: LexFault) -> Cause<'_> {
     match fault {
         LexFault::BadCharacter(at) => lexical::bad_character(text, at),
-        LexFault::BadLiteral(at) => lexical::bad_literal(text, at),
+        LexFault::BadLiteral(at) => match of_fraction(alloc, text, at) {
+            Some(cause) => cause,
+            None => lexical::bad_literal(text, at),
+        },
         LexFault::BadIdentifier(at) => lexical::bad_identifier(text, at),
         LexFault::NotAscii(at) => Cause::plain(at, NOT_ASCII),
         LexFault::NoMemory => Cause::plain(0, NO_MEMORY),
@@ -52,11 +60,11 @@ fn of_words(text: &str, fault: LexFault) -> Cause<'_> {
 fn of_grammar<'a>(
     alloc: Global,
     text: &'a str,
-    seen: &Seen<'_, 'a, '_>,
+    seen: &Seen<'_, 'a>,
     fault: ParseFault,
 ) -> Cause<'a> {
     match fault {
-        ParseFault::Lex(fault) => of_words(text, fault),
+        ParseFault::Lex(fault) => of_words(alloc, text, fault),
         ParseFault::Unexpected(at) => {
             let stop = Stop {
                 tokens: seen.tokens,
@@ -68,89 +76,6 @@ fn of_grammar<'a>(
         }
         ParseFault::TooDeep(at) => grammar::too_deep(seen.tokens, at),
         ParseFault::NoMemory => Cause::plain(0, NO_MEMORY),
-    }
-}
-
-// What is said of a word that breaks a restriction.
-fn said_of_restriction(restriction: Restriction) -> &'static str {
-    match restriction {
-        Restriction::NoAbortStatements => {
-            "there is no abort statement in the profile Ravenscar (D.7)"
-        }
-        Restriction::NoRequeueStatements => {
-            "there is no requeue statement in the profile Ravenscar (D.7)"
-        }
-        Restriction::NoSelectStatements => {
-            "there is no select statement in the profile Ravenscar (D.7)"
-        }
-        Restriction::NoRelativeDelay => "a task delays until a time: write delay until (D.7)",
-        Restriction::NoLocalProtectedObjects => {
-            "protected objects are declared in the package or its body, not in a block (D.7)"
-        }
-        Restriction::NoTaskHierarchy => {
-            "tasks are declared in the package or its body, not in a block (D.7)"
-        }
-        Restriction::MaxProtectedEntries => {
-            "{1} is a second entry of its protected unit; one is the most (D.7)"
-        }
-        Restriction::MaxTaskEntries => "{1} is an entry of a task; tasks have none (D.7)",
-        Restriction::SimpleBarriers => restrictions::BARRIER,
-        Restriction::NoDynamicPriorities => restrictions::PRIORITY,
-        Restriction::NoDependence => "this can't be used in the profile Ravenscar (D.13)",
-    }
-}
-
-// The cause of a broken restriction.
-fn of_restriction<'a>(
-    alloc: Global,
-    seen: &Seen<'_, 'a, '_>,
-    restriction: Restriction,
-) -> Result<Cause<'a>, AllocError> {
-    let words = &seen.words;
-    match restriction {
-        Restriction::SimpleBarriers => {
-            restrictions::barrier(alloc, words, &seen.around, seen.known)
-        }
-        Restriction::NoDynamicPriorities => {
-            Ok(restrictions::dynamic_priority(words, &seen.around))
-        }
-        Restriction::NoDependence => Ok(restrictions::library_unit(words, &seen.around)),
-        _ => Ok(told(words, &seen.around, said_of_restriction(restriction))),
-    }
-}
-
-// The cause of a fault of names.
-fn of_names<'a>(
-    alloc: Global,
-    seen: &Seen<'_, 'a, '_>,
-    fault: NameFault,
-) -> Result<Cause<'a>, AllocError> {
-    let words = &seen.words;
-    match fault {
-        NameFault::Unknown(_) => unknown::unknown(alloc, words, &seen.around, seen.known),
-        NameFault::Duplicate(_) => Ok(names::duplicate(words, &seen.around)),
-        NameFault::NotVisible(_) => {
-            Ok(names::not_visible(seen.tokens, words, &seen.around, seen.known))
-        }
-        NameFault::WrongKind(_) => Ok(names::wrong_kind(words, &seen.around, seen.known)),
-        NameFault::EndName(_) => Ok(names::end_name(seen.tokens, words)),
-        NameFault::NoMemory => Ok(Cause::plain(0, NO_MEMORY)),
-    }
-}
-
-// The cause of a fault of types.
-fn of_types<'a>(seen: &Seen<'_, 'a, '_>, fault: TypeFault) -> Result<Cause<'a>, AllocError> {
-    let words = &seen.words;
-    match fault {
-        TypeFault::Mismatch(_) => Ok(types::mismatch(words, &seen.around, seen.known)),
-        TypeFault::NotStatic(_) => Ok(types::not_static(words)),
-        TypeFault::ConstantWritten(_) => {
-            Ok(types::constant_written(words, &seen.around, seen.known))
-        }
-        TypeFault::BadMode(_) => Ok(types::bad_mode(words, &seen.around, seen.known)),
-        TypeFault::TooLarge(_) => Ok(types::too_large(words, &seen.around, seen.known)),
-        TypeFault::BadChoice(_) => Ok(types::bad_choice(words)),
-        TypeFault::NoMemory => Ok(Cause::plain(0, NO_MEMORY)),
     }
 }
 
@@ -171,12 +96,12 @@ fn said_of_shape(fault: ShapeFault) -> &'static str {
     }
 }
 
-// The cause of a fault of a unit text's shape, seen from its package; known is what stands before.
-fn of_shape<'a>(seen: &Seen<'_, 'a, '_>, fault: ShapeFault) -> Cause<'a> {
+// The cause of a fault of a unit text's shape, seen from its package; known are the units that are loaded.
+fn of_shape<'a>(seen: &Seen<'_, 'a>, loaded: &[&str], fault: ShapeFault) -> Cause<'a> {
     let at = seen.words.place(1);
     let name = seen.words.word(1);
     if fault == ShapeFault::NameTaken {
-        if let Some(cause) = shapes::unit_name(at, name, seen.known) {
+        if let Some(cause) = shapes::unit_name(at, name, loaded) {
             return cause;
         }
     }
@@ -189,16 +114,11 @@ fn of_shape<'a>(seen: &Seen<'_, 'a, '_>, fault: ShapeFault) -> Cause<'a> {
 }
 
 // A unit text seen from a place.
-fn seen_at<'t, 'a, 'k>(
-    tokens: &'t [Token<'a>],
-    known: &'k Known<'a>,
-    place: usize,
-) -> Seen<'t, 'a, 'k> {
+fn seen_from<'t, 'a>(tokens: &'t [Token<'a>], place: usize) -> Seen<'t, 'a> {
     Seen {
         tokens,
         words: Words::at(tokens, place),
         around: Around::of(tokens, place),
-        known,
     }
 }
 
@@ -212,39 +132,59 @@ fn package_place(tokens: &[Token<'_>]) -> usize {
     0
 }
 
-// The cause of a fault of a text that has words.
-fn cause_of<'a>(
-    alloc: Global,
-    text: &'a str,
-    tokens: &[Token<'a>],
-    known: &Known<'a>,
+// What is said of a fault of restrictions, names or types of a text that has a tree.
+fn of_tree<'a>(
+    explained: Explained<'_>,
+    part: &Part<'a>,
+    tree: &UnitTree,
     fault: UnitFault,
-) -> Result<Cause<'a>, AllocError> {
+) -> Result<Explanation<'a>, AllocError> {
+    let place = place_of(fault).unwrap_or(0);
+    let cause = cause_at(explained, tree, fault, place)?;
+    let more = more_faults(explained, part, place, cause.at)?;
+    Ok(of_part(explained.alloc, part, &cause)?.with_more(more))
+}
+
+// The cause of a fault of a text that has words, where it needs no tree.
+fn without_tree<'s>(explained: Explained<'s>, fault: UnitFault) -> Result<Cause<'s>, AllocError> {
+    let tokens = explained.tokens;
     let place = place_of(fault).unwrap_or(package_place(tokens));
-    let seen = seen_at(tokens, known, place);
+    let seen = seen_from(tokens, place);
     match fault {
-        UnitFault::Lex(fault) => Ok(of_words(text, fault)),
-        UnitFault::Parse(fault) => Ok(of_grammar(alloc, text, &seen, fault)),
-        UnitFault::Restriction(violation) => of_restriction(alloc, &seen, violation.restriction),
-        UnitFault::Names(fault) => of_names(alloc, &seen, fault),
-        UnitFault::Types(fault) => of_types(&seen, fault),
-        UnitFault::Shape(fault) => Ok(of_shape(&seen, fault)),
-        UnitFault::NoMemory => Ok(Cause::plain(0, NO_MEMORY)),
+        UnitFault::Lex(fault) => Ok(of_words(explained.alloc, explained.text, fault)),
+        UnitFault::Parse(fault) => Ok(of_grammar(explained.alloc, explained.text, &seen, fault)),
+        UnitFault::Shape(fault) => {
+            let loaded = unit_names(explained.alloc, explained.catalogue)?;
+            Ok(of_shape(&seen, loaded.as_slice(), fault))
+        }
+        _ => Ok(Cause::plain(0, NO_MEMORY)),
     }
 }
 
-// Whether what the text itself declares matters to a fault.
-fn knows_itself(fault: UnitFault) -> bool {
+// What is said of a fault of a text that has words.
+fn with_words<'a>(
+    explained: Explained<'_>,
+    part: &Part<'a>,
+    fault: UnitFault,
+) -> Result<Explanation<'a>, AllocError> {
     match fault {
-        UnitFault::Shape(_) => false,
-        _ => true,
+        UnitFault::Restriction(_) | UnitFault::Names(_) | UnitFault::Types(_) => {
+            match parse(explained.alloc, explained.text) {
+                Ok(tree) => of_tree(explained, part, &tree, fault),
+                Err(_) => Err(AllocError),
+            }
+        }
+        _ => {
+            let cause = without_tree(explained, fault)?;
+            of_part(explained.alloc, part, &cause)
+        }
     }
 }
 
 // The cause of a fault of a text that has no words.
-fn without_words(text: &str, fault: UnitFault) -> Cause<'_> {
+fn without_words(alloc: Global, text: &str, fault: UnitFault) -> Cause<'_> {
     match fault {
-        UnitFault::Lex(fault) => of_words(text, fault),
+        UnitFault::Lex(fault) => of_words(alloc, text, fault),
         _ => Cause::plain(0, NO_MEMORY),
     }
 }
@@ -258,14 +198,15 @@ pub(crate) fn of_unit<'a>(
 ) -> Result<Explanation<'a>, AllocError> {
     let text = unit_text(alloc, part.text)?;
     let Ok(own) = tokens(alloc, text.as_str()) else {
-        let cause = without_words(text.as_str(), fault);
-        return of_part(alloc, part, &cause, &Known::new(alloc));
+        let cause = without_words(alloc, text.as_str(), fault);
+        return of_part(alloc, part, &cause);
     };
-    let texts = texts_before(alloc, script, part.line)?;
-    let mut known = known_before(alloc, script, part.line, texts.as_slice())?;
-    if knows_itself(fault) {
-        known.add_text(own.as_slice())?;
-    }
-    let cause = cause_of(alloc, text.as_str(), own.as_slice(), &known, fault)?;
-    of_part(alloc, part, &cause, &known)
+    let catalogue = catalogue_before(alloc, script, part.line)?;
+    let explained = Explained {
+        alloc,
+        text: text.as_str(),
+        tokens: own.as_slice(),
+        catalogue: &catalogue,
+    };
+    with_words(explained, part, fault)
 }
