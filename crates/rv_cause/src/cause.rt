@@ -1,5 +1,6 @@
 //! The one cause of a fault, in the words of the text.
 
+use crate::known::{Group, Known};
 use std::alloc::{AllocError, Global};
 
 /// The one cause of a fault: a sentence, and the place of the word that it speaks of.
@@ -12,63 +13,18 @@ pub struct Cause<'a> {
     // The sentence; `{0}` to `{5}` in it stand for the words.
     said: &'static str,
     words: [&'a str; 6],
-    // What `{low}`, `{high}` and `{value}` in it stand for.
-    values: Values,
-    // What stands before the names that end it.
-    before: &'static str,
-    names: Names<'a>,
+    // Names that end it, if there are any.
+    ending: Option<Ending<'a>>,
 }
 
-/// The bounds of a range, and a value.
+// The names that end a sentence.
 #[derive(Clone, Copy)]
-pub struct Values {
-    pub low: i64,
-    pub high: i64,
-    pub value: i64,
-    /// Whether they are those of Boolean.
-    pub are_truths: bool,
-}
-
-/// Names that end a sentence: the first eight of several. What is empty is none.
-pub type Names<'a> = [&'a str; 8];
-
-const NO_VALUES: Values = Values {
-    low: 0,
-    high: 0,
-    value: 0,
-    are_truths: false,
-};
-
-/// No names.
-pub fn no_names<'a>() -> Names<'a> {
-    ["", "", "", "", "", "", "", ""]
-}
-
-/// One name.
-pub fn one_name<'a>(name: &'a str) -> Names<'a> {
-    [name, "", "", "", "", "", "", ""]
-}
-
-// The name of a number among some; empty where there is none.
-fn nth<'a>(names: &[&'a str], number: usize) -> &'a str {
-    match names.get(number) {
-        Some(name) => *name,
-        None => "",
-    }
-}
-
-/// Names of which the first eight are kept.
-pub fn first_names<'a>(names: &[&'a str]) -> Names<'a> {
-    [
-        nth(names, 0),
-        nth(names, 1),
-        nth(names, 2),
-        nth(names, 3),
-        nth(names, 4),
-        nth(names, 5),
-        nth(names, 6),
-        nth(names, 7),
-    ]
+struct Ending<'a> {
+    // What stands before them.
+    before: &'static str,
+    // The only one; empty where all of the group are meant.
+    near: &'a str,
+    group: Group<'a>,
 }
 
 // The word that a hole of a sentence stands for.
@@ -113,18 +69,23 @@ fn put_line(alloc: Global, text: &mut String, line: usize) -> Result<(), AllocEr
     text.push_str(number.as_str())
 }
 
-// Adds a value to a sentence.
-fn put_value(
+// Adds a part of a sentence: the first, or one that begins with a hole.
+fn put_part(
     alloc: Global,
     text: &mut String,
-    value: i64,
-    is_truth: bool,
+    words: &[&str; 6],
+    line: usize,
+    part: &str,
 ) -> Result<(), AllocError> {
-    if is_truth {
-        return text.push_str(if value == 0 { "False" } else { "True" });
+    let Some((hole, behind)) = part.split_once('}') else {
+        return text.push_str(part);
+    };
+    if hole == "line" {
+        put_line(alloc, text, line)?;
+    } else {
+        put_word(text, filling(words, hole))?;
     }
-    let number = format!(in alloc; "{value}")?;
-    text.push_str(number.as_str())
+    text.push_str(behind)
 }
 
 impl<'a> Cause<'a> {
@@ -135,9 +96,7 @@ impl<'a> Cause<'a> {
             other: None,
             said,
             words,
-            values: NO_VALUES,
-            before: "",
-            names: no_names(),
+            ending: None,
         }
     }
 
@@ -157,94 +116,62 @@ impl<'a> Cause<'a> {
         Cause::full(at, said, [first, second, "", "", "", ""])
     }
 
-    /// A sentence with three words.
-    pub fn triple(
-        at: usize,
-        said: &'static str,
-        first: &'a str,
-        second: &'a str,
-        third: &'a str,
-    ) -> Cause<'a> {
-        Cause::full(at, said, [first, second, third, "", "", ""])
-    }
-
     /// A sentence without words.
     pub fn plain(at: usize, said: &'static str) -> Cause<'a> {
         Cause::of(at, said, "")
     }
 
-    /// The same, which ends with names behind some words; where there are none it ends before these.
-    pub fn with_names(mut self, before: &'static str, names: Names<'a>) -> Cause<'a> {
-        self.before = before;
-        self.names = names;
-        self
+    /// The same, which ends with a name that is near, or else with all of a group; where there are none it ends before these.
+    pub fn with_names(self, before: &'static str, near: &'a str, group: Group<'a>) -> Cause<'a> {
+        Cause {
+            at: self.at,
+            other: self.other,
+            said: self.said,
+            words: self.words,
+            ending: Some(Ending {
+                before,
+                near,
+                group,
+            }),
+        }
     }
 
     /// The same, which speaks of another place too.
-    pub fn with_other(mut self, other: usize) -> Cause<'a> {
-        self.other = Some(other);
-        self
-    }
-
-    /// The same, which speaks of a range and a value.
-    pub fn with_values(mut self, values: Values) -> Cause<'a> {
-        self.values = values;
-        self
-    }
-
-    // Adds what a hole of the sentence stands for, where the other place stands in the line of a number.
-    fn put_hole(
-        &self,
-        alloc: Global,
-        text: &mut String,
-        line: usize,
-        hole: &str,
-    ) -> Result<(), AllocError> {
-        let values = self.values;
-        match hole {
-            "line" => put_line(alloc, text, line),
-            "low" => put_value(alloc, text, values.low, values.are_truths),
-            "high" => put_value(alloc, text, values.high, values.are_truths),
-            "value" => put_value(alloc, text, values.value, values.are_truths),
-            _ => put_word(text, filling(&self.words, hole)),
+    pub fn with_other(self, other: usize) -> Cause<'a> {
+        Cause {
+            at: self.at,
+            other: Some(other),
+            said: self.said,
+            words: self.words,
+            ending: self.ending,
         }
     }
 
-    // Adds a part of the sentence: the first, or one that begins with a hole.
-    fn put_part(
+    /// The sentence, where this is known, and the other place stands in the line of a number. Err where memory was refused.
+    pub fn sentence(
         &self,
         alloc: Global,
-        text: &mut String,
+        known: &Known<'_>,
         line: usize,
-        part: &str,
-    ) -> Result<(), AllocError> {
-        let Some((hole, behind)) = part.split_once('}') else {
-            return text.push_str(part);
-        };
-        self.put_hole(alloc, text, line, hole)?;
-        text.push_str(behind)
-    }
-
-    // Adds the names that end the sentence.
-    fn put_names(&self, text: &mut String) -> Result<(), AllocError> {
-        let mut between = self.before;
-        for name in &self.names {
-            if !name.is_empty() {
-                text.push_str(between)?;
-                text.push_str(name)?;
-                between = ", ";
-            }
-        }
-        Ok(())
-    }
-
-    /// The sentence, where the other place stands in the line of a number. Err where memory was refused.
-    pub fn sentence(&self, alloc: Global, line: usize) -> Result<String, AllocError> {
+    ) -> Result<String, AllocError> {
         let mut text = String::new(alloc);
         for part in self.said.split('{') {
-            self.put_part(alloc, &mut text, line, part)?;
+            put_part(alloc, &mut text, &self.words, line, part)?;
         }
-        self.put_names(&mut text)?;
+        if let Some(ending) = self.ending {
+            ending.put(&mut text, known)?;
+        }
         Ok(text)
+    }
+}
+
+impl Ending<'_> {
+    // Adds it to a sentence.
+    fn put(&self, text: &mut String, known: &Known<'_>) -> Result<(), AllocError> {
+        if self.near.is_empty() {
+            return known.put_names(text, self.before, self.group);
+        }
+        text.push_str(self.before)?;
+        text.push_str(self.near)
     }
 }

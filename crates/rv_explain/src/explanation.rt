@@ -3,6 +3,7 @@
 use crate::excerpt::Excerpt;
 use crate::spot::{Spot, spot_of};
 use rv_cause::cause::Cause;
+use rv_cause::known::Known;
 use rv_fault::Part;
 use std::alloc::{AllocError, Global};
 use std::fmt;
@@ -13,52 +14,35 @@ use std::fmt;
 pub struct Explanation<'a> {
     excerpt: Option<Excerpt<'a>>,
     sentence: String,
-    // What is said of more faults, in lines of their own.
-    more: String,
 }
 
-impl<'a> Explanation<'a> {
-    /// The same, with what is said of more faults, in lines of their own.
-    pub(crate) fn with_more(self, more: String) -> Explanation<'a> {
-        let Explanation {
-            excerpt,
-            sentence,
-            more: _,
-        } = self;
-        Explanation {
-            excerpt,
-            sentence,
-            more,
-        }
-    }
-}
-
-// What is said of a cause at a place, whose other place stands in a line.
+// What is said of a cause at a place, whose other place stands in a line, where this is known.
 fn at_spot<'a>(
     alloc: Global,
     spot: Spot<'a>,
     cause: &Cause<'_>,
+    known: &Known<'_>,
     line: usize,
 ) -> Result<Explanation<'a>, AllocError> {
     Ok(Explanation {
         excerpt: Some(Excerpt::new(spot)),
-        sentence: cause.sentence(alloc, line)?,
-        more: String::new(alloc),
+        sentence: cause.sentence(alloc, known, line)?,
     })
 }
 
-/// What is said of a cause, whose place counts in a line.
+/// What is said of a cause, whose place counts in a line, where this is known.
 pub(crate) fn of_line<'a>(
     alloc: Global,
     spot: &Spot<'a>,
     cause: &Cause<'_>,
+    known: &Known<'_>,
 ) -> Result<Explanation<'a>, AllocError> {
     let spot = Spot {
         number: spot.number,
         line: spot.line,
         offset: cause.at,
     };
-    at_spot(alloc, spot, cause, spot.number)
+    at_spot(alloc, spot, cause, known, spot.number)
 }
 
 /// The same of one whose place counts in a part's text, without carriage returns before line feeds.
@@ -66,9 +50,10 @@ pub(crate) fn of_part<'a>(
     alloc: Global,
     part: &Part<'a>,
     cause: &Cause<'_>,
+    known: &Known<'_>,
 ) -> Result<Explanation<'a>, AllocError> {
     let other = spot_of(part, cause.other.unwrap_or(cause.at));
-    at_spot(alloc, spot_of(part, cause.at), cause, other.number)
+    at_spot(alloc, spot_of(part, cause.at), cause, known, other.number)
 }
 
 /// The same of one without a place.
@@ -76,7 +61,6 @@ pub(crate) fn of_script<'a>(alloc: Global, sentence: &str) -> Result<Explanation
     Ok(Explanation {
         excerpt: None,
         sentence: String::from_str(alloc, sentence)?,
-        more: String::new(alloc),
     })
 }
 
@@ -85,7 +69,6 @@ pub(crate) fn nothing<'a>(alloc: Global) -> Explanation<'a> {
     Explanation {
         excerpt: None,
         sentence: String::new(alloc),
-        more: String::new(alloc),
     }
 }
 
@@ -99,7 +82,6 @@ impl fmt::Display for Explanation<'_> {
         }
         f.write_str("  = ")?;
         f.write_str(self.sentence.as_str())?;
-        f.write_str("\n")?;
-        f.write_str(self.more.as_str())
+        f.write_str("\n")
     }
 }

@@ -1,15 +1,15 @@
 //! Finds what is said of a fault.
 
 use crate::explanation::{Explanation, nothing, of_line, of_part, of_script};
-use crate::parts::{catalogue_before, load_at, opening_before, part_at, texts_before, unit_names};
+use crate::parts::{known_before, load_at, opening_before, part_at, texts_before};
 use crate::spot::{Spot, line_spot};
 use crate::units::of_unit;
 use rv_access::ListFault;
 use rv_cause::cause::Cause;
+use rv_cause::known::Known;
 use rv_cause::line::Line;
-use rv_cause::{commands, lists, sections, settings, shapes, steps};
+use rv_cause::{commands, lists, loaded, sections, settings, shapes, steps};
 use rv_fault::{Part, ScriptFault, What};
-use rv_misfit::unknown_name;
 use rv_script::unit_text::unit_text;
 use rv_script::{Opening, TextError, opening_of, text_of};
 use rv_settings::SettingsFault;
@@ -82,7 +82,7 @@ fn of_list<'a>(
     let words = Line::of(alloc, spot.line, 0)?;
     let first = if is_part { 0 } else { first_of_step(&words) };
     let cause = cause_of_list(&words, first, fault)?;
-    of_line(alloc, &spot, &cause)
+    of_line(alloc, &spot, &cause, &Known::new(alloc))
 }
 
 // What is said of a step that names what isn't loaded.
@@ -94,9 +94,9 @@ fn of_unknown<'a>(
 ) -> Result<Explanation<'a>, AllocError> {
     let words = Line::of(alloc, spot.line, 0)?;
     let texts = texts_before(alloc, script, line)?;
-    let catalogue = catalogue_before(alloc, script, line)?;
-    let cause = unknown_name(alloc, &words, &catalogue, texts.as_slice())?;
-    of_line(alloc, spot, &cause)
+    let known = known_before(alloc, script, line, texts.as_slice())?;
+    let cause = loaded::unknown_name(alloc, &words, &known)?;
+    of_line(alloc, spot, &cause, &known)
 }
 
 // The cause of a line that is no step or no command.
@@ -143,7 +143,7 @@ fn of_spot<'a>(
         return of_unknown(alloc, script, line, &spot);
     }
     let cause = cause_of_line(alloc, script, line, spot.line, what)?;
-    of_line(alloc, &spot, &cause)
+    of_line(alloc, &spot, &cause, &Known::new(alloc))
 }
 
 // The cause of a fault of settings.
@@ -172,7 +172,7 @@ fn of_settings<'a>(
 ) -> Result<Explanation<'a>, AllocError> {
     let text = unit_text(alloc, part.text)?;
     let cause = cause_of_settings(alloc, text.as_str(), fault)?;
-    of_part(alloc, part, &cause)
+    of_part(alloc, part, &cause, &Known::new(alloc))
 }
 
 // Which name of a shape in a script is taken.
@@ -182,9 +182,9 @@ fn name_taken<'a>(
     line: usize,
     lines: &[Line<'a>],
 ) -> Result<Cause<'a>, AllocError> {
-    let catalogue = catalogue_before(alloc, script, line)?;
-    let loaded = unit_names(alloc, &catalogue)?;
-    Ok(shapes::name_taken(lines, loaded.as_slice()))
+    let texts = texts_before(alloc, script, line)?;
+    let known = known_before(alloc, script, line, texts.as_slice())?;
+    Ok(shapes::name_taken(lines, &known))
 }
 
 // The cause of a fault of a shape of these lines, in a script.
@@ -213,13 +213,14 @@ fn of_shape<'a>(
     part: &Part<'a>,
     fault: ShapeFault,
 ) -> Result<Explanation<'a>, AllocError> {
+    let known = Known::new(alloc);
     if part.opening == Some(Opening::Settings) {
-        return of_part(alloc, part, &Cause::plain(0, NO_ROOM_FOR_A_DEVICE));
+        return of_part(alloc, part, &Cause::plain(0, NO_ROOM_FOR_A_DEVICE), &known);
     }
     let text = unit_text(alloc, part.text)?;
     let lines = shapes::lines_of(alloc, text.as_str())?;
     let cause = cause_of_shape(alloc, script, part.line, lines.as_slice(), fault)?;
-    of_part(alloc, part, &cause)
+    of_part(alloc, part, &cause, &known)
 }
 
 // What is said of a fault of a part's text.

@@ -77,7 +77,7 @@ impl<'a> Stop<'_, 'a> {
         } else {
             "`{1}` is wanted here; `{0}` {2}"
         };
-        Cause::triple(at, said, word, meant.spelling(), deed)
+        Cause::new(at, said, [word, meant.spelling(), deed])
     }
 
     // That a word is missing before one.
@@ -104,7 +104,7 @@ impl<'a> Stop<'_, 'a> {
         let inner = self.name_of(crossed.opener);
         let outer = Words::at(self.tokens, crossed.at).word(0);
         let word = crossed.opener.word.spelling();
-        Cause::triple(crossed.at, said, inner, word, outer).with_other(crossed.opener.at)
+        Cause::new(crossed.at, said, [inner, word, outer]).with_other(crossed.opener.at)
     }
 
     // That a construct has no end.

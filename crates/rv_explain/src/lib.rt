@@ -6,11 +6,11 @@ mod excerpt;
 mod explanation;
 mod finding;
 mod grammar;
-mod names;
 mod parts;
 mod places;
 pub mod spot;
 mod units;
+mod wanted;
 
 pub use explanation::Explanation;
 pub use finding::explain;

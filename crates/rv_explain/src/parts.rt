@@ -1,14 +1,11 @@
-//! The parts of a script, and what those before a line load.
+//! The parts of a script, and what those before a line declare.
 
-use rv_fault::{Failure, Part, Parts, device_unit, unit_of};
+use rv_cause::known::Known;
+use rv_cause::loaded::add_shape;
+use rv_fault::{Part, Parts};
 use rv_lex::lexer::tokens;
 use rv_lex::token::Tokens;
 use rv_script::Opening;
-use rv_settings::read_settings;
-use rv_shape::catalogue::Catalogue;
-use rv_shape::fault::ShapeFault;
-use rv_shape::reading::read_shape;
-use rv_shape::shape::UnitShape;
 use rv_text::{next_word, open_script, without_return};
 use std::alloc::{AllocError, Global};
 
@@ -141,91 +138,33 @@ pub(crate) fn texts_before<'a>(
     Ok(texts)
 }
 
-// Adds a unit to those that are loaded, where it fits.
-fn add_unit(catalogue: &mut Catalogue, shape: &UnitShape) -> Result<(), AllocError> {
-    match catalogue.add(shape) {
-        Err(ShapeFault::NoMemory) => Err(AllocError),
-        _ => Ok(()),
-    }
-}
-
-// Adds the unit of a unit text, where it is one.
-fn add_text(alloc: Global, catalogue: &mut Catalogue, text: &str) -> Result<(), AllocError> {
-    match unit_of(alloc, catalogue, 1, text) {
-        Ok(unit) => add_unit(catalogue, &unit.shape),
-        Err(Failure::Memory) => Err(AllocError),
-        Err(_) => Ok(()),
-    }
-}
-
-// Adds the unit of a shape, where it is one.
-fn add_shape(alloc: Global, catalogue: &mut Catalogue, text: &str) -> Result<(), AllocError> {
-    match read_shape(alloc, text) {
-        Ok(shape) => add_unit(catalogue, &shape),
-        Err(ShapeFault::NoMemory) => Err(AllocError),
-        Err(_) => Ok(()),
-    }
-}
-
-// Adds the units that the devices of settings are, where they fit.
-fn add_devices(alloc: Global, catalogue: &mut Catalogue, text: &str) -> Result<(), AllocError> {
-    let Ok(settings) = read_settings(alloc, text) else {
-        return Ok(());
-    };
-    for device in settings.devices() {
-        let shape = device_unit(alloc, device)?;
-        add_unit(catalogue, &shape)?;
-    }
-    Ok(())
-}
-
-// Adds the unit of a part that stands before a line.
-fn add_part(
+// Adds what the shapes before a line declare.
+fn add_shapes<'a>(
     alloc: Global,
-    catalogue: &mut Catalogue,
-    part: &Part<'_>,
+    script: &'a str,
     line: usize,
+    known: &mut Known<'a>,
 ) -> Result<(), AllocError> {
-    if let Some(text) = unit_text_before(part, line) {
-        return add_text(alloc, catalogue, text);
-    }
-    if part.line < line && part.opening == Some(Opening::Shape) {
-        return add_shape(alloc, catalogue, part.text);
-    }
-    Ok(())
-}
-
-// Adds the units of the devices of a script, whose settings stand first.
-fn add_first(alloc: Global, catalogue: &mut Catalogue, script: &str) -> Result<(), AllocError> {
-    let mut parts = parts_of(script);
-    match parts.next_part() {
-        Some(part) if part.opening == Some(Opening::Settings) => {
-            add_devices(alloc, catalogue, part.text)
-        }
-        _ => Ok(()),
-    }
-}
-
-/// The units that the parts before a line load, in their order, those of `load` too; what has a fault is passed over.
-pub(crate) fn catalogue_before(
-    alloc: Global,
-    script: &str,
-    line: usize,
-) -> Result<Catalogue, AllocError> {
-    let mut catalogue = Catalogue::new(alloc);
     let mut parts = parts_of(script);
     'each: while let Some(part) = parts.next_part() {
-        add_part(alloc, &mut catalogue, &part, line)?;
+        if part.line < line && part.opening == Some(Opening::Shape) {
+            add_shape(alloc, known, part.text)?;
+        }
     }
-    add_first(alloc, &mut catalogue, script)?;
-    Ok(catalogue)
+    Ok(())
 }
 
-/// The names of the units that are loaded.
-pub(crate) fn unit_names(alloc: Global, catalogue: &Catalogue) -> Result<Vec<&str>, AllocError> {
-    let mut names = Vec::new(alloc);
-    for shape in catalogue.shapes() {
-        names.push(shape.name())?;
+/// What the parts before a line declare, whose unit texts have these words.
+pub(crate) fn known_before<'a>(
+    alloc: Global,
+    script: &'a str,
+    line: usize,
+    texts: &[Tokens<'a>],
+) -> Result<Known<'a>, AllocError> {
+    let mut known = Known::new(alloc);
+    for words in texts {
+        known.add_text(words.as_slice(), false)?;
     }
-    Ok(names)
+    add_shapes(alloc, script, line, &mut known)?;
+    Ok(known)
 }

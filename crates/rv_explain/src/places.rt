@@ -26,8 +26,8 @@ fn place_of_grammar(fault: ParseFault) -> Option<usize> {
     }
 }
 
-/// The same of a fault of names.
-pub(crate) fn place_of_names(fault: NameFault) -> Option<usize> {
+// The same of a fault of names.
+fn place_of_names(fault: NameFault) -> Option<usize> {
     match fault {
         NameFault::Unknown(at)
         | NameFault::Duplicate(at)

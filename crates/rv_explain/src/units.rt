@@ -2,31 +2,36 @@
 
 use crate::explanation::{Explanation, of_part};
 use crate::grammar::Stop;
-use crate::names::{Explained, cause_at, more_faults};
-use crate::parts::{catalogue_before, unit_names};
+use crate::parts::{known_before, texts_before};
 use crate::places::place_of;
+use crate::wanted::wanted_types;
 use rv_cause::around::Around;
+use rv_cause::cases::told;
 use rv_cause::cause::Cause;
+use rv_cause::known::Known;
 use rv_cause::words::Words;
-use rv_cause::{grammar, lexical, nulls, shapes};
+use rv_cause::{grammar, lexical, names, nulls, restrictions, shapes, types, unknown};
 use rv_fault::Part;
 use rv_lex::fault::LexFault;
 use rv_lex::lexer::tokens;
 use rv_lex::token::Token;
-use rv_parse::{ParseFault, parse};
+use rv_names::NameFault;
+use rv_parse::ParseFault;
 use rv_reason::reason_of;
+use rv_restrict::Restriction;
 use rv_script::unit_text::unit_text;
 use rv_shape::fault::ShapeFault;
-use rv_tree::UnitTree;
+use rv_static::TypeFault;
 use rv_unit::UnitFault;
 use std::alloc::{AllocError, Global};
 
-// A unit text at a place.
+// A unit text at a place, and what is declared.
 #[derive(Clone, Copy)]
-struct Seen<'t, 'a> {
+struct Seen<'t, 'a, 'k> {
     tokens: &'t [Token<'a>],
     words: Words<'t, 'a>,
     around: Around<'a>,
+    known: &'k Known<'a>,
 }
 
 const NO_MEMORY: &str = "memory was refused";
@@ -39,7 +44,8 @@ fn of_fraction(alloc: Global, text: &str, at: usize) -> Option<Cause<'_>> {
         return None;
     };
     let words = front.as_slice();
-    lexical::bad_fraction(text, at, &Words::from(words, words.len()))
+    let behind = Words::from(words, words.len());
+    lexical::bad_fraction(text, at, &behind)
 }
 
 // The cause of a fault of words.
@@ -60,7 +66,7 @@ fn of_words(alloc: Global, text: &str, fault: LexFault) -> Cause<'_> {
 fn of_grammar<'a>(
     alloc: Global,
     text: &'a str,
-    seen: &Seen<'_, 'a>,
+    seen: &Seen<'_, 'a, '_>,
     fault: ParseFault,
 ) -> Cause<'a> {
     match fault {
@@ -76,6 +82,99 @@ fn of_grammar<'a>(
         }
         ParseFault::TooDeep(at) => grammar::too_deep(seen.tokens, at),
         ParseFault::NoMemory => Cause::plain(0, NO_MEMORY),
+    }
+}
+
+// What is said of a word that breaks a restriction.
+fn said_of_restriction(restriction: Restriction) -> &'static str {
+    match restriction {
+        Restriction::NoAbortStatements => {
+            "there is no abort statement in the profile Ravenscar (D.7)"
+        }
+        Restriction::NoRequeueStatements => {
+            "there is no requeue statement in the profile Ravenscar (D.7)"
+        }
+        Restriction::NoSelectStatements => {
+            "there is no select statement in the profile Ravenscar (D.7)"
+        }
+        Restriction::NoRelativeDelay => {
+            "a task delays until a time: write delay until Clock + Milliseconds (..) (D.7)"
+        }
+        Restriction::NoLocalProtectedObjects => {
+            "protected objects are declared in the package or its body, not in a block (D.7)"
+        }
+        Restriction::NoTaskHierarchy => {
+            "tasks are declared in the package or its body, not in a block (D.7)"
+        }
+        Restriction::MaxProtectedEntries => {
+            "{1} is a second entry of its protected unit; one is the most (D.7)"
+        }
+        Restriction::MaxTaskEntries => "{1} is an entry of a task; tasks have none (D.7)",
+        Restriction::SimpleBarriers => restrictions::BARRIER,
+        Restriction::NoDynamicPriorities => restrictions::PRIORITY,
+        Restriction::NoDependence => "this can't be used in the profile Ravenscar (D.13)",
+    }
+}
+
+// The cause of a broken restriction.
+fn of_restriction<'a>(
+    alloc: Global,
+    seen: &Seen<'_, 'a, '_>,
+    restriction: Restriction,
+) -> Result<Cause<'a>, AllocError> {
+    let words = &seen.words;
+    match restriction {
+        Restriction::SimpleBarriers => {
+            restrictions::barrier(alloc, words, &seen.around, seen.known)
+        }
+        Restriction::NoDynamicPriorities => {
+            Ok(restrictions::dynamic_priority(words, &seen.around))
+        }
+        Restriction::NoDependence => Ok(restrictions::library_unit(words, &seen.around)),
+        _ => Ok(told(words, &seen.around, said_of_restriction(restriction))),
+    }
+}
+
+// The cause of a fault of names.
+fn of_names<'a>(
+    alloc: Global,
+    seen: &Seen<'_, 'a, '_>,
+    fault: NameFault,
+) -> Result<Cause<'a>, AllocError> {
+    let words = &seen.words;
+    match fault {
+        NameFault::Unknown(_) => unknown::unknown(alloc, words, &seen.around, seen.known),
+        NameFault::Duplicate(_) => Ok(names::duplicate(words, &seen.around, seen.known)),
+        NameFault::NotVisible(_) => {
+            Ok(names::not_visible(seen.tokens, words, &seen.around, seen.known))
+        }
+        NameFault::WrongKind(_) => Ok(names::wrong_kind(words, &seen.around, seen.known)),
+        NameFault::EndName(_) => Ok(names::end_name(seen.tokens, words)),
+        NameFault::NoMemory => Ok(Cause::plain(0, NO_MEMORY)),
+    }
+}
+
+// The cause of a fault of types.
+fn of_types<'a>(
+    alloc: Global,
+    text: &str,
+    seen: &Seen<'_, 'a, '_>,
+    fault: TypeFault,
+) -> Result<Cause<'a>, AllocError> {
+    let words = &seen.words;
+    match fault {
+        TypeFault::Mismatch(_) => {
+            let (operand, whole) = wanted_types(alloc, text, words)?;
+            Ok(types::mismatch(words, &seen.around, seen.known, operand, whole))
+        }
+        TypeFault::NotStatic(_) => Ok(types::not_static(words)),
+        TypeFault::ConstantWritten(_) => {
+            Ok(types::constant_written(words, &seen.around, seen.known))
+        }
+        TypeFault::BadMode(_) => Ok(types::bad_mode(words, &seen.around, seen.known)),
+        TypeFault::TooLarge(_) => Ok(types::too_large(words, &seen.around, seen.known)),
+        TypeFault::BadChoice(_) => Ok(types::bad_choice(words)),
+        TypeFault::NoMemory => Ok(Cause::plain(0, NO_MEMORY)),
     }
 }
 
@@ -96,12 +195,12 @@ fn said_of_shape(fault: ShapeFault) -> &'static str {
     }
 }
 
-// The cause of a fault of a unit text's shape, seen from its package; known are the units that are loaded.
-fn of_shape<'a>(seen: &Seen<'_, 'a>, loaded: &[&str], fault: ShapeFault) -> Cause<'a> {
+// The cause of a fault of a unit text's shape, seen from its package; known is what stands before.
+fn of_shape<'a>(seen: &Seen<'_, 'a, '_>, fault: ShapeFault) -> Cause<'a> {
     let at = seen.words.place(1);
     let name = seen.words.word(1);
     if fault == ShapeFault::NameTaken {
-        if let Some(cause) = shapes::unit_name(at, name, loaded) {
+        if let Some(cause) = shapes::unit_name(at, name, seen.known) {
             return cause;
         }
     }
@@ -114,11 +213,16 @@ fn of_shape<'a>(seen: &Seen<'_, 'a>, loaded: &[&str], fault: ShapeFault) -> Caus
 }
 
 // A unit text seen from a place.
-fn seen_from<'t, 'a>(tokens: &'t [Token<'a>], place: usize) -> Seen<'t, 'a> {
+fn seen_at<'t, 'a, 'k>(
+    tokens: &'t [Token<'a>],
+    known: &'k Known<'a>,
+    place: usize,
+) -> Seen<'t, 'a, 'k> {
     Seen {
         tokens,
         words: Words::at(tokens, place),
         around: Around::of(tokens, place),
+        known,
     }
 }
 
@@ -132,52 +236,32 @@ fn package_place(tokens: &[Token<'_>]) -> usize {
     0
 }
 
-// What is said of a fault of restrictions, names or types of a text that has a tree.
-fn of_tree<'a>(
-    explained: Explained<'_>,
-    part: &Part<'a>,
-    tree: &UnitTree,
+// The cause of a fault of a text that has words.
+fn cause_of<'a>(
+    alloc: Global,
+    text: &'a str,
+    tokens: &[Token<'a>],
+    known: &Known<'a>,
     fault: UnitFault,
-) -> Result<Explanation<'a>, AllocError> {
-    let place = place_of(fault).unwrap_or(0);
-    let cause = cause_at(explained, tree, fault, place)?;
-    let more = more_faults(explained, part, place, cause.at)?;
-    Ok(of_part(explained.alloc, part, &cause)?.with_more(more))
-}
-
-// The cause of a fault of a text that has words, where it needs no tree.
-fn without_tree<'s>(explained: Explained<'s>, fault: UnitFault) -> Result<Cause<'s>, AllocError> {
-    let tokens = explained.tokens;
+) -> Result<Cause<'a>, AllocError> {
     let place = place_of(fault).unwrap_or(package_place(tokens));
-    let seen = seen_from(tokens, place);
+    let seen = seen_at(tokens, known, place);
     match fault {
-        UnitFault::Lex(fault) => Ok(of_words(explained.alloc, explained.text, fault)),
-        UnitFault::Parse(fault) => Ok(of_grammar(explained.alloc, explained.text, &seen, fault)),
-        UnitFault::Shape(fault) => {
-            let loaded = unit_names(explained.alloc, explained.catalogue)?;
-            Ok(of_shape(&seen, loaded.as_slice(), fault))
-        }
-        _ => Ok(Cause::plain(0, NO_MEMORY)),
+        UnitFault::Lex(fault) => Ok(of_words(alloc, text, fault)),
+        UnitFault::Parse(fault) => Ok(of_grammar(alloc, text, &seen, fault)),
+        UnitFault::Restriction(violation) => of_restriction(alloc, &seen, violation.restriction),
+        UnitFault::Names(fault) => of_names(alloc, &seen, fault),
+        UnitFault::Types(fault) => of_types(alloc, text, &seen, fault),
+        UnitFault::Shape(fault) => Ok(of_shape(&seen, fault)),
+        UnitFault::NoMemory => Ok(Cause::plain(0, NO_MEMORY)),
     }
 }
 
-// What is said of a fault of a text that has words.
-fn with_words<'a>(
-    explained: Explained<'_>,
-    part: &Part<'a>,
-    fault: UnitFault,
-) -> Result<Explanation<'a>, AllocError> {
+// Whether what the text itself declares matters to a fault.
+fn knows_itself(fault: UnitFault) -> bool {
     match fault {
-        UnitFault::Restriction(_) | UnitFault::Names(_) | UnitFault::Types(_) => {
-            match parse(explained.alloc, explained.text) {
-                Ok(tree) => of_tree(explained, part, &tree, fault),
-                Err(_) => Err(AllocError),
-            }
-        }
-        _ => {
-            let cause = without_tree(explained, fault)?;
-            of_part(explained.alloc, part, &cause)
-        }
+        UnitFault::Shape(_) => false,
+        _ => true,
     }
 }
 
@@ -199,14 +283,13 @@ pub(crate) fn of_unit<'a>(
     let text = unit_text(alloc, part.text)?;
     let Ok(own) = tokens(alloc, text.as_str()) else {
         let cause = without_words(alloc, text.as_str(), fault);
-        return of_part(alloc, part, &cause);
+        return of_part(alloc, part, &cause, &Known::new(alloc));
     };
-    let catalogue = catalogue_before(alloc, script, part.line)?;
-    let explained = Explained {
-        alloc,
-        text: text.as_str(),
-        tokens: own.as_slice(),
-        catalogue: &catalogue,
-    };
-    with_words(explained, part, fault)
+    let texts = texts_before(alloc, script, part.line)?;
+    let mut known = known_before(alloc, script, part.line, texts.as_slice())?;
+    if knows_itself(fault) {
+        known.add_text(own.as_slice(), true)?;
+    }
+    let cause = cause_of(alloc, text.as_str(), own.as_slice(), &known, fault)?;
+    of_part(alloc, part, &cause, &known)
 }

@@ -1,0 +1,319 @@
+//! Names that nothing is declared by.
+
+use crate::around::Around;
+use crate::cases::{Case, Within, first_of};
+use crate::cause::Cause;
+use crate::declared::Declared;
+use crate::known::{Group, Known, near_among};
+use crate::library;
+use crate::line::{Form, said_of_name};
+use crate::names::is_body;
+use crate::words::Words;
+use rv_text::is_same_name;
+use std::alloc::{AllocError, Global};
+
+// What is said of an attribute, and of a body that has no declaration.
+const CASES: [Case; 3] = [
+    Case {
+        within: Within::Anywhere,
+        words: "' ^_",
+        said: "{0} is no attribute here; First and Last are (3.5)",
+    },
+    Case {
+        within: Within::Anywhere,
+        words: "package body ^_",
+        said: "this is the body of {0}; the package is {4}",
+    },
+    Case {
+        within: Within::Anywhere,
+        words: "body ^_",
+        said: "nothing named {0} is declared that this is the body of (3.11.1)",
+    },
+];
+
+const FLOAT: &str =
+    "{0} isn't in the part of Ada that is taken here; write Integer in smaller units, as hundredths";
+
+const TEXT: &str =
+    "{0} isn't in the part of Ada that is taken here; there are no strings and characters (2.6)";
+
+const CLOCK: &str = "this host's clock counts milliseconds: write Milliseconds (..) (D.8)";
+
+// Names of Ada that this host doesn't have.
+const OTHER: [Form; 12] = [
+    Form {
+        word: "Float",
+        said: FLOAT,
+    },
+    Form {
+        word: "Long_Float",
+        said: FLOAT,
+    },
+    Form {
+        word: "Duration",
+        said: "Duration isn't in the part of Ada that is taken here; spans are of Ada.Real_Time.Time_Span",
+    },
+    Form {
+        word: "Long_Integer",
+        said: "Long_Integer isn't in the part of Ada that is taken here; Integer has 32 bits (3.5.4)",
+    },
+    Form {
+        word: "Short_Integer",
+        said: "Short_Integer isn't in the part of Ada that is taken here; write Integer with a range (3.5.4)",
+    },
+    Form {
+        word: "Character",
+        said: TEXT,
+    },
+    Form {
+        word: "String",
+        said: TEXT,
+    },
+    Form {
+        word: "Seconds",
+        said: CLOCK,
+    },
+    Form {
+        word: "Minutes",
+        said: CLOCK,
+    },
+    Form {
+        word: "Microseconds",
+        said: CLOCK,
+    },
+    Form {
+        word: "Nanoseconds",
+        said: CLOCK,
+    },
+    Form {
+        word: "Put_Line",
+        said: "this host has no Put_Line: units neither read nor write texts",
+    },
+];
+
+// A part of a name that isn't there: how many words behind it stands, what it would be a part of, and which parts there are.
+#[derive(Clone, Copy)]
+struct Part<'a> {
+    behind: usize,
+    whole: &'a str,
+    group: Group<'a>,
+}
+
+// That a part isn't there, with what there is.
+fn no_part<'a>(
+    alloc: Global,
+    words: &Words<'_, 'a>,
+    part: Part<'a>,
+    known: &Known<'a>,
+) -> Result<Cause<'a>, AllocError> {
+    let word = words.word(part.behind);
+    let near = known.near(alloc, word, part.group)?;
+    let place = words.place(part.behind);
+    let cause = Cause::new(place, "{0} has no {1}", [part.whole, word, ""]);
+    Ok(cause.with_names("; it has ", near, part.group))
+}
+
+// What is named behind a declaration and a point: within its protected unit all, elsewhere what others call.
+fn parts_of<'a>(item: &Declared<'a>, around: &Around<'a>) -> Group<'a> {
+    let home = item.operations_home();
+    if is_same_name(item.unit, around.unit) && is_same_name(home, around.home) {
+        Group::Members(item.unit, home)
+    } else {
+        Group::Called(item.unit, home)
+    }
+}
+
+// What is named behind a package and a point.
+fn objects_of<'a>(unit: &'a str, around: &Around<'a>) -> Group<'a> {
+    if is_same_name(unit, around.unit) {
+        Group::Objects(unit)
+    } else {
+        Group::Shown(unit)
+    }
+}
+
+// Which part of a name with points isn't there, where its first word is known.
+fn part_of<'a>(words: &Words<'_, 'a>, around: &Around<'a>, known: &Known<'a>) -> Option<Part<'a>> {
+    let first = words.word(0);
+    let item = known.meaning(first, around)?;
+    if !known.has_unit(first) {
+        return Some(Part {
+            behind: 2,
+            whole: first,
+            group: parts_of(item, around),
+        });
+    }
+    let part = words.word(2);
+    match known.find(Group::Package(first), part) {
+        Some(object) => Some(Part {
+            behind: 4,
+            whole: part,
+            group: parts_of(object, around),
+        }),
+        None => Some(Part {
+            behind: 2,
+            whole: first,
+            group: objects_of(first, around),
+        }),
+    }
+}
+
+// Whether a library package, or the beginning of its name, stands here.
+fn is_library(words: &Words<'_, '_>) -> bool {
+    words.fit("^Ada|Standard") || library::ends_with(words.word(0)).is_some()
+}
+
+const NOT_KNOWN: &str = "{0} has no {1} that is known here";
+
+// That a library package, whose whole name stands here, hasn't what stands behind it.
+fn no_item<'a>(words: &Words<'_, 'a>) -> Cause<'a> {
+    let last = words.last_part();
+    if let Some(said) = said_of_name(&OTHER, words.word(last)) {
+        return Cause::plain(words.place(last), said);
+    }
+    if let Some(library) = library::ends_with(words.word(last.saturating_sub(2))) {
+        if library.split('.').count() == last / 2 {
+            return Cause::pair(words.place(last), NOT_KNOWN, library, words.word(last));
+        }
+    }
+    Cause::pair(words.place(2), NOT_KNOWN, words.word(0), words.word(2))
+}
+
+// Which part of a name with points isn't there.
+fn dotted<'a>(
+    alloc: Global,
+    words: &Words<'_, 'a>,
+    around: &Around<'a>,
+    known: &Known<'a>,
+) -> Result<Cause<'a>, AllocError> {
+    if let Some(part) = part_of(words, around, known) {
+        return no_part(alloc, words, part, known);
+    }
+    if is_library(words) {
+        return Ok(no_item(words));
+    }
+    simple(alloc, words, around, known)
+}
+
+// The predefined name that is nearest to a word; empty where none is near.
+fn near_predefined(alloc: Global, word: &str) -> Result<&'static str, AllocError> {
+    near_among(alloc, word, &library::NAMES)
+}
+
+// The name that is seen, or the predefined one, that is nearest to a word; empty where none is near.
+fn near_name<'a>(
+    alloc: Global,
+    word: &str,
+    around: &Around<'a>,
+    known: &Known<'a>,
+) -> Result<&'a str, AllocError> {
+    match known.near(alloc, word, Group::seen(around))? {
+        "" => near_predefined(alloc, word),
+        near => Ok(near),
+    }
+}
+
+// Reserved words that are statements, or begin one that may look like a call.
+const STATEMENTS: [&str; 5] = ["null", "return", "exit", "raise", "others"];
+
+// That nothing of a simple name is declared, and nothing of a name near to it; it may be a reserved word.
+fn nameless<'a>(alloc: Global, words: &Words<'_, 'a>) -> Result<Cause<'a>, AllocError> {
+    let word = words.word(0);
+    match near_among(alloc, word, &STATEMENTS)? {
+        "" => Ok(words.cause(0, "nothing named {0} is declared (8.3)")),
+        near => Ok(Cause::pair(
+            words.place(0),
+            "nothing named {0} is declared; {1} is a reserved word",
+            word,
+            near,
+        )),
+    }
+}
+
+// That nothing of a simple name is declared.
+fn simple<'a>(
+    alloc: Global,
+    words: &Words<'_, 'a>,
+    around: &Around<'a>,
+    known: &Known<'a>,
+) -> Result<Cause<'a>, AllocError> {
+    let word = words.word(0);
+    if let Some(said) = said_of_name(&OTHER, word) {
+        return Ok(words.cause(0, said));
+    }
+    match near_name(alloc, word, around, known)? {
+        "" => nameless(alloc, words),
+        near => {
+            let item = known.meaning(near, around);
+            Ok(near_to(words, near, item))
+        }
+    }
+}
+
+// That nothing of the name is declared that stands here, but something is of one near to it, and where that is.
+fn near_to<'a>(words: &Words<'_, 'a>, near: &'a str, item: Option<&Declared<'a>>) -> Cause<'a> {
+    let at = words.place(0);
+    let word = words.word(0);
+    match item {
+        Some(item) if item.is_own => {
+            let said = "nothing named {0} is declared; {1} is, in line {line}";
+            Cause::pair(at, said, word, near).with_other(item.at)
+        }
+        _ => Cause::pair(at, "nothing named {0} is declared; {1} is", word, near),
+    }
+}
+
+// That a context clause names no library unit.
+fn in_context<'a>(
+    alloc: Global,
+    words: &Words<'_, 'a>,
+    known: &Known<'a>,
+) -> Result<Cause<'a>, AllocError> {
+    let word = words.word(0);
+    let at = words.place(0);
+    if words.is(1, ".") {
+        let said = "this host has no library package {0}{1}{2}{3}{4} (10.1.2)";
+        return Ok(Cause::full(at, said, words.name()));
+    }
+    let own = words.package();
+    if is_same_name(own, word) {
+        return Ok(words.cause(0, "{0} is this package itself; with takes others (10.1.2)"));
+    }
+    match known.near(alloc, word, Group::Units)? {
+        near if near.is_empty() || is_same_name(near, own) => Ok(words.cause(
+            0,
+            "no unit {0} is loaded before this one (10.1.2)",
+        )),
+        near => Ok(Cause::new(at, "no unit {0} is loaded here; {1} is", [word, near, ""])),
+    }
+}
+
+/// Why a name denotes nothing at all. Err where memory was refused.
+pub fn unknown<'a>(
+    alloc: Global,
+    words: &Words<'_, 'a>,
+    around: &Around<'a>,
+    known: &Known<'a>,
+) -> Result<Cause<'a>, AllocError> {
+    if let Some(cause) = first_of(&CASES, words, around) {
+        return Ok(cause);
+    }
+    if is_body(words, around) {
+        let operations = Part {
+            behind: 0,
+            whole: around.home,
+            group: Group::Operations(around.unit, around.home),
+        };
+        return no_part(alloc, words, operations, known);
+    }
+    if around.unit.is_empty() {
+        return in_context(alloc, words, known);
+    }
+    if around.is_in_head && words.fit("with|, ^_") {
+        return Ok(words.cause(0, "the aspect {0} has no effect here (13.1.1)"));
+    }
+    if words.is(1, ".") {
+        return dotted(alloc, words, around, known);
+    }
+    simple(alloc, words, around, known)
+}
