@@ -3,7 +3,6 @@
 use crate::around::Around;
 use crate::cause::Cause;
 use crate::grammar::is_other_ada;
-use crate::library;
 use crate::words::Words;
 
 /// Where a word stands, or what it is.
@@ -27,8 +26,6 @@ pub enum Within {
     Statement,
     /// In a procedure, an entry or a task.
     NoFunction,
-    /// A name that a predefined library package declares.
-    Library,
     /// A reserved word of Ada.
     Reserved,
     /// A reserved word of Ada that no production has.
@@ -59,7 +56,6 @@ fn is_within(within: Within, words: &Words<'_, '_>, around: &Around<'_>) -> bool
         Within::Parentheses => around.parentheses > 0,
         Within::Statement => !around.is_in_head && !around.unit.is_empty(),
         Within::NoFunction => !around.is_function,
-        Within::Library => library::home_of(words.word(0)).is_some(),
         Within::Reserved => words.is_reserved(),
         Within::OtherAda => is_other_ada(words.word(0)),
     }

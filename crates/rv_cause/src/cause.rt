@@ -116,17 +116,6 @@ impl<'a> Cause<'a> {
         Cause::full(at, said, [first, second, "", "", "", ""])
     }
 
-    /// A sentence with three words.
-    pub fn triple(
-        at: usize,
-        said: &'static str,
-        first: &'a str,
-        second: &'a str,
-        third: &'a str,
-    ) -> Cause<'a> {
-        Cause::full(at, said, [first, second, third, "", "", ""])
-    }
-
     /// A sentence without words.
     pub fn plain(at: usize, said: &'static str) -> Cause<'a> {
         Cause::of(at, said, "")

@@ -45,6 +45,8 @@ pub struct Declared<'a> {
     pub is_hidden: bool,
     /// Whether it stands in no body of a protected unit or task.
     pub is_declaration: bool,
+    /// Whether it stands in the text that is explained.
+    pub is_own: bool,
 }
 
 impl Sort {
@@ -115,9 +117,25 @@ impl<'a> Declared<'a> {
         is_part && is_same_name(self.home, home) && is_same_name(self.unit, unit)
     }
 
+    /// Whether it stands in the same region as another.
+    pub fn is_beside(&self, other: &Declared<'_>) -> bool {
+        is_same_name(self.unit, other.unit)
+            && is_same_name(self.home, other.home)
+            && is_same_name(self.operation, other.operation)
+            && self.is_declaration == other.is_declaration
+    }
+
     /// What is said of it where a word stands: `{0}` is its name, `{1}` its home, `{2}` its unit.
     pub fn cause(&self, at: usize, said: &'static str) -> Cause<'a> {
         Cause::new(at, said, [self.name, self.home, self.unit])
+    }
+
+    /// The same, which tells its line where it stands in the text that is explained: by the first sentence, else by the second.
+    pub fn told(&self, at: usize, with_line: &'static str, without: &'static str) -> Cause<'a> {
+        if self.is_own {
+            return self.cause(at, with_line).with_other(self.at);
+        }
+        self.cause(at, without)
     }
 }
 
@@ -133,5 +151,9 @@ pub fn phrase<'a>(at: usize, name: &'a str, sort: &'a str, behind: &'a str) -> C
 
 /// That something is what it is, and what follows from that.
 pub fn is_a<'a>(at: usize, item: &Declared<'a>, behind: &'a str) -> Cause<'a> {
-    phrase(at, item.name, item.sort.words(), behind)
+    if !item.is_own {
+        return phrase(at, item.name, item.sort.words(), behind);
+    }
+    let said = "{0} is {1}, declared in line {line}{2}";
+    Cause::new(at, said, [item.name, item.sort.words(), behind]).with_other(item.at)
 }

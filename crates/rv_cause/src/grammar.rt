@@ -35,11 +35,26 @@ const OTHER_WORDS: [&str; 23] = [
 ];
 
 // What can't be declared here, and names that are none.
-const DECLARATIONS: [Case; 9] = [
+const DECLARATIONS: [Case; 12] = [
     Case {
         within: Within::Package,
         words: "^procedure|function",
         said: "{0} can't stand in a package here; subprograms stand in protected units only",
+    },
+    Case {
+        within: Within::Anywhere,
+        words: "^type _ is range|new|mod",
+        said: "types can't be declared here: write subtype {1} is Integer range .. (3.2.1)",
+    },
+    Case {
+        within: Within::Anywhere,
+        words: "^type _ is (",
+        said: "types can't be declared here: write a constant of Integer for each value of {1} (3.2.1)",
+    },
+    Case {
+        within: Within::Anywhere,
+        words: "^type _ is record|array",
+        said: "types can't be declared here: write a component for each of those of {1} (3.2.1)",
     },
     Case {
         within: Within::Anywhere,
@@ -92,7 +107,7 @@ const OPERATORS: [Case; 6] = [
     Case {
         within: Within::Statement,
         words: "NAME|NUMBER|) ^in",
-        said: "there are no membership tests here; compare with both bounds (4.5.2)",
+        said: "there are no membership tests here: write {3} >= .. and then {3} <= .. (4.5.2)",
     },
     Case {
         within: Within::Anywhere,

@@ -25,8 +25,12 @@ pub enum Group<'a> {
     Tasks(&'a str),
     /// The objects of a unit.
     Objects(&'a str),
+    /// Those that other units see.
+    Shown(&'a str),
     /// The operations of a protected unit, behind its package.
     Operations(&'a str, &'a str),
+    /// Those that others call.
+    Called(&'a str, &'a str),
     /// Its operations and components.
     Members(&'a str, &'a str),
     /// The parameters of an operation, behind its package and its protected unit.
@@ -48,8 +52,14 @@ impl<'a> Group<'a> {
             Group::Package(unit) => item.is_of_package(unit),
             Group::Tasks(unit) => item.sort == Sort::Task && item.is_of_package(unit),
             Group::Objects(unit) => item.is_object() && item.is_of_package(unit),
+            Group::Shown(unit) => {
+                !item.is_hidden && item.is_object() && item.is_of_package(unit)
+            }
             Group::Operations(unit, home) => {
                 item.sort != Sort::Component && item.is_member(unit, home)
+            }
+            Group::Called(unit, home) => {
+                !item.is_hidden && item.sort != Sort::Component && item.is_member(unit, home)
             }
             Group::Members(unit, home) => item.is_member(unit, home),
             Group::Parameters(unit, home, operation) => {
@@ -163,7 +173,7 @@ fn sort_of_list(words: &Words<'_, '_>, colon: usize, around: &Around<'_>) -> Sor
 }
 
 // The subtype or type of a list whose colon stands so many words behind: the last part of its name.
-fn mark_of_list<'a>(words: &Words<'_, 'a>, colon: usize) -> &'a str {
+pub(crate) fn mark_of_list<'a>(words: &Words<'_, 'a>, colon: usize) -> &'a str {
     let mut behind = colon.saturating_add(1);
     for _ in 0..2 {
         if is_listed(&["constant", "in", "out"], words.word(behind)) {
@@ -201,8 +211,12 @@ fn outer<'a>(words: &Words<'_, 'a>) -> Option<(Sort, &'a str)> {
     Some((sort, either(words.was(1, "type"), "type", "")))
 }
 
-// What a word declares.
-fn declaration<'a>(words: &Words<'_, 'a>, around: &Around<'a>) -> Option<Declared<'a>> {
+// What a word declares, in the text that is explained or another.
+fn declaration<'a>(
+    words: &Words<'_, 'a>,
+    around: &Around<'a>,
+    is_own: bool,
+) -> Option<Declared<'a>> {
     let name = words.word(0);
     if !is_identifier(name) || is_listed(&["body", "type"], name) {
         return None;
@@ -224,6 +238,7 @@ fn declaration<'a>(words: &Words<'_, 'a>, around: &Around<'a>) -> Option<Declare
         at: words.place(0),
         is_hidden: around.is_hidden(),
         is_declaration: is_outer || !around.is_body,
+        is_own,
     })
 }
 
@@ -263,26 +278,27 @@ impl<'a> Known<'a> {
         Ok(())
     }
 
-    /// Adds what a unit text declares, by its words.
-    pub fn add_text(&mut self, tokens: &[Token<'a>]) -> Result<(), AllocError> {
+    /// Adds what a unit text declares, by its words: the text that is explained, or another.
+    pub fn add_text(&mut self, tokens: &[Token<'a>], is_own: bool) -> Result<(), AllocError> {
         let mut around = Around::nothing();
         for here in 0..tokens.len() {
             let words = Words::from(tokens, here);
             around.pass(&words);
-            if let Some(item) = declaration(&words, &around) {
+            if let Some(item) = declaration(&words, &around, is_own) {
                 self.add(item)?;
             }
         }
         Ok(())
     }
 
-    /// What a simple name means to a word: of what has the name and is seen there, the nearest.
+    /// What a simple name means to a word: of what has the name and is seen there, the nearest; of several the last, as a parameter in
+    /// its body.
     pub fn meaning(&self, name: &str, around: &Around<'_>) -> Option<&Declared<'a>> {
         let mut found = None;
         let mut best = 0;
         for item in self.items.as_slice() {
             let near = rank(item, around.unit, around.home, around.operation);
-            if near > best && item.is_named(name) {
+            if near > 0 && near >= best && item.is_named(name) {
                 best = near;
                 found = Some(item);
             }
@@ -341,6 +357,17 @@ impl<'a> Known<'a> {
     pub fn declared_at(&self, unit: &str, place: usize) -> Option<&Declared<'a>> {
         for item in self.items.as_slice() {
             if item.at == place && is_same_name(item.unit, unit) {
+                return Some(item);
+            }
+        }
+        None
+    }
+
+    /// What is declared before a place by the name that is declared there, in the same region.
+    pub fn before(&self, unit: &str, place: usize) -> Option<&Declared<'a>> {
+        let later = self.declared_at(unit, place)?;
+        for item in self.items.as_slice() {
+            if item.at < later.at && item.is_beside(later) && item.is_named(later.name) {
                 return Some(item);
             }
         }

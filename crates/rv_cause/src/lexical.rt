@@ -2,6 +2,7 @@
 
 use crate::cause::Cause;
 use crate::line::Form;
+use crate::words::Words;
 
 // What is said of a character, by what stands there.
 const CHARACTERS: [Form; 5] = [
@@ -110,6 +111,28 @@ fn said_of_literal(word: &str) -> &'static str {
         b'e' | b'E' => "{0} has an exponent; write the number out (2.4.1)",
         _ => "a letter stands directly behind the digits of {0} (2.4)",
     }
+}
+
+const RELATIVE: &str =
+    "there is no relative delay in the profile Ravenscar (D.7), and numbers are whole: write delay until Clock + Milliseconds (..)";
+
+const REAL: &str =
+    "{1} isn't in the part of Ada that is taken here, nor are fractions, as {0}: write Integer in smaller units, as hundredths";
+
+/// Why digits with a fraction stand behind these words of a text; `None` where they make it no clearer, or there is no fraction.
+pub fn bad_fraction<'a>(text: &'a str, at: usize, before: &Words<'_, 'a>) -> Option<Cause<'a>> {
+    let word = run_from(text, at);
+    if word.contains("#") || !has_fraction(word) {
+        return None;
+    }
+    if before.was(1, "delay") {
+        return Some(Cause::plain(at, RELATIVE));
+    }
+    let is_real = before.fit("Float|Long_Float|Duration := ^_");
+    if is_real {
+        return Some(Cause::pair(at, REAL, word, before.back(2)));
+    }
+    None
 }
 
 /// Why digits are no number.

@@ -17,6 +17,7 @@ pub mod lists;
 pub mod loaded;
 pub mod names;
 pub mod nulls;
+pub mod ranges;
 pub mod restrictions;
 pub mod sections;
 pub mod settings;

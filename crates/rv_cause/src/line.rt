@@ -36,6 +36,16 @@ pub fn said_of(forms: &[Form], word: &str) -> Option<&'static str> {
     None
 }
 
+/// What the first form says that has this name, case ignored.
+pub fn said_of_name(forms: &[Form], name: &str) -> Option<&'static str> {
+    for form in forms {
+        if is_same_name(form.word, name) {
+            return Some(form.said);
+        }
+    }
+    None
+}
+
 /// Whether a word is a number.
 pub fn is_number(word: &str) -> bool {
     integer_of(word).is_some()

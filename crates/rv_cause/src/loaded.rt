@@ -45,6 +45,7 @@ fn declared<'a>(words: &Line<'a>, unit: &'a str, object: &'a str) -> Option<Decl
         at: 0,
         is_hidden: false,
         is_declaration: true,
+        is_own: false,
     })
 }
 

@@ -66,6 +66,9 @@ const SECOND_PRIORITY: &str = "a priority is given already (D.1)";
 
 const TWICE: &str = "{0} is declared here already; give one of them another name (8.3)";
 
+const TWICE_IN: &str =
+    "{0} is declared in line {line} already; give one of them another name (8.3)";
+
 // What is there twice.
 const DUPLICATES: [Case; 5] = [
     Case {
@@ -129,23 +132,36 @@ fn needs_library<'a>(
     Cause::new(at, said, [word, library, ""])
 }
 
-// What is said of a declaration that isn't seen from a place of its text.
-fn unseen(item: &Declared<'_>, at: usize) -> &'static str {
+// That a declaration isn't seen from a place of its text.
+fn unseen<'a>(item: &Declared<'a>, at: usize) -> Cause<'a> {
     if item.at < at {
-        return "{0} denotes nothing within its own declaration (8.3)";
+        return item.cause(at, "{0} denotes nothing within its own declaration (8.3)");
     }
-    "{0} is declared further down; put that before this (8.3)"
+    item.told(
+        at,
+        "{0} is declared further down, in line {line}; put that before this (8.3)",
+        "{0} is declared further down; put that before this (8.3)",
+    )
 }
 
-// What is said of the part of a name behind a point that isn't seen.
-fn unseen_part(item: &Declared<'_>, around: &Around<'_>) -> &'static str {
+// That the part of a name behind a point isn't seen at a place.
+fn unseen_part<'a>(item: &Declared<'a>, at: usize, around: &Around<'_>) -> Cause<'a> {
     if item.is_hidden && !item.home.is_empty() && !is_same_name(item.home, around.home) {
-        return "{0} stands behind private in {1}, and is seen in its bodies only (9.4)";
+        return item.told(
+            at,
+            "{0} stands behind private in {1}, in line {line}, and is seen in its bodies only (9.4)",
+            "{0} stands behind private in {1}, and is seen in its bodies only (9.4)",
+        );
     }
     if !is_same_name(item.unit, around.unit) {
-        return "{0} is declared in the body of {2}, and is seen there only (7.2)";
+        let said = "{0} is declared in the body of {2}, and is seen there only (7.2)";
+        return item.cause(at, said);
     }
-    "{0} isn't declared yet; put its declaration before this (8.3)"
+    item.told(
+        at,
+        "{0} isn't declared yet; put its declaration, in line {line}, before this (8.3)",
+        "{0} isn't declared yet; put its declaration before this (8.3)",
+    )
 }
 
 // The library package that a name would be of.
@@ -175,12 +191,10 @@ pub fn not_visible<'a>(
     }
     if let Some((item, behind)) = known.denoted(words, around) {
         let at = words.place(behind);
-        let said = if behind > 0 {
-            unseen_part(item, around)
-        } else {
-            unseen(item, at)
-        };
-        return item.cause(at, said);
+        if behind > 0 {
+            return unseen_part(item, at, around);
+        }
+        return unseen(item, at);
     }
     match library_of(words) {
         Some(library) => needs_library(tokens, words.place(0), word, library),
@@ -352,8 +366,21 @@ fn wanted<'w>(words: &Words<'_, '_>, around: &Around<'_>, behind: usize) -> &'w 
     VALUE
 }
 
+// That a part of a protected type is named behind that, outside its body.
+fn of_type<'a>(words: &Words<'_, 'a>, around: &Around<'a>, known: &Known<'a>) -> Option<Cause<'a>> {
+    let item = known.meaning(words.word(0), around)?;
+    if item.mark != "type" || !words.is(1, ".") || is_same_name(item.name, around.home) {
+        return None;
+    }
+    let said = "; what it declares is named behind one of its objects (9.4)";
+    Some(is_a(words.place(0), item, said))
+}
+
 // That what a name denotes can't stand here.
 fn bad_sort<'a>(words: &Words<'_, 'a>, around: &Around<'a>, known: &Known<'a>) -> Cause<'a> {
+    if let Some(cause) = of_type(words, around, known) {
+        return cause;
+    }
     if let Some((item, behind)) = known.denoted(words, around) {
         return is_a(words.place(behind), item, wanted(words, around, behind));
     }
@@ -386,16 +413,20 @@ pub fn wrong_kind<'a>(words: &Words<'_, 'a>, around: &Around<'a>, known: &Known<
 }
 
 /// What is there twice.
-pub fn duplicate<'a>(words: &Words<'_, 'a>, around: &Around<'a>) -> Cause<'a> {
-    match first_of(&DUPLICATES, words, around) {
-        Some(cause) => cause,
+pub fn duplicate<'a>(words: &Words<'_, 'a>, around: &Around<'a>, known: &Known<'a>) -> Cause<'a> {
+    if let Some(cause) = first_of(&DUPLICATES, words, around) {
+        return cause;
+    }
+    match known.before(around.unit, words.place(0)) {
+        Some(first) => told(words, around, TWICE_IN).with_other(first.at),
         None => told(words, around, TWICE),
     }
 }
 
 /// What a name behind `end` has to be.
 pub fn end_name<'a>(tokens: &[Token<'a>], words: &Words<'_, 'a>) -> Cause<'a> {
-    let around = Around::of(tokens, words.place_before());
+    let before = words.before(1);
+    let around = Around::of(tokens, before.place(0));
     Cause::of(
         words.place(0),
         "what ends here is {0}: write end {0};",

@@ -49,10 +49,10 @@ fn elsewhere(opening: Opening, before: Option<Opening>) -> &'static str {
 // What is said of a word that opens no section, and may be meant for an opening that is near to it.
 fn unknown<'a>(alloc: Global, word: &'a str) -> Result<Cause<'a>, AllocError> {
     match nearest(alloc, word, &OPENINGS)? {
-        Some(near) => Ok(Cause::new(0, "no section {0}; {1}?", [word, near, ""])),
+        Some(near) => Ok(Cause::pair(0, "there is no section {0}; did you mean {1}?", word, near)),
         None => Ok(Cause::of(
             0,
-            "no section {0}; there are @host.toml, @unit, @shape, @list, @steps, @journal and @run",
+            "there is no section {0}; there are @host.toml, @unit, @shape, @list, @steps, @journal and @run",
             word,
         )),
     }

@@ -5,7 +5,22 @@ use rv_near::nearest;
 use rv_text::{dotted_parts, integer_of, is_identifier, is_same_name, next_line, next_word};
 use std::alloc::{AllocError, Global};
 
-const TOP_KEYS: [&str; 4] = ["capacity", "budget", "queue_limit", "device"];
+// The keys of the settings and of a device.
+const ALL: [&str; 10] = [
+    "capacity",
+    "budget",
+    "queue_limit",
+    "device",
+    "unit",
+    "task",
+    "object",
+    "operation",
+    "priority",
+    "calls",
+];
+
+const ALL_KEYS: &str =
+    "the keys are capacity, budget, queue_limit and device; those of a device unit, task, object, operation, priority and calls";
 
 const DEVICE_KEYS: [&str; 6] = ["unit", "task", "object", "operation", "priority", "calls"];
 
@@ -143,20 +158,14 @@ fn opened(word: &str) -> Option<Table> {
 // What a line is that stands in a table.
 fn entry_of<'a>(table: Table, line: &'a str, at: usize) -> Option<Entry<'a>> {
     let (word, _) = next_word(line)?;
-    if word.starts_with("#") {
+    if word.starts_with("#") || word.starts_with("{") {
         return None;
+    }
+    if word == "[device]" {
+        return Some(Entry::new(Table::Top, "device", "", at));
     }
     if let Some(table) = opened(word) {
         return Some(Entry::new(table, "", word, at));
-    }
-    if word.starts_with("{") {
-        return Some(Entry {
-            table,
-            key: "device",
-            value: "[",
-            whole: line,
-            at,
-        });
     }
     let (left, right) = line.split_once('=')?;
     let key = without_quotes(first_word(left)?);
@@ -172,16 +181,6 @@ fn without_quotes(key: &str) -> &str {
         }
     }
     key
-}
-
-// The first part of the name of a table that a word opens; empty where it opens none.
-fn table_name(word: &str) -> &str {
-    let Some((_, inner)) = word.rsplit_once('[') else {
-        return "";
-    };
-    let (name, _) = inner.split_once(']').unwrap_or((inner, ""));
-    let (first, _) = name.split_once('.').unwrap_or((name, ""));
-    first
 }
 
 // The first word of a line, if it has one.
@@ -251,27 +250,11 @@ impl<'a> Entry<'a> {
         }
     }
 
-    // Whether it opens a table that has the name of a key.
-    fn is_key_as_table(&self) -> bool {
-        self.key.is_empty()
-            && self.table == Table::Other
-            && table_of(table_name(self.value)) == Some(Table::Top)
-    }
-
-    // The key that it is of: its own, or that which a table has as its name.
-    fn name(&self) -> &'a str {
-        if self.is_key_as_table() {
-            return table_name(self.value);
-        }
-        self.key
-    }
-
     // What is said of its value, if that isn't as it is to be; the key is `{0}`.
     fn bad_value(&self) -> Option<Cause<'a>> {
-        let name = self.name();
         for key in &KEYS {
-            if key.is(name) && (self.key.is_empty() || !is_taken(key.taken, self)) {
-                return Some(Cause::of(self.at, key.said, name));
+            if key.is(self.key) && !is_taken(key.taken, self) {
+                return Some(Cause::of(self.at, key.said, self.key));
             }
         }
         None
@@ -286,59 +269,24 @@ fn is_within(value: &str, least: i64, most: i64) -> bool {
     }
 }
 
-// What stands between the first two of a quote in a value.
-fn between(whole: &str, quote: char) -> Option<&str> {
-    let (_, inner) = whole.split_once(quote)?;
-    let (text, _) = inner.split_once(quote)?;
-    Some(text)
-}
-
-// The text of a value in quotes, if it is one.
-fn quoted<'a>(entry: &Entry<'a>) -> Option<&'a str> {
-    if entry.value.starts_with("\"") {
-        return between(entry.whole, '"');
-    }
-    if entry.value.starts_with("'") {
-        return between(entry.whole, '\'');
-    }
-    None
-}
-
-// Whether a text isn't known from its line: it has escapes, or three quotes.
-fn is_elsewhere(entry: &Entry<'_>) -> bool {
-    entry.value.starts_with("\"\"\"")
-        || entry.value.starts_with("'''")
-        || entry.whole.contains("\\")
-}
-
-// Whether a value is as it is to be; of a text that isn't known it is taken so.
+// Whether a value is as it is to be; of a table in its line, or a text with escapes, it is taken so.
 fn is_taken(taken: Taken, entry: &Entry<'_>) -> bool {
     match taken {
         Taken::Number(least, most) => is_within(entry.value, least, most),
-        Taken::Table => entry.value == "[]" || are_tables(entry),
-        _ => is_elsewhere(entry) || is_text_taken(taken, quoted(entry)),
+        Taken::Table => entry.value.starts_with("["),
+        _ => entry.whole.contains("\\") || is_text_taken(taken, entry.value),
     }
 }
 
-// Whether a value is one of tables, or goes on below its line.
-fn are_tables(entry: &Entry<'_>) -> bool {
-    entry.value.starts_with("[") && (entry.whole.contains("{") || !entry.whole.contains("]"))
-}
-
-// Whether a text is as it is to be.
-fn is_text_taken(taken: Taken, text: Option<&str>) -> bool {
-    match (text, taken) {
-        (Some(text), Taken::Name) => is_identifier(text),
-        (Some(text), _) => dotted_parts(text).is_some(),
-        _ => false,
+// Whether a value is a text in quotes that is as it is to be. Of one in three quotes it isn't known, and taken so.
+fn is_text_taken(taken: Taken, value: &str) -> bool {
+    let text = without_quotes(value);
+    if text.len() == value.len() {
+        return false;
     }
-}
-
-// The key of any table that is nearest to a word, if one is near.
-fn near_key(alloc: Global, word: &str) -> Result<Option<&'static str>, AllocError> {
-    match nearest(alloc, word, &TOP_KEYS)? {
-        Some(key) => Ok(Some(key)),
-        None => nearest(alloc, word, &DEVICE_KEYS),
+    match taken {
+        Taken::Name => is_identifier(text) || text.contains("\""),
+        _ => dotted_parts(text).is_some() || text.contains("\""),
     }
 }
 
@@ -346,46 +294,11 @@ fn near_key(alloc: Global, word: &str) -> Result<Option<&'static str>, AllocErro
 fn unknown<'a>(alloc: Global, entry: &Entry<'a>) -> Result<Cause<'a>, AllocError> {
     let key = entry.key;
     if table_of(key).is_none() {
-        if let Some(near) = near_key(alloc, key)? {
-            return Ok(Cause::pair(entry.at, "unknown key {0}; {1}?", key, near));
+        if let Some(near) = nearest(alloc, key, &ALL)? {
+            return Ok(Cause::pair(entry.at, "unknown key {0}; did you mean {1}?", key, near));
         }
     }
     Ok(Cause::of(entry.at, entry.said_of_key(), key))
-}
-
-// The key that stands in a part of a device that is written in one line, if one does.
-fn key_within(part: &str) -> Option<&str> {
-    let (left, _) = part.split_once('=')?;
-    let key = match left.rsplit_once('{') {
-        Some((_, behind)) => behind,
-        None => left,
-    };
-    first_word(key)
-}
-
-// The first key in a device that is written in one line that devices don't have.
-fn other_key(device: &str) -> Option<&str> {
-    for part in device.split(',') {
-        let key = key_within(part).unwrap_or("unit");
-        if table_of(key) != Some(Table::Device) {
-            return Some(key);
-        }
-    }
-    None
-}
-
-// Which key a device doesn't have that is written in one line, if it is that.
-fn unknown_within<'a>(alloc: Global, entry: &Entry<'a>) -> Result<Option<Cause<'a>>, AllocError> {
-    if entry.key != "device" {
-        return Ok(None);
-    }
-    match other_key(entry.whole) {
-        Some(key) => {
-            let within = Entry::new(Table::Device, key, "", entry.at);
-            Ok(Some(unknown(alloc, &within)?))
-        }
-        None => Ok(None),
-    }
 }
 
 /// Which key settings don't have. Err where memory was refused.
@@ -394,17 +307,12 @@ pub fn unknown_key<'a>(alloc: Global, entries: &[Entry<'a>]) -> Result<Cause<'a>
         if !entry.key.is_empty() && !entry.is_key() {
             return unknown(alloc, entry);
         }
-        if entry.key.is_empty() && entry.table == Table::Other && !entry.is_key_as_table() {
+        if entry.key.is_empty() && entry.table == Table::Other {
             let said = "unknown table {0}; devices are [[device]]";
             return Ok(Cause::of(entry.at, said, entry.value));
         }
     }
-    for entry in entries {
-        if let Some(cause) = unknown_within(alloc, entry)? {
-            return Ok(cause);
-        }
-    }
-    Ok(Cause::plain(0, "the keys are capacity, budget, queue_limit and device"))
+    Ok(Cause::plain(0, ALL_KEYS))
 }
 
 // Whether a key of a device stands among its lines, which begin with this one.
@@ -430,47 +338,9 @@ fn missing_key(entries: &[Entry<'_>], from: usize) -> Option<&'static str> {
     None
 }
 
-// Whether a key stands in a device that is written in one line.
-fn has_key_within(device: &str, key: &str) -> bool {
-    for part in device.split(',') {
-        if key_within(part) == Some(key) {
-            return true;
-        }
-    }
-    false
-}
-
-// The first key that a device lacks that is written in one line.
-fn missing_within(device: &str) -> Option<&'static str> {
-    for key in &DEVICE_KEYS {
-        if !has_key_within(device, key) {
-            return Some(*key);
-        }
-    }
-    None
-}
-
-// The first key that one of the devices lacks that are written, and end, in a line.
-fn missing_in_line(whole: &str) -> Option<&'static str> {
-    let (ended, _) = whole.rsplit_once('}')?;
-    for device in ended.split('}') {
-        if device.contains("{") {
-            if let Some(key) = missing_within(device) {
-                return Some(key);
-            }
-        }
-    }
-    None
-}
-
 // The key that the first device lacks that lacks one.
 fn lacking<'a>(entries: &[Entry<'a>]) -> Option<Cause<'a>> {
     for (opening, entry) in entries.iter().enumerate() {
-        if entry.key == "device" {
-            if let Some(key) = missing_in_line(entry.whole) {
-                return Some(Cause::of(entry.at, "this device lacks the key {0}", key));
-            }
-        }
         if entry.key.is_empty() && entry.table == Table::Device {
             if let Some(key) = missing_key(entries, opening.saturating_add(1)) {
                 return Some(Cause::of(entry.at, "this device lacks the key {0}", key));

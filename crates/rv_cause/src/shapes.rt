@@ -10,6 +10,8 @@ const PARTS: [&str; 5] = ["scalar", "function", "procedure", "entry", "handler"]
 
 const RESERVED: [&str; 5] = ["Ada", "System", "Standard", "Host", "Interrupts"];
 
+const INTERRUPTS: [&str; 10] = ["0", "1", "2", "3", "4", "5", "6", "7", "8", "9"];
+
 const TAKEN: &str = "line {0} has a handler already (C.3.1)";
 
 const BARRIER: &str = "a barrier is open, closed, or the number of a scalar of range 0 .. 1";
@@ -107,46 +109,6 @@ fn are_repeated(line: &Line<'_>, from: usize, form: &str) -> bool {
     line.count().saturating_sub(from) % 3 == 0
 }
 
-// Whether a word begins with a letter.
-fn begins_as_name(word: &str) -> bool {
-    match word.as_bytes() {
-        [first, ..] => first.is_ascii_alphabetic(),
-        [] => false,
-    }
-}
-
-// That the second word of a line, which begins as a name, is none.
-fn bad_name<'a>(line: &Line<'a>) -> Option<Cause<'a>> {
-    let word = line.word(1);
-    if line.is(0, "scalar") || is_identifier(word) || !begins_as_name(word) {
-        return None;
-    }
-    Some(line.cause(
-        1,
-        "{0} is no name: letters, digits and single underscores between them, 64 at most",
-    ))
-}
-
-// Whether a word is digits, but too many for a number.
-fn is_too_long(word: &str) -> bool {
-    for (place, byte) in word.as_bytes().iter().enumerate() {
-        if !byte.is_ascii_digit() && (*byte != b'-' || place > 0) {
-            return false;
-        }
-    }
-    word.len() > 18
-}
-
-// That a word of a line has too many digits for a number.
-fn bad_digits<'a>(line: &Line<'a>) -> Option<Cause<'a>> {
-    for word in 1..line.count() {
-        if is_too_long(line.word(word)) {
-            return Some(line.cause(word, "{0} is no number: those have 1 to 18 digits"));
-        }
-    }
-    None
-}
-
 // What stands against a line behind the first, where it stands in a protected object or not.
 fn bad_line<'a>(line: &Line<'a>, is_inside: bool) -> Option<Cause<'a>> {
     let Some(form) = said_of(&FORMS, line.word(0)) else {
@@ -157,12 +119,6 @@ fn bad_line<'a>(line: &Line<'a>, is_inside: bool) -> Option<Cause<'a>> {
     }
     if fits(line, form) {
         return None;
-    }
-    if let Some(cause) = bad_name(line) {
-        return Some(cause);
-    }
-    if let Some(cause) = bad_digits(line) {
-        return Some(cause);
     }
     Some(Cause::of(line.at(0), "this line has to be: {0}", form))
 }
@@ -197,18 +153,10 @@ fn bad_part<'a>(line: &Line<'a>, parts: &[Line<'_>]) -> Option<Cause<'a>> {
     if line.is(0, "entry") && !is_barrier(parts, line.word(2)) {
         return Some(line.cause(2, BARRIER));
     }
-    if line.is(0, "handler") && !is_interrupt(line.number(2)) {
+    if line.is(0, "handler") && !is_listed(&INTERRUPTS, line.word(2)) {
         return Some(line.cause(2, HANDLED));
     }
     None
-}
-
-// Whether a number is that of an interrupt line.
-fn is_interrupt(number: Option<i64>) -> bool {
-    match number {
-        Some(number) => 0 <= number && number <= 9,
-        None => false,
-    }
 }
 
 // The entry whose barrier is none, or the handler whose line is none.
@@ -404,16 +352,6 @@ fn is_taken(lines: &[Line<'_>], interrupt: &str) -> bool {
     false
 }
 
-// That the last handler has a line that is taken.
-fn last_taken<'a>(lines: &[Line<'a>]) -> Cause<'a> {
-    for line in lines.iter().rev() {
-        if line.is(0, "handler") {
-            return line.cause(2, TAKEN);
-        }
-    }
-    Cause::plain(0, "an interrupt line has a handler already (C.3.1)")
-}
-
 /// Which line of interrupts has a handler already.
 pub fn line_taken<'a>(lines: &[Line<'a>]) -> Cause<'a> {
     for (number, line) in lines.iter().enumerate() {
@@ -421,84 +359,24 @@ pub fn line_taken<'a>(lines: &[Line<'a>]) -> Cause<'a> {
             return line.cause(2, TAKEN);
         }
     }
-    last_taken(lines)
-}
-
-// What the object that a line stands in has before it.
-#[derive(Clone, Copy)]
-struct Object {
-    scalars: usize,
-    operations: usize,
-    has_entry: bool,
-}
-
-impl Object {
-    // An object without parts.
-    fn nothing() -> Object {
-        Object {
-            scalars: 0,
-            operations: 0,
-            has_entry: false,
-        }
-    }
-
-    // The object that a line opens or goes on with, with that line.
-    fn with(self, line: &Line<'_>) -> Object {
-        let Object {
-            scalars,
-            operations,
-            has_entry,
-        } = self;
-        let is_scalar = line.is(0, "scalar");
-        if line.is(0, "protected") {
-            return Object::nothing();
-        }
-        if !is_part(line) {
-            return self;
-        }
-        Object {
-            scalars: scalars.saturating_add(usize::from(is_scalar)),
-            operations: operations.saturating_add(usize::from(!is_scalar)),
-            has_entry: has_entry || line.is(0, "entry"),
-        }
-    }
-}
-
-// The number of the word that the fifth parameter of an operation begins with.
-fn fifth_parameter(line: &Line<'_>) -> usize {
-    match line.word(0) {
-        "procedure" => 14,
-        "entry" => 15,
-        _ => 16,
-    }
+    Cause::plain(0, "an interrupt line has a handler already (C.3.1)")
 }
 
 /// What there is too much of.
 pub fn too_many<'a>(lines: &[Line<'a>]) -> Cause<'a> {
-    let mut object = Object::nothing();
+    let mut has_entry = false;
     for line in lines {
-        if line.is(0, "entry") && object.has_entry {
-            return line.cause(
-                1,
-                "{0} is a second entry of its object; one is the most (D.7)",
-            );
+        if line.is(0, "entry") && has_entry {
+            let said = "{0} is a second entry of its object; one is the most (D.7)";
+            return line.cause(1, said);
         }
         if line.count() > 16 {
-            return line.cause(
-                fifth_parameter(line),
-                "a fifth parameter begins here; an operation has 4 at most",
-            );
+            return line.cause(1, "{0} has a fifth parameter; an operation has 4 at most");
         }
-        object = object.with(line);
-        if object.scalars > 32 || object.operations > 16 {
-            return line.cause(
-                0,
-                "this line is one too many: see the limits in docs/SCRIPTS.md",
-            );
-        }
+        has_entry = line.is(0, "entry") || has_entry && !line.is(0, "protected");
     }
     Cause::plain(
         0,
-        "with this unit there would be more units, tasks or objects than fit",
+        "with this unit there would be more units, tasks, objects or parts than fit",
     )
 }

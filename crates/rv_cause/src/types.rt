@@ -1,12 +1,14 @@
 //! Types, modes and static values that don't fit.
 
 use crate::around::Around;
-use crate::cases::{Case, Within, first_of, told};
+use crate::cases::{Case, Within, first_of};
 use crate::cause::Cause;
 use crate::declared::{Declared, Sort, is_a};
 use crate::handlers::bad_attachment;
 use crate::known::{Group, Known};
+use crate::ranges::outside;
 use crate::words::{Words, is_among, is_literal};
+use rv_text::is_same_name;
 use std::alloc::{AllocError, Global};
 
 const CONDITION: &str = "a condition is Boolean; what begins with {0} isn't (5.3)";
@@ -55,41 +57,22 @@ const BEFORE: [Case; 8] = [
     },
 ];
 
-const OTHER_TYPE: &str = "what begins with {0} isn't of the type that is wanted here (8.6)";
-
-// Of what type an expression is that doesn't fit.
-const OTHER_TYPES: [Case; 3] = [
-    Case {
-        within: Within::Anywhere,
-        words: "^NUMBER",
-        said: "{0} is an Integer, which doesn't fit here (8.6)",
-    },
-    Case {
-        within: Within::Anywhere,
-        words: "^True|False",
-        said: "{0} is Boolean, which doesn't fit here (8.6)",
-    },
-    Case {
-        within: Within::Library,
-        words: "^_",
-        said: "{0} isn't of the type, or hasn't the arguments, that are wanted (8.6)",
-    },
-];
-
 // What is said of a declaration that isn't written: `{0}` is its name, `{1}` its home and `{2}` its sort.
 fn said_of_unwritable(sort: Sort) -> &'static str {
     match sort {
         Sort::Component => {
-            "{0} is a component of {1}; a function may not write it (9.5.1); a procedure may"
+            "{0} is a component of {1}, declared in line {line}; a function may not write it (9.5.1); a procedure may"
         }
         Sort::Procedure => {
-            "{0} is a procedure of {1}; a function may not call it (9.5.1); a procedure may"
+            "{0} is a procedure of {1}, declared in line {line}; a function may not call it (9.5.1); a procedure may"
         }
         Sort::Given => {
-            "{0} is an in parameter, which isn't written (6.1); one that is in out may be"
+            "{0} is an in parameter, declared in line {line}, which isn't written (6.1); one that is in out may be"
         }
-        Sort::LoopParameter => "{0} is a loop parameter, which isn't written (5.5)",
-        _ => "{0} is {2}, which isn't written (3.3)",
+        Sort::LoopParameter => {
+            "{0} is a loop parameter, declared in line {line}, which isn't written (5.5)"
+        }
+        _ => "{0} is {2}, declared in line {line}, which isn't written (3.3)",
     }
 }
 
@@ -100,12 +83,12 @@ pub fn constant_written<'a>(
     known: &Known<'a>,
 ) -> Cause<'a> {
     match known.denoted(words, around) {
-        Some((item, behind)) => Cause::new(
-            words.place(behind),
-            said_of_unwritable(item.sort),
-            [item.name, item.home, item.sort.words()],
-        ),
-        None => words.cause(0, "{0} is a constant, which isn't written (3.3)"),
+        Some((item, behind)) if item.is_own => {
+            let said = [item.name, item.home, item.sort.words()];
+            let cause = Cause::new(words.place(behind), said_of_unwritable(item.sort), said);
+            cause.with_other(item.at)
+        }
+        _ => words.cause(0, "{0} is a constant, which isn't written (3.3)"),
     }
 }
 
@@ -156,16 +139,20 @@ fn divides_by_zero(words: &Words<'_, '_>) -> bool {
 
 /// What is too large, or one too many.
 pub fn too_large<'a>(words: &Words<'_, 'a>, around: &Around<'a>, known: &Known<'a>) -> Cause<'a> {
-    let said = if known.declared_at(around.unit, words.place(0)).is_some() {
-        "{0} is one too many: 64 may be open in a body, constants counted apart"
-    } else if divides_by_zero(words) {
-        "the divisor is 0 here (4.5.5)"
-    } else if is_literal(words.word(0)) {
-        "{0} leads to a value outside the range that is wanted here (3.5)"
-    } else {
-        "the value that begins with {0} is outside the range that is wanted here (3.5)"
-    };
-    words.cause(0, said)
+    if known.declared_at(around.unit, words.place(0)).is_some() {
+        let said = "{0} is one too many: 64 may be open in a body, constants counted apart";
+        return words.cause(0, said);
+    }
+    if divides_by_zero(words) {
+        return words.cause(0, "the divisor is 0 here (4.5.5)");
+    }
+    match outside(words, around, known) {
+        Some(cause) => cause,
+        None => words.cause(
+            0,
+            "the value that begins with {0} is outside the range that is wanted here (3.5)",
+        ),
+    }
 }
 
 /// What is wrong with the choices of a case statement.
@@ -222,31 +209,84 @@ fn bad_count<'a>(
     }
     let at = words.place(behind);
     if count == 0 {
-        return Some(item.cause(at, "{0} takes no arguments (6.4)"));
+        return Some(item.told(
+            at,
+            "{0}, declared in line {line}, takes no arguments (6.4)",
+            "{0} takes no arguments (6.4)",
+        ));
     }
-    let cause = item.cause(
+    let cause = item.told(
         at,
+        "{0}, declared in line {line}, takes one argument for each of its parameters (6.4)",
         "{0} takes one argument for each of its parameters (6.4)",
     );
     Some(cause.with_names(": ", "", parameters))
 }
 
-// That a name or a literal is of a type that doesn't fit.
+// The type of a word that is no name of the text; empty where it isn't known.
+fn type_of(word: &str) -> &'static str {
+    if is_literal(word) {
+        "Integer"
+    } else if is_among(word, "True|False|Current_State") {
+        "Boolean"
+    } else if is_among(word, "Clock") {
+        "Time"
+    } else if is_among(word, "Milliseconds") {
+        "Time_Span"
+    } else {
+        ""
+    }
+}
+
+// What is said of an expression that doesn't fit: it is of a type, and another is wanted; what isn't known is empty.
+fn said_of_types(given: &str, wanted: &str) -> &'static str {
+    if given.is_empty() && wanted.is_empty() {
+        "what begins with {0} isn't of the type that is wanted here (8.6)"
+    } else if given.is_empty() {
+        "what begins with {0} isn't {2}, which is wanted here (8.6)"
+    } else if wanted.is_empty() {
+        "{0} is {1}, which doesn't fit here (8.6)"
+    } else {
+        "{0} is {1}; {2} is wanted here (8.6)"
+    }
+}
+
+// That what stands so many words behind is of a type where another is wanted; empty where one isn't known.
+fn other_type<'a>(
+    words: &Words<'_, 'a>,
+    behind: usize,
+    given: &'a str,
+    wanted: &'static str,
+) -> Cause<'a> {
+    if !given.is_empty() && is_same_name(given, wanted) {
+        let said = "{0} isn't of the type, or hasn't the arguments, that are wanted (8.6)";
+        return words.cause(behind, said);
+    }
+    let said = said_of_types(given, wanted);
+    Cause::new(
+        words.place(behind),
+        said,
+        [words.word(behind), given, wanted],
+    )
+}
+
+// That a name or a literal is of a type that doesn't fit, where another is wanted, or of the whole expression that it begins; empty
+// where that isn't known.
 fn bad_type<'a>(
     words: &Words<'_, 'a>,
-    around: &Around<'a>,
     found: Option<(&Declared<'a>, usize)>,
+    wanted: &'static str,
+    whole: &'static str,
 ) -> Cause<'a> {
+    if !whole.is_empty() {
+        let said = said_of_types("", whole);
+        return Cause::new(words.place(0), said, [words.word(0), "", whole]);
+    }
     if let Some((item, behind)) = found {
-        if !item.mark.is_empty() {
-            let said = "{0} is of the subtype {1}, which doesn't fit here (8.6)";
-            return Cause::new(words.place(behind), said, [item.name, item.mark, ""]);
-        }
+        return other_type(words, behind, item.mark, wanted);
     }
-    match first_of(&OTHER_TYPES, words, around) {
-        Some(cause) => cause,
-        None => told(words, around, OTHER_TYPE),
-    }
+    let given = type_of(words.word(0));
+    other_type(words, 0, given, wanted)
 }
 
 // The constant that a text declares at a word, if it does.
@@ -261,9 +301,16 @@ fn constant_at<'k, 'a>(
     }
 }
 
-/// Why a type, or a number of arguments, doesn't fit at a word.
-pub fn mismatch<'a>(words: &Words<'_, 'a>, around: &Around<'a>, known: &Known<'a>) -> Cause<'a> {
-    if let Some(cause) = bad_attachment(words, around, known) {
+/// Why a type, or a number of arguments, doesn't fit at a word, where this type is wanted, or this one of the whole expression that it
+/// begins; empty where that isn't known.
+pub fn mismatch<'a>(
+    words: &Words<'_, 'a>,
+    around: &Around<'a>,
+    known: &Known<'a>,
+    wanted: &'static str,
+    whole: &'static str,
+) -> Cause<'a> {
+    if let Some(cause) = bad_attachment(words, around) {
         return cause;
     }
     if let Some(item) = constant_at(words, around, known) {
@@ -280,6 +327,6 @@ pub fn mismatch<'a>(words: &Words<'_, 'a>, around: &Around<'a>, known: &Known<'a
     }
     match first_of(&BEFORE, words, around) {
         Some(cause) => cause,
-        None => bad_type(words, around, found),
+        None => bad_type(words, found, wanted, whole),
     }
 }

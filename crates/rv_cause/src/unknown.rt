@@ -3,8 +3,10 @@
 use crate::around::Around;
 use crate::cases::{Case, Within, first_of};
 use crate::cause::Cause;
+use crate::declared::Declared;
 use crate::known::{Group, Known, near_among};
 use crate::library;
+use crate::line::{Form, said_of_name};
 use crate::names::is_body;
 use crate::words::Words;
 use rv_text::is_same_name;
@@ -26,6 +28,66 @@ const CASES: [Case; 3] = [
         within: Within::Anywhere,
         words: "body ^_",
         said: "nothing named {0} is declared that this is the body of (3.11.1)",
+    },
+];
+
+const FLOAT: &str =
+    "{0} isn't in the part of Ada that is taken here; write Integer in smaller units, as hundredths";
+
+const TEXT: &str =
+    "{0} isn't in the part of Ada that is taken here; there are no strings and characters (2.6)";
+
+const CLOCK: &str = "this host's clock counts milliseconds: write Milliseconds (..) (D.8)";
+
+// Names of Ada that this host doesn't have.
+const OTHER: [Form; 12] = [
+    Form {
+        word: "Float",
+        said: FLOAT,
+    },
+    Form {
+        word: "Long_Float",
+        said: FLOAT,
+    },
+    Form {
+        word: "Duration",
+        said: "Duration isn't in the part of Ada that is taken here; spans are of Ada.Real_Time.Time_Span",
+    },
+    Form {
+        word: "Long_Integer",
+        said: "Long_Integer isn't in the part of Ada that is taken here; Integer has 32 bits (3.5.4)",
+    },
+    Form {
+        word: "Short_Integer",
+        said: "Short_Integer isn't in the part of Ada that is taken here; write Integer with a range (3.5.4)",
+    },
+    Form {
+        word: "Character",
+        said: TEXT,
+    },
+    Form {
+        word: "String",
+        said: TEXT,
+    },
+    Form {
+        word: "Seconds",
+        said: CLOCK,
+    },
+    Form {
+        word: "Minutes",
+        said: CLOCK,
+    },
+    Form {
+        word: "Microseconds",
+        said: CLOCK,
+    },
+    Form {
+        word: "Nanoseconds",
+        said: CLOCK,
+    },
+    Form {
+        word: "Put_Line",
+        said: "this host has no Put_Line: units neither read nor write texts",
     },
 ];
 
@@ -51,6 +113,25 @@ fn no_part<'a>(
     Ok(cause.with_names("; it has ", near, part.group))
 }
 
+// What is named behind a declaration and a point: within its protected unit all, elsewhere what others call.
+fn parts_of<'a>(item: &Declared<'a>, around: &Around<'a>) -> Group<'a> {
+    let home = item.operations_home();
+    if is_same_name(item.unit, around.unit) && is_same_name(home, around.home) {
+        Group::Members(item.unit, home)
+    } else {
+        Group::Called(item.unit, home)
+    }
+}
+
+// What is named behind a package and a point.
+fn objects_of<'a>(unit: &'a str, around: &Around<'a>) -> Group<'a> {
+    if is_same_name(unit, around.unit) {
+        Group::Objects(unit)
+    } else {
+        Group::Shown(unit)
+    }
+}
+
 // Which part of a name with points isn't there, where its first word is known.
 fn part_of<'a>(words: &Words<'_, 'a>, around: &Around<'a>, known: &Known<'a>) -> Option<Part<'a>> {
     let first = words.word(0);
@@ -59,7 +140,7 @@ fn part_of<'a>(words: &Words<'_, 'a>, around: &Around<'a>, known: &Known<'a>) ->
         return Some(Part {
             behind: 2,
             whole: first,
-            group: Group::Members(item.unit, item.operations_home()),
+            group: parts_of(item, around),
         });
     }
     let part = words.word(2);
@@ -67,12 +148,12 @@ fn part_of<'a>(words: &Words<'_, 'a>, around: &Around<'a>, known: &Known<'a>) ->
         Some(object) => Some(Part {
             behind: 4,
             whole: part,
-            group: Group::Operations(first, object.operations_home()),
+            group: parts_of(object, around),
         }),
         None => Some(Part {
             behind: 2,
             whole: first,
-            group: Group::Objects(first),
+            group: objects_of(first, around),
         }),
     }
 }
@@ -87,6 +168,9 @@ const NOT_KNOWN: &str = "{0} has no {1} that is known here";
 // That a library package, whose whole name stands here, hasn't what stands behind it.
 fn no_item<'a>(words: &Words<'_, 'a>) -> Cause<'a> {
     let last = words.last_part();
+    if let Some(said) = said_of_name(&OTHER, words.word(last)) {
+        return Cause::plain(words.place(last), said);
+    }
     if let Some(library) = library::ends_with(words.word(last.saturating_sub(2))) {
         if library.split('.').count() == last / 2 {
             return Cause::pair(words.place(last), NOT_KNOWN, library, words.word(last));
@@ -154,13 +238,28 @@ fn simple<'a>(
     known: &Known<'a>,
 ) -> Result<Cause<'a>, AllocError> {
     let word = words.word(0);
+    if let Some(said) = said_of_name(&OTHER, word) {
+        return Ok(words.cause(0, said));
+    }
     match near_name(alloc, word, around, known)? {
         "" => nameless(alloc, words),
-        near => Ok(Cause::new(
-            words.place(0),
-            "nothing named {0} is declared; {1} is",
-            [word, near, ""],
-        )),
+        near => {
+            let item = known.meaning(near, around);
+            Ok(near_to(words, near, item))
+        }
+    }
+}
+
+// That nothing of the name is declared that stands here, but something is of one near to it, and where that is.
+fn near_to<'a>(words: &Words<'_, 'a>, near: &'a str, item: Option<&Declared<'a>>) -> Cause<'a> {
+    let at = words.place(0);
+    let word = words.word(0);
+    match item {
+        Some(item) if item.is_own => {
+            let said = "nothing named {0} is declared; {1} is, in line {line}";
+            Cause::pair(at, said, word, near).with_other(item.at)
+        }
+        _ => Cause::pair(at, "nothing named {0} is declared; {1} is", word, near),
     }
 }
 

@@ -66,6 +66,11 @@ impl<'t, 'a> Words<'t, 'a> {
         Words { tokens, here }
     }
 
+    /// The same words, seen from the one that stands so many before.
+    pub fn before(&self, count: usize) -> Words<'t, 'a> {
+        Words::from(self.tokens, self.here.saturating_sub(count))
+    }
+
     /// The word that stands so many behind, from 0; empty where the text ends before.
     pub fn word(&self, count: usize) -> &'a str {
         match self.tokens.get(self.here.saturating_add(count)) {
@@ -90,14 +95,6 @@ impl<'t, 'a> Words<'t, 'a> {
                 Some(token) => token.place,
                 None => 0,
             },
-        }
-    }
-
-    /// The place of the word that stands before; 0 where the text begins here.
-    pub fn place_before(&self) -> usize {
-        match self.tokens.get(self.here.wrapping_sub(1)) {
-            Some(token) => token.place,
-            None => 0,
         }
     }
 

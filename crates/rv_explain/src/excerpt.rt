@@ -52,18 +52,13 @@ impl<'a> Excerpt<'a> {
         1
     }
 
-    // The column behind the last one that is shown.
-    fn end(&self) -> usize {
-        self.column.saturating_add(FROM)
-    }
-
     fn put_line<W: fmt::Write>(&self, f: &mut fmt::Formatter<W>) -> fmt::Result {
         let mut column = 1usize;
         if self.first() > 1 {
             f.write_str("...")?;
         }
         for character in self.spot.line.chars() {
-            if column >= self.end() {
+            if column >= self.column.saturating_add(FROM) {
                 return f.write_str("...");
             }
             if column >= self.first() {

@@ -77,7 +77,7 @@ impl<'a> Stop<'_, 'a> {
         } else {
             "`{1}` is wanted here; `{0}` {2}"
         };
-        Cause::triple(at, said, word, meant.spelling(), deed)
+        Cause::new(at, said, [word, meant.spelling(), deed])
     }
 
     // That a word is missing before one.
@@ -104,7 +104,7 @@ impl<'a> Stop<'_, 'a> {
         let inner = self.name_of(crossed.opener);
         let outer = Words::at(self.tokens, crossed.at).word(0);
         let word = crossed.opener.word.spelling();
-        Cause::triple(crossed.at, said, inner, word, outer).with_other(crossed.opener.at)
+        Cause::new(crossed.at, said, [inner, word, outer]).with_other(crossed.opener.at)
     }
 
     // That a construct has no end.
@@ -150,6 +150,18 @@ impl<'a> Stop<'_, 'a> {
         Cause::pair(self.at, said, self.words.word(0), self.words.back(1))
     }
 
+    // That a word is too many. Before statements in a body, `begin` may be meant to begin a block statement.
+    fn too_many(&self) -> Cause<'a> {
+        let is_block = self.words.kind() == Some(Kind::Begin)
+            && (!self.around.operation.is_empty() || self.around.is_task);
+        let said = if is_block {
+            "`{0}` is a word too many here: there are no block statements (5.6)"
+        } else {
+            "`{0}` is a word too many here"
+        };
+        Cause::of(self.at, said, self.words.word(0))
+    }
+
     /// The cause.
     pub(crate) fn cause(&self, reason: &Reason) -> Cause<'a> {
         if let Some(crossed) = reason.crossed {
@@ -166,11 +178,7 @@ impl<'a> Stop<'_, 'a> {
                 let said = "a statement is missing behind `{0}`; `null;` does nothing";
                 Cause::of(self.at, said, self.words.back(1))
             }
-            Mend::Nothing => Cause::of(
-                self.at,
-                "`{0}` is a word too many here",
-                self.words.word(0),
-            ),
+            Mend::Nothing => self.too_many(),
             Mend::None => self.without_mend(reason.opener),
         }
     }

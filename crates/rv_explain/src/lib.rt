@@ -10,6 +10,7 @@ mod parts;
 mod places;
 pub mod spot;
 mod units;
+mod wanted;
 
 pub use explanation::Explanation;
 pub use finding::explain;

@@ -163,7 +163,7 @@ pub(crate) fn known_before<'a>(
 ) -> Result<Known<'a>, AllocError> {
     let mut known = Known::new(alloc);
     for words in texts {
-        known.add_text(words.as_slice())?;
+        known.add_text(words.as_slice(), false)?;
     }
     add_shapes(alloc, script, line, &mut known)?;
     Ok(known)

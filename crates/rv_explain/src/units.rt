@@ -4,6 +4,7 @@ use crate::explanation::{Explanation, of_part};
 use crate::grammar::Stop;
 use crate::parts::{known_before, texts_before};
 use crate::places::place_of;
+use crate::wanted::wanted_types;
 use rv_cause::around::Around;
 use rv_cause::cases::told;
 use rv_cause::cause::Cause;
@@ -37,11 +38,24 @@ const NO_MEMORY: &str = "memory was refused";
 
 const NOT_ASCII: &str = "characters that aren't ASCII stand in comments only (2.1)";
 
+// The cause of digits with a fraction, where the words before them make it clearer.
+fn of_fraction(alloc: Global, text: &str, at: usize) -> Option<Cause<'_>> {
+    let Ok(front) = tokens(alloc, text.get(..at)?) else {
+        return None;
+    };
+    let words = front.as_slice();
+    let behind = Words::from(words, words.len());
+    lexical::bad_fraction(text, at, &behind)
+}
+
 // The cause of a fault of words.
-fn of_words(text: &str, fault: LexFault) -> Cause<'_> {
+fn of_words(alloc: Global, text: &str, fault: LexFault) -> Cause<'_> {
     match fault {
         LexFault::BadCharacter(at) => lexical::bad_character(text, at),
-        LexFault::BadLiteral(at) => lexical::bad_literal(text, at),
+        LexFault::BadLiteral(at) => match of_fraction(alloc, text, at) {
+            Some(cause) => cause,
+            None => lexical::bad_literal(text, at),
+        },
         LexFault::BadIdentifier(at) => lexical::bad_identifier(text, at),
         LexFault::NotAscii(at) => Cause::plain(at, NOT_ASCII),
         LexFault::NoMemory => Cause::plain(0, NO_MEMORY),
@@ -56,7 +70,7 @@ fn of_grammar<'a>(
     fault: ParseFault,
 ) -> Cause<'a> {
     match fault {
-        ParseFault::Lex(fault) => of_words(text, fault),
+        ParseFault::Lex(fault) => of_words(alloc, text, fault),
         ParseFault::Unexpected(at) => {
             let stop = Stop {
                 tokens: seen.tokens,
@@ -83,7 +97,9 @@ fn said_of_restriction(restriction: Restriction) -> &'static str {
         Restriction::NoSelectStatements => {
             "there is no select statement in the profile Ravenscar (D.7)"
         }
-        Restriction::NoRelativeDelay => "a task delays until a time: write delay until (D.7)",
+        Restriction::NoRelativeDelay => {
+            "a task delays until a time: write delay until Clock + Milliseconds (..) (D.7)"
+        }
         Restriction::NoLocalProtectedObjects => {
             "protected objects are declared in the package or its body, not in a block (D.7)"
         }
@@ -128,7 +144,7 @@ fn of_names<'a>(
     let words = &seen.words;
     match fault {
         NameFault::Unknown(_) => unknown::unknown(alloc, words, &seen.around, seen.known),
-        NameFault::Duplicate(_) => Ok(names::duplicate(words, &seen.around)),
+        NameFault::Duplicate(_) => Ok(names::duplicate(words, &seen.around, seen.known)),
         NameFault::NotVisible(_) => {
             Ok(names::not_visible(seen.tokens, words, &seen.around, seen.known))
         }
@@ -139,10 +155,18 @@ fn of_names<'a>(
 }
 
 // The cause of a fault of types.
-fn of_types<'a>(seen: &Seen<'_, 'a, '_>, fault: TypeFault) -> Result<Cause<'a>, AllocError> {
+fn of_types<'a>(
+    alloc: Global,
+    text: &str,
+    seen: &Seen<'_, 'a, '_>,
+    fault: TypeFault,
+) -> Result<Cause<'a>, AllocError> {
     let words = &seen.words;
     match fault {
-        TypeFault::Mismatch(_) => Ok(types::mismatch(words, &seen.around, seen.known)),
+        TypeFault::Mismatch(_) => {
+            let (operand, whole) = wanted_types(alloc, text, words)?;
+            Ok(types::mismatch(words, &seen.around, seen.known, operand, whole))
+        }
         TypeFault::NotStatic(_) => Ok(types::not_static(words)),
         TypeFault::ConstantWritten(_) => {
             Ok(types::constant_written(words, &seen.around, seen.known))
@@ -223,11 +247,11 @@ fn cause_of<'a>(
     let place = place_of(fault).unwrap_or(package_place(tokens));
     let seen = seen_at(tokens, known, place);
     match fault {
-        UnitFault::Lex(fault) => Ok(of_words(text, fault)),
+        UnitFault::Lex(fault) => Ok(of_words(alloc, text, fault)),
         UnitFault::Parse(fault) => Ok(of_grammar(alloc, text, &seen, fault)),
         UnitFault::Restriction(violation) => of_restriction(alloc, &seen, violation.restriction),
         UnitFault::Names(fault) => of_names(alloc, &seen, fault),
-        UnitFault::Types(fault) => of_types(&seen, fault),
+        UnitFault::Types(fault) => of_types(alloc, text, &seen, fault),
         UnitFault::Shape(fault) => Ok(of_shape(&seen, fault)),
         UnitFault::NoMemory => Ok(Cause::plain(0, NO_MEMORY)),
     }
@@ -242,9 +266,9 @@ fn knows_itself(fault: UnitFault) -> bool {
 }
 
 // The cause of a fault of a text that has no words.
-fn without_words(text: &str, fault: UnitFault) -> Cause<'_> {
+fn without_words(alloc: Global, text: &str, fault: UnitFault) -> Cause<'_> {
     match fault {
-        UnitFault::Lex(fault) => of_words(text, fault),
+        UnitFault::Lex(fault) => of_words(alloc, text, fault),
         _ => Cause::plain(0, NO_MEMORY),
     }
 }
@@ -258,13 +282,13 @@ pub(crate) fn of_unit<'a>(
 ) -> Result<Explanation<'a>, AllocError> {
     let text = unit_text(alloc, part.text)?;
     let Ok(own) = tokens(alloc, text.as_str()) else {
-        let cause = without_words(text.as_str(), fault);
+        let cause = without_words(alloc, text.as_str(), fault);
         return of_part(alloc, part, &cause, &Known::new(alloc));
     };
     let texts = texts_before(alloc, script, part.line)?;
     let mut known = known_before(alloc, script, part.line, texts.as_slice())?;
     if knows_itself(fault) {
-        known.add_text(own.as_slice())?;
+        known.add_text(own.as_slice(), true)?;
     }
     let cause = cause_of(alloc, text.as_str(), own.as_slice(), &known, fault)?;
     of_part(alloc, part, &cause, &known)
