@@ -19,7 +19,7 @@ PAGE = TOP / "docs" / "CLAIMS.md"
 WORDS = frozenset(
     "rt ci full done stopped unattached audit play check append raise exit go in FROM deny allow run UNIT FILE None Ok Err Integer Interrupts "
     "remaining contents".split())
-CRATE = r"\b(rv_\w+|host_rows|thread_rows|embedding|raven\w+)\b"
+CRATE = r"\b(rv_\w+|thread_rows|embedding|raven\w+)\b"
 NAME = re.compile(r"[A-Za-z_]\w*(?:::[A-Za-z_]\w*)*")
 DECLARED_RT = (
     re.compile(r"\b(?:fn|struct|enum|trait|const|static|type|mod)\s+(\w+)"),
@@ -82,7 +82,7 @@ def paragraphs(text: str):
 
 
 def is_file(span: str) -> bool:
-    places = (TOP, CRATES, TOP / "docs", TOP / "bench", CRATES / "rv_rows", CRATES / "host_rows")
+    places = (TOP, CRATES, TOP / "docs", TOP / "bench", CRATES / "rv_rows")
     name = re.sub(r"\bCRATE\b", "*", span.rstrip("/"))
     return any(any(place.glob(name)) for place in places) or any(CRATES.glob(f"*/{name}.antt"))
 
