@@ -1,5 +1,6 @@
 -- What a script opens.
-use Rattle.std.proofs.Common.{◌≡◌, ℕ, Bool, List, [], Ok, inl, sym, ap, subst}
+use Rattle.std.proofs.Common.{◌≡◌, ℕ, Bool, List, [], Ok, Err, IfOk, inl, sym, ap, subst}
+use Rattle.std.specs.Prelude.{Result}
 use Rattle.rv_fault.specs.Sections.{GivesSettings, line_of}
 use Rattle.rv_history.specs.Legal.{empty}
 use Rattle.rv_history.specs.Limits.{limits_with}
@@ -12,7 +13,7 @@ use Rattle.rv_staff.specs.Staffs.{Staffed, no_crew}
 use Rattle.rv_run.specs.Finishing.{Plays, Served}
 use Rattle.rv_run.specs.Preparing.{Prepares}
 use Rattle.rv_port.specs.Controls.{IsControlOf}
-use Rattle.rv_run.specs.Running.{IsPrepared, Opens, Runs}
+use Rattle.rv_run.specs.Running.{HasCapacity, IsPrepared, Opens, Runs}
 
 pub is_prepared : (script : OpenedText) (settings : SettingsText) (first control : Passing) (staff : Staffed)
     → IsControlOf (empty (limits_with settings.capacity settings.queue_limit)) first
@@ -34,6 +35,20 @@ opens bytes text script settings staff same is are prepared = record {
   are_settings = are;
   prepared = prepared;
 }
+
+pub has_capacity : (bytes text : List ℕ) (script : OpenedText) (settings : SettingsText) (capacity : ℕ) → text ≡ bytes → opened text ≡ Ok script
+    → GivesSettings script.settings (Ok settings) → capacity ≡ settings.capacity → HasCapacity bytes capacity
+has_capacity bytes text script settings capacity same is are long = record {
+  script = script;
+  is_script = subst (λ (t : List ℕ). opened t ≡ Ok script) same is;
+  settings = settings;
+  are_settings = are;
+  is_capacity = long;
+}
+
+pub if_ok : {X E : Type 0} (result : Result X E) (P Q : X → Type 0) → ((x : X) → P x → Q x) → IfOk result P → IfOk result Q
+if_ok (Ok x) P Q map fact = map x fact
+if_ok (Err error) P Q map fact = tt
 
 -- what comes behind a script that was opened without a word
 pub runs_on : (remaining old new errors errors' : Known) (result : Served) (bytes slice : List ℕ) (runs : Bool) (first input : Reading) (left silent : Known) (staff : Staffed)

@@ -28,6 +28,14 @@ pub record Opens (bytes : List ℕ) (staff : Staffed) : Type 0 where
   pub are_settings : GivesSettings script.settings (Ok settings)
   pub prepared : IsPrepared script settings staff
 
+-- so many entries may the journal of a script have, by its settings
+pub record HasCapacity (bytes : List ℕ) (capacity : ℕ) : Type 0 where
+  pub script : OpenedText
+  pub is_script : opened bytes ≡ Ok script
+  pub settings : SettingsText
+  pub are_settings : GivesSettings script.settings (Ok settings)
+  pub is_capacity : capacity ≡ settings.capacity
+
 -- What stands before the line `@run` is a script, which is carried out without a word. Then threads are started, the lines that
 -- come are served as commands, the host is halted, its threads are joined, and what it leaves is said.
 pub record RunsOn (remaining old new errors errors' : Known) (result : Served) : Type 0 where

@@ -1,19 +1,32 @@
-use Rattle.std.proofs.Common.{◌∙◌}
+use Rattle.std.proofs.Common.{◌∙◌, refl, sym, ap, subst}
+use Rattle.rv_feed.specs.Hearing.{HearsOn, heard}
+use Rattle.rv_feed.specs.declared.pair.Feed.{Feed}
 use Rattle.rv_attend.proofs.Chores.{chores_on}
+use Rattle.rv_attend.proofs.GoingOn.{caught_up}
 use Rattle.rv_attend.proofs.waiting.wait_caught_up.Goals as goal
 
 pub returns-in-Ok-clause-tends : goal.returns-in-Ok-clause-tends
 returns-in-Ok-clause-tends g c = (
-  λ opened kept. c.in-Ok.ensures.0 opened (c.in-Ok-On.ensures.tends.0 opened kept),
-  chores_on _ _ _ c.wait_command.ensures.tends.1 c.do_chores.ensures.1,
-  c.do_chores.ensures.2 ∙ c.wait_command.ensures.tends.2,
-  c.do_chores.ensures.3 ∙ c.wait_command.ensures.tends.3,
+  λ opened kept. c.in-Ok.ensures.tends.0 opened (c.in-Ok-On.ensures.tends.0 opened kept),
+  chores_on _ _ _ c.wait_command.ensures.tends.1 c.do_chores.ensures.tends.1,
+  c.do_chores.ensures.tends.2 ∙ c.wait_command.ensures.tends.2,
+  c.do_chores.ensures.tends.3 ∙ c.wait_command.ensures.tends.3,
 )
+
+pub returns-in-Ok-clause-hears : goal.returns-in-Ok-clause-hears
+returns-in-Ok-clause-hears g c =
+    subst (λ (f : Feed). HearsOn (heard c.args.follower.now.source.feed) (heard f) c.args.input.now c.wait_command.new.input) (sym c.do_chores.ensures.feed)
+    c.in-Ok-On.ensures.hears
+
+pub returns-in-Ok-clause-goes : goal.returns-in-Ok-clause-goes
+returns-in-Ok-clause-goes g c =
+    caught_up _ _ _ _ (heard c.wait_command.new.follower.source.feed) _ _ c.in-Ok.round.goes c.wait_command.ensures.tends.1 (ap heard c.do_chores.ensures.feed)
+    c.in-Ok-On.ensures.goes c.in-Ok.ensures.ends
 
 pub returns-in-Err-clause-tends : goal.returns-in-Err-clause-tends
 returns-in-Err-clause-tends g c = (
-  λ opened kept. c.in-Err.ensures.0 opened (c.in-Ok-On.ensures.tends.0 opened kept),
-  chores_on _ _ _ c.wait_command.ensures.tends.1 c.do_chores.ensures.1,
-  c.do_chores.ensures.2 ∙ c.wait_command.ensures.tends.2,
-  c.do_chores.ensures.3 ∙ c.wait_command.ensures.tends.3,
+  λ opened kept. c.in-Err.ensures.tends.0 opened (c.in-Ok-On.ensures.tends.0 opened kept),
+  chores_on _ _ _ c.wait_command.ensures.tends.1 c.do_chores.ensures.tends.1,
+  c.do_chores.ensures.tends.2 ∙ c.wait_command.ensures.tends.2,
+  c.do_chores.ensures.tends.3 ∙ c.wait_command.ensures.tends.3,
 )

@@ -1,46 +1,71 @@
-use Rattle.std.proofs.Common.{◌∙◌, refl}
+use Rattle.std.proofs.Common.{◌∙◌, inl, refl, sym, ap, subst, rules}
+use Rattle.rv_feed.specs.Hearing.{HearsOn, heard}
+use Rattle.rv_feed.specs.declared.pair.Feed.{Feed}
+use Rattle.rv_feed.proofs.Heard.{hears_none, hears_on}
+use Rattle.rv_input.specs.Whole.{HasCommand}
+use Rattle.rv_run.specs.declared.command.Goes.TheVariants.{On}
 use Rattle.rv_attend.proofs.Attended.{grows_on, grows_same}
 use Rattle.rv_attend.proofs.Chores.{chores_on, no_chores}
+use Rattle.rv_attend.proofs.GoingOn.{goes_after, goes_unless}
 use Rattle.rv_attend.proofs.waiting.wait_command.Goals as goal
 
 pub returns-then-has_command-clause-tends : goal.returns-then-has_command-clause-tends
 returns-then-has_command-clause-tends g c = (λ opened kept. kept, no_chores _ _ refl, refl, refl)
 
-pub returns-then-has_command-clause-heard : goal.returns-then-has_command-clause-heard
-returns-then-has_command-clause-heard g c = grows_same _ _ refl
+pub returns-then-has_command-clause-grows : goal.returns-then-has_command-clause-grows
+returns-then-has_command-clause-grows g c = grows_same _ _ refl
+
+pub returns-then-has_command-clause-hears : goal.returns-then-has_command-clause-hears
+returns-then-has_command-clause-hears g c = hears_none _ _ _ _ (ap heard c.unless_stopped.ensures.feed) refl
+
+pub returns-then-has_command-clause-goes : goal.returns-then-has_command-clause-goes
+returns-then-has_command-clause-goes g c =
+    let has : HasCommand c.args.input.now = search rules in
+    goes_unless _ _ _ _ _ _ On c.unless_stopped.result c.unless_stopped.ensures.goes (inl has)
 
 pub loop-init : goal.loop-init
-loop-init g c = ((λ opened kept. kept, no_chores _ _ refl, refl, refl), grows_same _ _ refl)
+loop-init g c = record { tends = (λ opened kept. kept, no_chores _ _ refl, refl, refl); grows = grows_same _ _ refl; hears = hears_none _ _ _ _ refl refl }
 
 pub loop-preserved : goal.loop-preserved
-loop-preserved g c = (
-  (
-    λ opened kept. c.in-Ok-None.ensures.tends.0 opened (c.loop.invariant.0.0 opened kept),
-    chores_on _ _ _ c.loop.invariant.0.1 c.wait_once.ensures.tends.1,
-    c.wait_once.ensures.tends.2 ∙ c.loop.invariant.0.2,
-    c.wait_once.ensures.tends.3 ∙ c.loop.invariant.0.3,
-  ),
-  grows_on _ _ _ c.loop.invariant.1 c.wait_once.ensures.heard,
-)
+loop-preserved g c = record {
+  tends = (
+    λ opened kept. c.in-Ok-None.ensures.tends.0 opened (c.loop.invariant.tends.0 opened kept),
+    chores_on _ _ _ c.loop.invariant.tends.1 c.wait_once.ensures.tends.1,
+    c.wait_once.ensures.tends.2 ∙ c.loop.invariant.tends.2,
+    c.wait_once.ensures.tends.3 ∙ c.loop.invariant.tends.3,
+  );
+  grows = grows_on _ _ _ c.loop.invariant.grows c.wait_once.ensures.grows;
+  hears = hears_on _ _ _ _ _ _ c.loop.invariant.hears c.in-Ok-None.ensures.hears;
+}
 
 pub returns-in-Ok-Some-clause-tends : goal.returns-in-Ok-Some-clause-tends
 returns-in-Ok-Some-clause-tends g c = (
-  λ opened kept. c.in-Ok-Some.ensures.tends.0 opened (c.loop.invariant.0.0 opened kept),
-  chores_on _ _ _ c.loop.invariant.0.1 c.wait_once.ensures.tends.1,
-  c.wait_once.ensures.tends.2 ∙ c.loop.invariant.0.2,
-  c.wait_once.ensures.tends.3 ∙ c.loop.invariant.0.3,
+  λ opened kept. c.in-Ok-Some.ensures.tends.0 opened (c.loop.invariant.tends.0 opened kept),
+  chores_on _ _ _ c.loop.invariant.tends.1 c.wait_once.ensures.tends.1,
+  c.wait_once.ensures.tends.2 ∙ c.loop.invariant.tends.2,
+  c.wait_once.ensures.tends.3 ∙ c.loop.invariant.tends.3,
 )
 
-pub returns-in-Ok-Some-clause-heard : goal.returns-in-Ok-Some-clause-heard
-returns-in-Ok-Some-clause-heard g c = grows_on _ _ _ c.loop.invariant.1 c.wait_once.ensures.heard
+pub returns-in-Ok-Some-clause-grows : goal.returns-in-Ok-Some-clause-grows
+returns-in-Ok-Some-clause-grows g c = grows_on _ _ _ c.loop.invariant.grows c.wait_once.ensures.grows
+
+pub returns-in-Ok-Some-clause-hears : goal.returns-in-Ok-Some-clause-hears
+returns-in-Ok-Some-clause-hears g c =
+    subst (λ (f : Feed). HearsOn (heard c.args.follower.now.source.feed) (heard f) c.args.input.now c.wait_once.new.input) (sym c.unless_stopped-in-Ok-Some.ensures.feed)
+    (hears_on _ _ _ _ _ _ c.loop.invariant.hears c.in-Ok-Some.ensures.hears)
+
+pub returns-in-Ok-Some-clause-goes : goal.returns-in-Ok-Some-clause-goes
+returns-in-Ok-Some-clause-goes g c =
+    goes_unless _ _ _ _ _ _ c.in-Ok-Some.goes c.unless_stopped-in-Ok-Some.result c.unless_stopped-in-Ok-Some.ensures.goes
+    (goes_after _ _ _ _ _ _ c.in-Ok-Some.goes c.loop.invariant.tends.1 c.in-Ok-Some.ensures.goes)
 
 pub returns-in-Err-clause-tends : goal.returns-in-Err-clause-tends
 returns-in-Err-clause-tends g c = (
-  λ opened kept. c.in-Err.ensures.tends.0 opened (c.loop.invariant.0.0 opened kept),
-  chores_on _ _ _ c.loop.invariant.0.1 c.wait_once.ensures.tends.1,
-  c.wait_once.ensures.tends.2 ∙ c.loop.invariant.0.2,
-  c.wait_once.ensures.tends.3 ∙ c.loop.invariant.0.3,
+  λ opened kept. c.in-Err.ensures.tends.0 opened (c.loop.invariant.tends.0 opened kept),
+  chores_on _ _ _ c.loop.invariant.tends.1 c.wait_once.ensures.tends.1,
+  c.wait_once.ensures.tends.2 ∙ c.loop.invariant.tends.2,
+  c.wait_once.ensures.tends.3 ∙ c.loop.invariant.tends.3,
 )
 
-pub returns-in-Err-clause-heard : goal.returns-in-Err-clause-heard
-returns-in-Err-clause-heard g c = grows_on _ _ _ c.loop.invariant.1 c.wait_once.ensures.heard
+pub returns-in-Err-clause-grows : goal.returns-in-Err-clause-grows
+returns-in-Err-clause-grows g c = grows_on _ _ _ c.loop.invariant.grows c.wait_once.ensures.grows
