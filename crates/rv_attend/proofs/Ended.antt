@@ -1,12 +1,19 @@
 -- An attended run, from its first threads to the end of its file.
 use Rattle.std.proofs.Common.{◌≡◌, ℕ, Bool, List, [], Option, Some, Ok, Err, IfOk, inl, inr, refl, sym, ap, subst}
 use Rattle.rv_follow.specs.Following.{ClosesFile, IsKept}
+use Rattle.rv_feed.specs.declared.piece.Piece.{Piece}
 use Rattle.rv_history.specs.History.{History}
+use Rattle.rv_input.specs.Coming.{Reading}
 use Rattle.rv_keep.specs.Keeping.{Known}
 use Rattle.rv_run.specs.Beside.{Ended, Moment}
 use Rattle.rv_run.specs.FinishingBeside.{CountsWith, FinishesWith, PlaysWith, UnclosedWith}
+use Rattle.rv_run.specs.Running.{OpensFor}
+use Rattle.rv_staff.specs.Staffs.{Staffed}
+use Rattle.rv_attend.specs.Attending.{come, point}
+use Rattle.rv_attend.specs.Going.{terms}
 use Rattle.rv_attend.specs.Holding.{Holding, attended, point_of}
-use Rattle.rv_attend.specs.KeepingRuns.{EndsKept, KeepsFrom, LeavesKept, Stands, around}
+use Rattle.rv_attend.specs.KeepingRuns.{Around, EndsKept, KeepsFrom, LeavesKept, RunsKept, Stands, TakesSections, around}
+use Rattle.rv_attend.specs.declared.attention.Attention.{Attention}
 use Rattle.rv_attend.proofs.Keeping.{leaves_by, leaving_by, whole_closes}
 use Rattle.rv_attend.proofs.Lasted.{goes_last}
 use Rattle.rv_attend.proofs.Served.{goes_attended}
@@ -67,4 +74,22 @@ keeps_from holds opened runs m chores written errors result plays unread kept =
       ends = ends holds opened plays.last chores written errors plays.served result plays.finishes (lasts.0 opened kept);
       heard = same.0;
       told = same.1;
+    }
+
+-- the settings of a script say how many entries its journal may have
+pub runs_kept : (old new : Around) (asked : Attention) (input rest : Reading) (result : Ended) (bytes slice : List ℕ) (runs : Bool) (heard : List Piece)
+    (told : Option (List Piece)) (first : Staffed) (capacity : ℕ) → slice ≡ bytes → OpensFor slice first capacity → TakesSections old.heard heard told input rest bytes runs
+    → KeepsFrom old.file (terms asked capacity) runs (point (come first old.written rest) heard told) new result → RunsKept old new asked input result
+runs_kept old new asked input rest result bytes slice runs heard told first capacity same opened takes keeps =
+    let opens : OpensFor bytes first capacity = subst (λ (b : List ℕ). OpensFor b first capacity) same opened in
+    record {
+      bytes = bytes;
+      runs = runs;
+      rest = rest;
+      heard = heard;
+      told = told;
+      takes = takes;
+      first = first;
+      opens = opens.0;
+      keeps = subst (λ (n : ℕ). KeepsFrom old.file (terms asked n) runs (point (come first old.written rest) heard told) new result) opens.1 keeps;
     }

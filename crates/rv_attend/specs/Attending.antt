@@ -67,7 +67,7 @@ pub record EndsOut (terms : Terms) (first last : Point) : Type 0 where
   pub hears : HearsOn first.heard last.heard first.stage.input last.stage.input
   pub why : HaltIsDue terms (entries_seen last.stage.staff.control) first.stage.staff.control last.stage.staff.control ⊎ IsStopped last.told
 
--- it ends, or memory or the system fails
+-- it ends; or it fails, of which no more is said
 abbrev pub EndsFor : Terms → Point → Point → Result Goes KeptFailure → Type 0
 EndsFor terms first last (Ok On) = ⊥
 EndsFor terms first last (Ok Out) = EndsOut terms first last

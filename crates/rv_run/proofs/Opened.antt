@@ -13,7 +13,7 @@ use Rattle.rv_staff.specs.Staffs.{Staffed, no_crew}
 use Rattle.rv_run.specs.Finishing.{Plays, Served}
 use Rattle.rv_run.specs.Preparing.{Prepares}
 use Rattle.rv_port.specs.Controls.{IsControlOf}
-use Rattle.rv_run.specs.Running.{HasCapacity, IsPrepared, Opens, Runs}
+use Rattle.rv_run.specs.Running.{IsPrepared, Opens, OpensFor, Runs}
 
 pub is_prepared : (script : OpenedText) (settings : SettingsText) (first control : Passing) (staff : Staffed)
     → IsControlOf (empty (limits_with settings.capacity settings.queue_limit)) first
@@ -26,7 +26,7 @@ is_prepared script settings first control staff begins prepared is = record {
   alone = ap (λ (s : Staffed). s.crew) is;
 }
 
-pub opens : (bytes text : List ℕ) (script : OpenedText) (settings : SettingsText) (staff : Staffed) → text ≡ bytes → opened text ≡ Ok script
+opens : (bytes text : List ℕ) (script : OpenedText) (settings : SettingsText) (staff : Staffed) → text ≡ bytes → opened text ≡ Ok script
     → GivesSettings script.settings (Ok settings) → IsPrepared script settings staff → Opens bytes staff
 opens bytes text script settings staff same is are prepared = record {
   script = script;
@@ -36,19 +36,13 @@ opens bytes text script settings staff same is are prepared = record {
   prepared = prepared;
 }
 
-pub has_capacity : (bytes text : List ℕ) (script : OpenedText) (settings : SettingsText) (capacity : ℕ) → text ≡ bytes → opened text ≡ Ok script
-    → GivesSettings script.settings (Ok settings) → capacity ≡ settings.capacity → HasCapacity bytes capacity
-has_capacity bytes text script settings capacity same is are long = record {
-  script = script;
-  is_script = subst (λ (t : List ℕ). opened t ≡ Ok script) same is;
-  settings = settings;
-  are_settings = are;
-  is_capacity = long;
-}
+pub opens_for : (bytes text : List ℕ) (script : OpenedText) (settings : SettingsText) (staff : Staffed) (capacity : ℕ) → text ≡ bytes → opened text ≡ Ok script
+    → GivesSettings script.settings (Ok settings) → IsPrepared script settings staff → capacity ≡ settings.capacity → OpensFor bytes staff capacity
+opens_for bytes text script settings staff capacity same is are prepared long = (opens bytes text script settings staff same is are prepared, long)
 
-pub if_ok : {X E : Type 0} (result : Result X E) (P Q : X → Type 0) → ((x : X) → P x → Q x) → IfOk result P → IfOk result Q
-if_ok (Ok x) P Q map fact = map x fact
-if_ok (Err error) P Q map fact = tt
+pub both_ok : {X E : Type 0} (result : Result X E) (P Q R : X → Type 0) → ((x : X) → P x → Q x → R x) → IfOk result P → IfOk result Q → IfOk result R
+both_ok (Ok x) P Q R join first second = join x first second
+both_ok (Err error) P Q R join first second = tt
 
 -- what comes behind a script that was opened without a word
 pub runs_on : (remaining old new errors errors' : Known) (result : Served) (bytes slice : List ℕ) (runs : Bool) (first input : Reading) (left silent : Known) (staff : Staffed)

@@ -28,13 +28,9 @@ pub record Opens (bytes : List ℕ) (staff : Staffed) : Type 0 where
   pub are_settings : GivesSettings script.settings (Ok settings)
   pub prepared : IsPrepared script settings staff
 
--- so many entries may the journal of a script have, by its settings
-pub record HasCapacity (bytes : List ℕ) (capacity : ℕ) : Type 0 where
-  pub script : OpenedText
-  pub is_script : opened bytes ≡ Ok script
-  pub settings : SettingsText
-  pub are_settings : GivesSettings script.settings (Ok settings)
-  pub is_capacity : capacity ≡ settings.capacity
+-- the same, and the journal may have so many entries as its settings say
+abbrev pub OpensFor : List ℕ → Staffed → ℕ → Type 0
+OpensFor bytes staff capacity = (opens : Opens bytes staff) × (capacity ≡ opens.settings.capacity)
 
 -- What stands before the line `@run` is a script, which is carried out without a word. Then threads are started, the lines that
 -- come are served as commands, the host is halted, its threads are joined, and what it leaves is said.
