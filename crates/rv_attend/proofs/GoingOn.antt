@@ -63,15 +63,15 @@ denies_none v place = (Ok OutOfMemory, inr (refl, refl))
 
 pub halt_after : (terms : Terms) (used : ℕ) (v u w : Passing) → Chores v u → HaltIsDue terms used u w → HaltIsDue terms used v w
 halt_after terms used v u w first (inl low) = inl low
-halt_after terms used v u w first (inr no) = inr record {
-  quota = no.quota;
-  is_quota = no.is_quota;
-  before = no.before;
-  chores = chores_on v u no.before first no.chores;
-  place = no.place;
-  answer = no.answer;
-  denies = no.denies;
-  ends = no.ends;
+halt_after terms used v u w first (inr cannot) = inr record {
+  quota = cannot.quota;
+  is_quota = cannot.is_quota;
+  before = cannot.before;
+  chores = chores_on v u cannot.before first cannot.chores;
+  place = cannot.place;
+  answer = cannot.answer;
+  denies = cannot.denies;
+  ends = cannot.ends;
 }
 
 pub halt_as : (asked : Attention) (capacity capacity' used used' : ℕ) (v w : Passing) → capacity' ≡ capacity → used ≡ used' → HaltIsDue (terms asked capacity) used v w
@@ -95,7 +95,7 @@ seen_long opened now v next (inr since) =
 -- what was written of a journal is no more than the operator has seen of it
 pub halt_seen : (terms : Terms) (opened now : Known) (v w : Passing) (next : ℕ) → IsKept opened now w next → HaltIsDue terms (next - 1) v w → HaltIsDue terms (entries_seen w) v w
 halt_seen terms opened now v w next kept (inl low) = inl (less_room terms.asked.halt_below terms.capacity (next - 1) (entries_seen w) (seen_long opened now w next kept) low)
-halt_seen terms opened now v w next kept (inr no) = inr no
+halt_seen terms opened now v w next kept (inr cannot) = inr cannot
 
 -- The input
 
@@ -134,15 +134,16 @@ goes_after s u t input heard told On first comes = comes
 goes_after s u t input heard told Out first (inl due) = inl (halt_after t.terms (t.next - 1) s.staff.control u.staff.control t.staff.control first due)
 goes_after s u t input heard told Out first (inr stopped) = inr stopped
 
-pub goes_unless : (s t : State) (input : Reading) (heard : List Piece) (told told' : Option (List Piece)) (goes result : Goes) → UnlessStopped told told' goes result
-    → GoesFor s t input heard told goes → GoesFor s t input heard told' result
-goes_unless s t input heard told told' On On stops comes = comes
-goes_unless s t input heard told told' On Out stops comes = inr stops
-goes_unless s t input heard told told' Out result (same, is) ends = subst (λ (g : Goes). GoesFor s t input heard told' g) (sym is) (by_why ends)
+-- behind a look at the pipe that ends it
+pub goes_unless : (s t : State) (input : Reading) (heard heard' : List Piece) (told told' : Option (List Piece)) (goes result : Goes) → heard' ≡ heard
+    → UnlessStopped told told' goes result → GoesFor s t input heard told goes → GoesFor s t input heard' told' result
+goes_unless s t input heard heard' told told' On On same stops comes = subst (λ (h : List Piece). CommandComes h input) (sym same) comes
+goes_unless s t input heard heard' told told' On Out same stops comes = inr stops
+goes_unless s t input heard heard' told told' Out result same (still, is) ends = subst (λ (g : Goes). GoesFor s t input heard' told' g) (sym is) (by_why ends)
   where
     by_why : Halts s t ⊎ IsStopped told → Halts s t ⊎ IsStopped told'
     by_why (inl due) = inl due
-    by_why (inr stopped) = inr (subst (λ (o : Option (List Piece)). IsStopped o) (sym same) stopped)
+    by_why (inr stopped) = inr (subst (λ (o : Option (List Piece)). IsStopped o) (sym still) stopped)
 
 -- the end of a round ends the run where a halt is due, or it was ended from outside
 pub ends_by : (Halts : Type 0) (told told' : Option (List Piece)) (round goes : Goes) (result : Option Goes) → (round ≡ Out → Halts) → UnlessStopped told told' round goes

@@ -26,19 +26,18 @@ is_prepared script settings first control staff begins prepared is = record {
   alone = ap (λ (s : Staffed). s.crew) is;
 }
 
-opens : (bytes text : List ℕ) (script : OpenedText) (settings : SettingsText) (staff : Staffed) → text ≡ bytes → opened text ≡ Ok script
-    → GivesSettings script.settings (Ok settings) → IsPrepared script settings staff → Opens bytes staff
-opens bytes text script settings staff same is are prepared = record {
-  script = script;
-  is_script = subst (λ (t : List ℕ). opened t ≡ Ok script) same is;
-  settings = settings;
-  are_settings = are;
-  prepared = prepared;
-}
-
 pub opens_for : (bytes text : List ℕ) (script : OpenedText) (settings : SettingsText) (staff : Staffed) (capacity : ℕ) → text ≡ bytes → opened text ≡ Ok script
     → GivesSettings script.settings (Ok settings) → IsPrepared script settings staff → capacity ≡ settings.capacity → OpensFor bytes staff capacity
-opens_for bytes text script settings staff capacity same is are prepared long = (opens bytes text script settings staff same is are prepared, long)
+opens_for bytes text script settings staff capacity same is are prepared long = (
+  record {
+    script = script;
+    is_script = subst (λ (t : List ℕ). opened t ≡ Ok script) same is;
+    settings = settings;
+    are_settings = are;
+    prepared = prepared;
+  },
+  long,
+)
 
 pub both_ok : {X E : Type 0} (result : Result X E) (P Q R : X → Type 0) → ((x : X) → P x → Q x → R x) → IfOk result P → IfOk result Q → IfOk result R
 both_ok (Ok x) P Q R join first second = join x first second

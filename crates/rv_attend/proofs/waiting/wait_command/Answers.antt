@@ -21,7 +21,7 @@ returns-then-has_command-clause-hears g c = hears_none _ _ _ _ (ap heard c.unles
 pub returns-then-has_command-clause-goes : goal.returns-then-has_command-clause-goes
 returns-then-has_command-clause-goes g c =
     let has : HasCommand c.args.input.now = search rules in
-    goes_unless _ _ _ _ _ _ On c.unless_stopped.result c.unless_stopped.ensures.goes (inl has)
+    goes_unless _ _ _ _ _ _ _ On c.unless_stopped.result (ap heard c.unless_stopped.ensures.feed) c.unless_stopped.ensures.goes (inl has)
 
 pub loop-init : goal.loop-init
 loop-init g c = record { tends = (λ opened kept. kept, no_chores _ _ refl, refl, refl); grows = grows_same _ _ refl; hears = hears_none _ _ _ _ refl refl }
@@ -56,7 +56,8 @@ returns-in-Ok-Some-clause-hears g c =
 
 pub returns-in-Ok-Some-clause-goes : goal.returns-in-Ok-Some-clause-goes
 returns-in-Ok-Some-clause-goes g c =
-    goes_unless _ _ _ _ _ _ c.in-Ok-Some.goes c.unless_stopped-in-Ok-Some.result c.unless_stopped-in-Ok-Some.ensures.goes
+    goes_unless _ _ _ _ _ _ _ c.in-Ok-Some.goes c.unless_stopped-in-Ok-Some.result (ap heard c.unless_stopped-in-Ok-Some.ensures.feed)
+    c.unless_stopped-in-Ok-Some.ensures.goes
     (goes_after _ _ _ _ _ _ c.in-Ok-Some.goes c.loop.invariant.tends.1 c.in-Ok-Some.ensures.goes)
 
 pub returns-in-Err-clause-tends : goal.returns-in-Err-clause-tends
