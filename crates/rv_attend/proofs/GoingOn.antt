@@ -145,6 +145,12 @@ goes_unless s t input heard heard' told told' Out result same (still, is) ends =
     by_why (inl due) = inl due
     by_why (inr stopped) = inr (subst (λ (o : Option (List Piece)). IsStopped o) (sym still) stopped)
 
+-- a command that has come is served, unless the run was ended
+pub goes_with : (s t : State) (input : Reading) (heard : List Piece) (told told' : Option (List Piece)) (result : Goes) → UnlessStopped told told' On result → HasCommand input
+    → GoesFor s t input heard told' result
+goes_with s t input heard told told' On stops has = inl has
+goes_with s t input heard told told' Out stops has = inr stops
+
 -- the end of a round ends the run where a halt is due, or it was ended from outside
 pub ends_by : (Halts : Type 0) (told told' : Option (List Piece)) (round goes : Goes) (result : Option Goes) → (round ≡ Out → Halts) → UnlessStopped told told' round goes
     → IfSome result (λ ends. (ends ≡ Out) × (goes ≡ Out)) → IfSome result (λ ends. (ends ≡ Out) × (Halts ⊎ IsStopped told'))

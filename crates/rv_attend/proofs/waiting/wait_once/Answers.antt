@@ -1,11 +1,11 @@
-use Rattle.std.proofs.Common.{refl, sym, subst}
+use Rattle.std.proofs.Common.{sym, subst}
 use Rattle.rv_feed.specs.Hearing.{HearsOn, heard}
 use Rattle.rv_feed.specs.declared.pair.Feed.{Feed}
 use Rattle.rv_attend.proofs.GoingOn.{any_ok, goes_out, if_ok}
 use Rattle.rv_attend.proofs.waiting.wait_once.Goals as goal
 
 pub returns-in-Ok-Command-clause-goes : goal.returns-in-Ok-Command-clause-goes
-returns-in-Ok-Command-clause-goes g c = c.in-Ok-Command.ensures.comes refl
+returns-in-Ok-Command-clause-goes g c = c.in-Ok-Command.ensures.comes c.in-Ok-Command.field-0-is
 
 pub returns-in-Ok-clause-hears : goal.returns-in-Ok-clause-hears
 returns-in-Ok-clause-hears g c =
