@@ -9,6 +9,7 @@ use crate::list::AccessList;
 use rv_text::{is_dotted_name, is_same_name};
 
 /// Whether the word of a line is `*` or the name, case ignored (2.3).
+#[inline(always)]
 pub fn fits(word: &str, name: &str) -> bool
     ensures { result ≡ fits word.now name.now }
 {
@@ -16,6 +17,7 @@ pub fn fits(word: &str, name: &str) -> bool
 }
 
 /// Whether the word of a line is `*` or `unit.object`, case ignored (2.3).
+#[inline(always)]
 pub fn fits_object(word: &str, unit: &str, object: &str) -> bool
     ensures { result ≡ fits word.now (dotted unit.now object.now) }
 {

@@ -51,8 +51,17 @@ pub struct ObjectBodies {
 
 /// The bodies of a unit, in the order of the numbers of its objects, protected and suspension together, and of its
 /// tasks. In a unit without a text no operation and no task has a body.
-#[derive(Drop)]
 pub struct UnitBodies {
     pub objects: Vec<ObjectBodies>,
     pub tasks: Vec<Option<Body>>,
+}
+
+impl Drop for UnitBodies {
+    // A function of its own: a derived one is written out wherever bodies are let go, and proved there.
+    fn drop(self) {
+        let UnitBodies {
+            objects: _,
+            tasks: _,
+        } = self;
+    }
 }

@@ -70,7 +70,6 @@ impl Drop for Crew {
 }
 
 /// What a crew leaves when it is closed.
-#[derive(Drop)]
 pub struct Closed {
     /// The host, with all that was done.
     pub host: Host,
@@ -81,10 +80,30 @@ pub struct Closed {
 }
 
 /// A crew that wasn't closed for want of memory, with its control.
-#[derive(Drop)]
 pub struct StillOpen {
     pub crew: Crew,
     pub control: Control,
+}
+
+impl Drop for Closed {
+    // A function of its own, as a crew's.
+    fn drop(self) {
+        let Closed {
+            host: _,
+            finished: _,
+            lost: _,
+        } = self;
+    }
+}
+
+impl Drop for StillOpen {
+    // A function of its own, as a crew's.
+    fn drop(self) {
+        let StillOpen {
+            crew: _,
+            control: _,
+        } = self;
+    }
 }
 
 // Runs a job on a port in a thread of its own, whose stack holds the deepest bodies. None where that is refused, or there is

@@ -48,10 +48,16 @@ impl SharedUnit {
 
 /// The bodies of the units in the order of their loads, so that objects and tasks have the numbers that the catalogue
 /// gives them.
-#[derive(Drop)]
 pub struct Bodies {
     alloc: Global,
     units: Vec<SharedUnit>,
+}
+
+impl Drop for Bodies {
+    // A function of its own, as that of the bodies of a unit.
+    fn drop(self) {
+        let Bodies { alloc: _, units: _ } = self;
+    }
 }
 
 impl Bodies {

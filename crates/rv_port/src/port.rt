@@ -33,7 +33,6 @@ use std::sync::{Arc, Wait};
 /// The right to perform one actor's requests: calls of operations, waits, and, for a line, fires.
 /// It goes from thread to thread as a value, and can't be copied. Contracts see what its pass
 /// knows, and whether a body was ever left alone.
-#[derive(Drop)]
 pub struct Port {
     pub(crate) asker: Asker,
 }
@@ -53,8 +52,14 @@ impl Model for Port {
     ghost invariant = { λ p. ExplainedUnless p.asker.is_refused p.asker.pass };
 }
 
+impl Drop for Port {
+    // A function of its own: a derived one is written out wherever a port is let go, and proved there.
+    fn drop(self) {
+        let Port { asker: _ } = self;
+    }
+}
+
 /// A port that is done. Contracts see of it what they saw of the port.
-#[derive(Drop)]
 pub struct Finished {
     pub(crate) pass: Pass<Behind>,
     is_refused: bool,
@@ -78,7 +83,29 @@ impl Model for Finished {
     ghost invariant = { λ f. (f.pass.first ≡ false) × (is_some f.pass.about ≡ true) × (f.pass.base ≡ []) × (mine by f.pass.actor f.pass.seen ≡ f.pass.own) × ExplainedUnless f.is_refused f.pass };
 }
 
+impl Drop for Finished {
+    // A function of its own, as a port's.
+    fn drop(self) {
+        let Finished {
+            pass: _,
+            is_refused: _,
+        } = self;
+    }
+}
+
 impl Finished {
+    // Its pass, which is no first one and began with nothing of its own.
+    pub(crate) fn into_pass(self) -> Pass<Behind>
+        ensures same { result ≡ pass_of self }
+        ensures given { (result.first ≡ false) × (result.base ≡ []) }
+    {
+        let Finished {
+            pass,
+            is_refused: _,
+        } = self;
+        pass
+    }
+
     /// Whose port it was.
     pub fn actor(&self) -> u64
         ensures { result ≡ self.now.actor }

@@ -30,8 +30,7 @@ fn take_passes(passes: &mut Vec<Pass<Behind>>, mut finished: Vec<Finished>)
     ensures given { Each (λ p. (p.first ≡ false) × (p.base ≡ [])) passes.new.items }
 {
     while let Some(done) = finished.pop() {
-        let Finished { pass, .. } = done;
-        passes.push_reserved(pass);
+        passes.push_reserved(done.into_pass());
     }
 }
 
