@@ -46,6 +46,7 @@ AreRuns u budget heard runs = All (IsRun u budget heard) runs
 abbrev pub IsOf : ℕ → Text → List Run → ℕ → Type 0
 IsOf actor text runs place = (default : Run) → ((get_or runs place default).actor ≡ actor) × ((get_or runs place default).text ≡ text)
 
--- the machines run the bodies that are loaded
-abbrev pub IsKept : UnitBodies → ℕ → List Heard → Running → Type 0
-IsKept bodies budget heard r = ∥ flat_view r.table ≡ bodies ∥₁ × AreRuns r.table budget heard r.runs.items
+-- the machines run the bodies that are loaded: over their table each text asks what it asks by these
+pub record IsKept (bodies : UnitBodies) (budget : ℕ) (heard : List Heard) (r : Running) : Type 0 where
+  pub same : (text : Text) (given : List Answer) → asked_by (flat_view r.table) budget text given ≡ asked_by bodies budget text given
+  pub runs : AreRuns r.table budget heard r.runs.items

@@ -1,8 +1,10 @@
 //! What `go` asks.
 
-ghost use Rattle.std.specs.Prelude.{◌≡◌, IfOk, option_map};
+ghost use Rattle.std.specs.Prelude.{◌≡◌, ℕ, IfOk, List, None, option_map};
+ghost use Rattle.std.specs.Option.{ForSome};
 ghost use Rattle.rv_exec.specs.Bodies.{bodies_view};
 ghost use Rattle.rv_go.specs.Texts.{texts_view};
+ghost use Rattle.rv_go.specs.declared.texts.Heard.{Heard};
 ghost use Rattle.rv_go.specs.Goes.{task_asks, handler_asks, line_asks, asks};
 ghost use Rattle.rv_go.specs.Runs.{asked_by, settled, IsKept};
 
@@ -10,25 +12,29 @@ use crate::run::Text;
 use crate::running::Running;
 use crate::texts::Texts;
 use rv_event::entry::{Mode, Request};
+use rv_exec::bodies::Bodies;
 use rv_host::host::Host;
 use rv_shape::actor::Actor;
 use rv_shape::catalogue::Catalogue;
 use std::alloc::{AllocError, Global};
 
-impl Texts {
-    // The machines that run texts are taken out; where there are none yet, they are made. Err where memory was refused.
-    fn taken(&mut self, alloc: Global) -> Result<Running, AllocError>
-        ensures kept { IfOk result (λ running. IsKept (bodies_view self.old.bodies) self.old.budget self.old.heard.items running) }
-        ensures bodies { self.new.bodies ≡ self.old.bodies }
-        ensures heard { self.new.heard ≡ self.old.heard }
-        ensures budget { self.new.budget ≡ self.old.budget }
-    {
-        if let Some(running) = self.running.take() {
-            return Ok(running);
-        }
-        Running::new(alloc, &self.bodies)
+// The machines that run texts are taken out; where there are none yet, they are made. Err where memory was refused.
+#[tactic(auto, using(crate::proofs::HeardMore::none_kept))]
+fn taken(
+    alloc: Global,
+    running: &mut Option<Running>,
+    bodies: &Bodies,
+) -> Result<Running, AllocError>
+    ensures kept { (budget : ℕ) (heard : List Heard) → ForSome running.old (IsKept (bodies_view bodies.now) budget heard) → IfOk result (IsKept (bodies_view bodies.now) budget heard) }
+    ensures none { running.new ≡ None }
+{
+    if let Some(running) = running.take() {
+        return Ok(running);
     }
+    Running::new(alloc, bodies)
+}
 
+impl Texts {
     // What a text of an actor asks next, by its machine.
     fn text_asks(
         &mut self,
@@ -39,7 +45,7 @@ impl Texts {
         ensures asked { IfOk result (λ asked. asked ≡ asked_by (bodies_view self.old.bodies) self.old.budget text (settled actor self.old.heard.items)) }
         ensures same { texts_view self.new ≡ texts_view self.old }
     {
-        let mut running = self.taken(alloc)?;
+        let mut running = taken(alloc, &mut self.running, &self.bodies)?;
         let asked = running.asks(alloc, self.budget, self.heard.as_slice(), actor, text);
         self.running = Some(running);
         asked

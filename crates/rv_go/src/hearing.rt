@@ -97,6 +97,7 @@ impl Texts {
 
     /// Keeps the answer to a request of an actor, where its text goes on by it: `goes` says whether the request was a
     /// `go`.
+    #[tactic(auto, using(crate::proofs::HeardMore::kept_added))]
     pub fn hear(
         &mut self,
         actor: usize,
