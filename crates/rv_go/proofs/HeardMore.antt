@@ -1,6 +1,6 @@
 -- What an actor has heard, one answer more.
 use Rattle.std.proofs.Common.{◌≡◌, ◌≤◌, ◌<◌, ◌+◌, refl, sym, ap, subst, ◌∙◌, arith, ℕ, suc, List, [], ◌∷◌, ◌++◌, Bool, true, false, cond, length, take, get_or, reverse}
-use Rattle.std.specs.Prelude.{All, ◌==◌, IfOk, OnOk, OnErr, Result, Ok, Err, Option}
+use Rattle.std.specs.Prelude.{All, ◌==◌, IfOk, OnOk, OnErr, Result, Ok, Err, Option, Some}
 use Rattle.std.specs.Option.{ForSome}
 use Rattle.std.proofs.lemmas.Bool.Decides.{nat_tests}
 use Rattle.std.proofs.Math.Seq.{take-suc}
@@ -128,3 +128,10 @@ pub kept_added : {E : Type 0} (bodies : UnitBodies) (budget : ℕ) (heard more :
     → ForSome o (IsKept bodies budget heard) → ForSome o (IsKept bodies budget more)
 kept_added bodies budget heard more h o (Ok x) ok err kept = kept_hear bodies budget heard more h o ok kept
 kept_added bodies budget heard more h o (Err e) ok err kept = subst (λ (all : List Heard). ForSome o (IsKept bodies budget all)) (sym err) kept
+
+-- what holds of the machines holds where there are some
+pub for_some : (P : Running → Type 0) (r : Running) → P r → (x : Running) → Some r ≡ Some x → P x
+for_some P r holds x is = subst P (same r x is) holds
+  where
+    same : (a b : Running) → Some a ≡ Some b → a ≡ b
+    same a b e = cc e
