@@ -10,7 +10,7 @@ returns-in-Exited c =
     let ran = c.run.ensures in (
       ran.1.trace,
       exits_so (operation_run_at (flat_view c.args.table.now.flat) start.held start.object start.operation start.values start.components) (stands c.args.table.now.flat c.start_body-machine.result) ran.1.trace ran.0 c.run.result c.in-Exited.exit c.in-Exited.scalars
-      c.start_body-machine.ensures.stands ran.1.along ran.2 c.in-Exited.is,
+          c.start_body-machine.ensures.stands ran.1.along ran.2 c.in-Exited.is,
       ran.1.outside,
     )
 
