@@ -52,6 +52,17 @@ fn is_further_out(word: Option<Kind>) -> bool {
     }
 }
 
+// The cause of a sentence with three words.
+fn of_three<'a>(
+    at: usize,
+    said: &'static str,
+    first: &'a str,
+    second: &'a str,
+    third: &'a str,
+) -> Cause<'a> {
+    Cause::new(at, said, [first, second, third])
+}
+
 impl<'a> Stop<'_, 'a> {
     // The name of a construct, or the word that opens it where it has no name.
     fn name_of(&self, opener: Opener) -> &'a str {
@@ -104,7 +115,7 @@ impl<'a> Stop<'_, 'a> {
         let inner = self.name_of(crossed.opener);
         let outer = Words::at(self.tokens, crossed.at).word(0);
         let word = crossed.opener.word.spelling();
-        Cause::new(crossed.at, said, [inner, word, outer]).with_other(crossed.opener.at)
+        of_three(crossed.at, said, inner, word, outer).with_other(crossed.opener.at)
     }
 
     // That a construct has no end.
