@@ -88,7 +88,7 @@ impl<'a> Stop<'_, 'a> {
         } else {
             "`{1}` is wanted here; `{0}` {2}"
         };
-        Cause::new(at, said, [word, meant.spelling(), deed])
+        of_three(at, said, word, meant.spelling(), deed)
     }
 
     // That a word is missing before one.
