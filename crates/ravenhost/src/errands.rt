@@ -1,5 +1,8 @@
 //! The threads that read and write beside a run.
 
+ghost use Rattle.std.specs.Prelude.{◌≡◌, [], IfOk, IfSome, None, Ok};
+ghost use Rattle.rv_feed.specs.Hearing.{heard};
+
 use crate::status::Stop;
 use rv_fault::Failure;
 use rv_feed::{Feed, Speaker};
@@ -21,11 +24,12 @@ pub enum Errand {
 }
 
 // Waits for a pipe. What stands against it is said, and is as its end.
-fn wait_for<R: Files + Eprint>(rt: &R, speaker: Speaker, name: &str) {
+fn wait_for<R: Wait + Files + Eprint>(rt: &R, mut speaker: Speaker, name: &str) {
     match fs::open(rt, name) {
-        Ok(mut pipe) => speaker.read_once(&mut pipe),
+        Ok(mut pipe) => speaker.read_once(rt, &mut pipe),
         Err(e) => {
             let _ = eprintln!(rt; "ravenhost: {name}: {e}");
+            speaker.tell_end(rt);
         }
     }
 }
@@ -60,7 +64,9 @@ fn begun<R: Eprint>(rt: &R, aides: &Aides, errand: Errand) -> Result<(), Stop> {
 }
 
 /// The input of a run, which a thread reads.
-pub fn input_of<R: Eprint>(rt: &R, alloc: Global, aides: &Aides) -> Result<Feed, Stop> {
+pub fn input_of<R: Eprint>(rt: &R, alloc: Global, aides: &Aides) -> Result<Feed, Stop>
+    ensures { IfOk result (λ feed. heard feed ≡ []) }
+{
     let Ok((speaker, feed)) = rv_feed::ends(alloc) else {
         return Err(Stop::Failed(Failure::Memory));
     };
@@ -69,11 +75,14 @@ pub fn input_of<R: Eprint>(rt: &R, alloc: Global, aides: &Aides) -> Result<Feed,
 }
 
 /// The input of a run that reads none: it is over.
-pub fn no_input(alloc: Global) -> Result<Feed, Stop> {
-    match rv_feed::ends(alloc) {
-        Ok((_, feed)) => Ok(feed),
-        Err(_) => Err(Stop::Failed(Failure::Memory)),
-    }
+pub fn no_input<R: Wait>(rt: &R, alloc: Global) -> Result<Feed, Stop>
+    ensures { IfOk result (λ feed. heard feed ≡ []) }
+{
+    let Ok((mut speaker, feed)) = rv_feed::ends(alloc) else {
+        return Err(Stop::Failed(Failure::Memory));
+    };
+    speaker.tell_end(rt);
+    Ok(feed)
 }
 
 /// The pipe whose end ends a run, where one is named: what stands against it is said.
@@ -82,7 +91,10 @@ pub fn stop_of<R: Files + Eprint>(
     alloc: Global,
     aides: &Aides,
     name: Option<&str>,
-) -> Result<Option<Feed>, Stop> {
+) -> Result<Option<Feed>, Stop>
+    ensures none { name ≡ None → result ≡ Ok None }
+    ensures heard { IfOk result (λ stop. IfSome stop (λ feed. heard feed ≡ [])) }
+{
     let Some(name) = name else {
         return Ok(None);
     };

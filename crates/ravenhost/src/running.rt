@@ -1,5 +1,7 @@
 //! The subcommand `run`: alone, or with what is done beside its commands.
 
+ghost use Rattle.std.specs.Prelude.{◌≡◌, IfOk};
+
 use crate::attending::{attend, drained, unless_unkept};
 use crate::errands::{input_of, no_input, outlet_of, stop_of};
 use crate::errors::StandardError;
@@ -15,7 +17,7 @@ use rv_fault::Failure;
 use rv_feed::Listening;
 use rv_input::{Before, Input};
 use rv_keep::{Keeper, Syncing};
-use rv_run::command::of_io;
+use rv_run::command::{of_input, of_io};
 use rv_run::outputs::Outputs;
 use rv_run::run::run;
 use rv_staff::Hires;
@@ -27,6 +29,11 @@ use std::sync::Wait;
 use std::thread::Threads;
 use std::time::Clock;
 
+// Whether what stands before the commands is looked at before the run.
+fn needs_sections(telling: Telling) -> bool {
+    telling.is_shown || telling.are_errors || telling.explains
+}
+
 // What had to be read of a run's input so that its notes could be told, which is done, and its fault explained.
 fn told_before<R: Eprint, I: Read>(
     rt: &R,
@@ -34,7 +41,7 @@ fn told_before<R: Eprint, I: Read>(
     telling: Telling,
     reader: &mut I,
 ) -> Result<Before, Stop> {
-    if !telling.is_shown && !telling.are_errors && !telling.explains {
+    if !needs_sections(telling) {
         return Ok(Before {
             sections: Vec::new(alloc),
             rest: Vec::new(alloc),
@@ -79,17 +86,32 @@ pub fn run_script<R: Threads + Wait + Eprint, H: Hires, I: Read, W: Write + Drop
     ended(rt, alloc, telling, script, done)
 }
 
-// Puts what was read of a run's input where the run begins, and behind it what its file still has.
-fn put_back(input: &mut Input, before: &Before, bytes: &[u8]) -> Result<(), Stop> {
-    if input.put(before.sections.as_slice()).is_err()
-        || input.put(before.rest.as_slice()).is_err()
-    {
-        return Err(Stop::Failed(Failure::Memory));
-    }
+// The input of an attended run, of which its file has come.
+fn opened_input(alloc: Global, bytes: &[u8]) -> Result<Input, Stop>
+    ensures { IfOk result (λ input. input ≡ record { ahead = bytes.now; given = 0 }) }
+{
+    let mut input = Input::new(alloc);
     match input.put(bytes) {
-        Ok(()) => Ok(()),
+        Ok(()) => Ok(input),
         Err(_) => Err(Stop::Failed(Failure::Memory)),
     }
+}
+
+// Hears what stands before the commands of an attended run, where notes are to be told of it, and tells them.
+fn told_of<R: Wait + Clock + Eprint>(
+    rt: &R,
+    alloc: Global,
+    telling: Telling,
+    source: &mut Listening<'_, R>,
+    input: &mut Input,
+) -> Result<Before, Stop> {
+    if needs_sections(telling) {
+        if let Err(fault) = source.hear_sections(input) {
+            return Err(Stop::Failed(of_input(fault)));
+        }
+    }
+    let mut ahead = input.ahead();
+    told_before(rt, alloc, telling, &mut ahead)
 }
 
 // What is asked of an attended run.
@@ -129,19 +151,17 @@ where
     let feed = if given.goes_on {
         input_of(rt, alloc, means.aides)?
     } else {
-        no_input(alloc)?
+        no_input(rt, alloc)?
     };
     let mut source = Listening { rt, feed, stop };
-    let mut bytes = given.bytes.as_slice();
-    let before = told_before(rt, alloc, telling, &mut (&mut bytes).chain(&mut source))?;
+    let mut input = opened_input(alloc, given.bytes.as_slice())?;
+    let before = told_of(rt, alloc, telling, &mut source, &mut input)?;
     let mut follower = Follower::new(
         alloc,
         source,
         keeper,
         attention_of(&words, telling, means.terminals),
     );
-    let mut input = Input::new(alloc);
-    put_back(&mut input, &before, bytes)?;
     let mut outlet = outlet_of(rt, alloc, means.aides)?;
     let (done, flushed) = attend(
         rt,

@@ -6,3 +6,5 @@ pub mod Keeping
 pub mod Lasted
 pub mod Served
 pub mod Ended
+pub mod GoingOn
+pub mod Unread

@@ -1,23 +1,32 @@
 -- Without a console the lines of what came are served as commands, each behind what was due.
-use Rattle.std.proofs.Common.{◌≡◌, ◌∙◌, ℕ, arith, zero, suc, Bool, true, false, List, Option, Some, None, Ok, Err, inl, inr, refl, sym, ap, subst, le_of_lt}
-use Rattle.std.specs.Prelude.{◌⊎◌, IfNone, Result}
+use Rattle.std.proofs.Common.{◌≡◌, ◌∙◌, ◌++◌, ℕ, arith, zero, suc, Bool, true, false, List, [], Option, Some, None, Ok, Err, inl, inr, refl, sym, ap, subst, le_of_lt}
+use Rattle.std.specs.Prelude.{◌⊎◌, IfNone, IfOk, Result}
 use Rattle.rv_crew.specs.Teams.{Team}
-use Rattle.rv_input.specs.Coming.{GivesLine, Reading}
+use Rattle.rv_feed.specs.Hearing.{HearsOn, IsStopped}
+use Rattle.rv_follow.specs.Following.{IsKept}
+use Rattle.rv_follow.proofs.Reading.{kept_later}
+use Rattle.rv_input.specs.Coming.{GivesLine, Reading, Shortens}
+use Rattle.rv_keep.specs.Keeping.{Known as Filed}
 use Rattle.rv_staff.specs.Saying.{Known}
-use Rattle.rv_run.specs.Beside.{Ended, Moment}
+use Rattle.rv_run.specs.Beside.{Ended, IsOfRun, Moment}
 use Rattle.rv_run.specs.Commanding.{Commands}
 use Rattle.rv_run.specs.Finishing.{Served}
 use Rattle.rv_run.specs.FinishingBeside.{GoesOnByWith, GoesWith, ServesIfWith}
-use Rattle.rv_run.specs.ServingBeside.{CarriesOut, ServesAllWith, ServesIfOn, ServesLine, ServesNextWith, ServesOneWith, ServesUpToWith, StopsBehindWith, reads}
+use Rattle.rv_run.specs.ServingBeside.{CarriesOut, ServesAllWith, ServesIfOn, ServesLine, ServesNextWith, ServesOneWith, ServesUpToWith, reads}
 use Rattle.rv_run.specs.Staging.{Comes, Outcome, Stage}
 use Rattle.rv_run.specs.declared.command.Goes.{Goes}
 use Rattle.rv_run.specs.declared.command.Goes.TheVariants.{On, Out}
 use Rattle.rv_run.specs.declared.outputs.KeptFailure.{KeptFailure}
-use Rattle.rv_attend.specs.Attending.{AttendedAll, AttendedBy, AttendedIf, AttendedOne, AttendedUpTo, GoesAttended, ServesBehind, ServesCome}
-use Rattle.rv_attend.specs.Holding.{Holding, IsPlain, attended, state_of}
-use Rattle.rv_attend.specs.Lasting.{State}
+use Rattle.rv_attend.specs.Attending.{AttendedAll, AttendedBy, AttendedIf, AttendedOne, AttendedUpTo, EndsFor, EndsOut, GoesAttended, Point, ServesBehind, ServesHeard}
+use Rattle.rv_attend.specs.Going.{CommandComes, HaltIsDue, Terms, entries_seen}
+use Rattle.rv_attend.specs.Holding.{Holding, IsPlain, attended, point_of, state_of}
+use Rattle.rv_attend.specs.KeepingRuns.{Stands}
+use Rattle.rv_attend.specs.Lasting.{GoesFor, Halts}
 use Rattle.rv_attend.proofs.Chores.{no_chores}
-use Rattle.rv_attend.proofs.Lasted.{up_to_lasts}
+use Rattle.rv_attend.proofs.GoingOn.{halt_seen}
+use Rattle.rv_attend.proofs.Growing.{starts_later}
+use Rattle.rv_attend.proofs.Lasted.{next_grown, up_to_lasts}
+use Rattle.rv_attend.proofs.Unread.{next_none}
 
 -- A line
 
@@ -39,10 +48,10 @@ at_none : (answer : Option Outcome) (P : Type 0) → answer ≡ None → IfNone 
 at_none (Some answered) P none fact = absurd (cc none)
 at_none None P none fact = fact
 
-come_line : {C : Type 0} (holds : C → Holding) (m n : Moment C) (result : Outcome) (line : List ℕ) (input : Reading) (left : Known) → IsPlain (holds m.chores)
+come_line : {C : Type 0} (holds : C → Holding) (m n : Moment C) (result : Outcome) (line : List ℕ) (input : Reading) (left : Known) → IsPlain (holds m.chores) → Shortens m.stage.left left
     → Comes m.stage (reads m input left).stage (GivesLine input.given (Some line)) → ServesLine (attended holds) (reads m input left) n line result
     → ServesBehind m.stage.staff m.stage n.stage result
-come_line holds m n result line input left plain comes serves =
+come_line holds m n result line input left plain shorter comes serves =
     let heeds = serves.heeds in
     let none = heeds.plain plain in
     let is = only_asked (reads m input left).stage serves.heeded.stage (at_none serves.answer _ none.0 heeds.crew) none.1 heeds.unread.input heeds.unread.left in (
@@ -53,13 +62,14 @@ come_line holds m n result line input left plain comes serves =
         read = input;
         left = left;
         comes = comes;
+        shorter = shorter;
         commands = subst (λ (x : Stage). Commands x n.stage line result) is (unanswered holds serves.heeded n line serves.answer result none.0 serves.carried);
       },
     )
 
 next : {C : Type 0} (holds : C → Holding) (m n : Moment C) (result : Outcome) → IsPlain (holds m.chores) → ServesNextWith (attended holds) m n result
     → ServesBehind m.stage.staff m.stage n.stage result
-next holds m n result plain (inl line) = come_line holds m n result line.line line.input line.left plain line.comes line.serves
+next holds m n result plain (inl line) = come_line holds m n result line.line line.input line.left plain line.shorter line.comes line.serves
 next holds m n result plain (inr (inl none)) = (
   m.stage.staff.control,
   no_chores m.stage.staff.control m.stage.staff.control refl,
@@ -83,76 +93,170 @@ next holds m n result plain (inr (inr fails)) = (
 
 -- One command after another
 
-other : {X : Type 0} (result tended : Result X KeptFailure) (x : X) → result ≡ tended → (tended ≡ Ok x → ⊥) → result ≡ Ok x → ⊥
-other result tended x is never on = never (sym is ∙ on)
+-- a run is attended without a console, and nothing but what came can be read; what its file has goes on with the journal
+pub record IsAttended {C : Type 0} (holds : C → Holding) (terms : Terms) (opened : Filed) (m : Moment C) : Type 0 where
+  pub plain : terms.asked.console ≡ None
+  pub same : (holds m.chores).terms ≡ terms
+  pub unread : m.stage.left ≡ Some []
+  pub kept : IsKept opened (holds m.chores).file m.stage.staff.control (holds m.chores).next
 
-if_on : {C : Type 0} (holds : C → Holding) (m n : Moment C) (tended result : Result Goes KeptFailure) → IsPlain (holds m.chores)
-    → ServesIfOn (attended holds) tended m n result → ServesCome m.stage n.stage result ⊎ ((n.stage ≡ m.stage) × (result ≡ Ok On → ⊥))
-if_on holds m n (Ok On) result plain serves = inl (serves.0, next holds m n serves.0 plain serves.1, serves.2)
-if_on holds m n (Ok Out) result plain same = inr (ap (λ (x : Moment _). x.stage) same.0, other result (Ok Out) On same.1 (λ e. cc e))
-if_on holds m n (Err failure) result plain same = inr (ap (λ (x : Moment _). x.stage) same.0, other result (Err failure) On same.1 (λ e. cc e))
+is_plain : {C : Type 0} (holds : C → Holding) (terms : Terms) (opened : Filed) (m : Moment C) → IsAttended holds terms opened m → IsPlain (holds m.chores)
+is_plain holds terms opened m is = ap (λ (t : Terms). t.asked.console) is.same ∙ is.plain
 
-still : (s t : State) → t.asked ≡ s.asked → s.asked.console ≡ None → t.asked.console ≡ None
-still s t same plain = cc (same, plain)
+went_on : (outcome : Outcome) (result : Result Goes KeptFailure) → IsOfRun outcome result → result ≡ Ok On → outcome ≡ Ok On
+went_on (Ok goes) result is on = cc (is, on)
+went_on (Err failure) result is on = absurd (cc (is, on))
 
-one : {C : Type 0} (holds : C → Holding) (m n : Moment C) (result : Result Goes KeptFailure) → IsPlain (holds m.chores) → ServesOneWith (attended holds) m n result
-    → AttendedOne m.stage n.stage result
-one holds m n result plain serves = record {
-  between = serves.between.stage;
-  attended = serves.tends.attends plain;
-  served = if_on holds serves.between n serves.tended result
-      (still (state_of holds m) (state_of holds serves.between) serves.tends.tends.3 plain) serves.serves;
-}
+-- what is served once the next command has come
+serves_on : {C : Type 0} (holds : C → Holding) (m u n : Moment C) (result : Result Goes KeptFailure) → IsPlain (holds u.chores) → u.stage.left ≡ Some []
+    → HearsOn (holds m.chores).heard (holds u.chores).heard m.stage.input u.stage.input → CommandComes (holds u.chores).heard u.stage.input
+    → ServesIfOn (attended holds) (Ok On) u n result → ServesHeard (point_of holds m) (point_of holds u) (point_of holds n) result
+serves_on holds m u n result plain unread hears comes serves =
+    let grown = next_grown holds u n serves.0 serves.1 in
+    let behind = next holds u n serves.0 plain serves.1 in
+    record {
+      hears = hears;
+      come = comes;
+      serves = (serves.0, behind, serves.2);
+      heard = ap (λ (h : Holding). h.heard) grown.1;
+      told = ap (λ (h : Holding). h.told) grown.1;
+      unread = λ on.
+          next_none (record u.stage { staff = record u.stage.staff { control = behind.0 } }) n.stage serves.0 (went_on serves.0 result serves.2 on) behind.2 unread
+          ∙ sym unread;
+    }
 
--- commands that were served leave the console as it is
-still_plain : {C : Type 0} (holds : C → Holding) (count : ℕ) (m n : Moment C) → IsPlain (holds m.chores) → ServesUpToWith (attended holds) count m n → IsPlain (holds n.chores)
-still_plain holds count m n plain serves = still (state_of holds m) (state_of holds n) (up_to_lasts holds count m n serves).2 plain
+-- why it ends
+ends_out : {C : Type 0} (holds : C → Holding) (terms : Terms) (opened : Filed) (m u : Moment C) → (holds u.chores).terms ≡ terms
+    → HearsOn (holds m.chores).heard (holds u.chores).heard m.stage.input u.stage.input
+    → IsKept opened (holds u.chores).file u.stage.staff.control (holds u.chores).next
+    → GoesFor (state_of holds m) (state_of holds u) u.stage.input (holds u.chores).heard (holds u.chores).told Out
+    → EndsOut terms (point_of holds m) (point_of holds u)
+ends_out holds terms opened m u same hears kept why = record { hears = hears; why = by_why why }
+  where
+    by_why : Halts (state_of holds m) (state_of holds u) ⊎ IsStopped (holds u.chores).told
+        → HaltIsDue terms (entries_seen u.stage.staff.control) m.stage.staff.control u.stage.staff.control ⊎ IsStopped (holds u.chores).told
+    by_why (inl due) =
+        inl (subst (λ (t : Terms). HaltIsDue t (entries_seen u.stage.staff.control) m.stage.staff.control u.stage.staff.control) same
+        (halt_seen (holds u.chores).terms opened (holds u.chores).file m.stage.staff.control u.stage.staff.control (holds u.chores).next kept due))
+    by_why (inr stopped) = inr stopped
 
-up_to : {C : Type 0} (holds : C → Holding) (count : ℕ) (m n : Moment C) → IsPlain (holds m.chores) → ServesUpToWith (attended holds) count m n
-    → AttendedUpTo count m.stage n.stage
-up_to holds zero m n plain same = ap (λ (x : Moment _). x.stage) same
-up_to holds (suc count) m n plain serves =
-    (serves.0.stage, up_to holds count m serves.0 plain serves.1, one holds serves.0 n (Ok On) (still_plain holds count m serves.0 plain serves.1) serves.2)
+if_on : {C : Type 0} (holds : C → Holding) (terms : Terms) (opened : Filed) (m u n : Moment C) (tended result : Result Goes KeptFailure)
+    → IsPlain (holds u.chores) → (holds u.chores).terms ≡ terms → u.stage.left ≡ Some []
+    → IfOk tended (λ goes. HearsOn (holds m.chores).heard (holds u.chores).heard m.stage.input u.stage.input)
+    → IfOk tended (GoesFor (state_of holds m) (state_of holds u) u.stage.input (holds u.chores).heard (holds u.chores).told)
+    → Stands opened (holds u.chores).file u.stage.staff.control (holds u.chores).next tended
+    → ServesIfOn (attended holds) tended u n result
+    → ServesHeard (point_of holds m) (point_of holds u) (point_of holds n) result
+    ⊎ ((point_of holds n ≡ point_of holds u) × EndsFor terms (point_of holds m) (point_of holds u) result)
+if_on holds terms opened m u n (Ok On) result plain same unread hears goes stands serves = inl (serves_on holds m u n result plain unread hears goes serves)
+if_on holds terms opened m u n (Ok Out) result plain same unread hears goes stands ends =
+    inr (
+      ap (λ (x : Moment _). point_of holds x) ends.0,
+      subst (λ (r : Result Goes KeptFailure). EndsFor terms (point_of holds m) (point_of holds u) r) (sym ends.1)
+          (ends_out holds terms opened m u same hears stands goes),
+    )
+if_on holds terms opened m u n (Err failure) result plain same unread hears goes stands ends =
+    inr (ap (λ (x : Moment _). point_of holds x) ends.0, subst (λ (r : Result Goes KeptFailure). EndsFor terms (point_of holds m) (point_of holds u) r) (sym ends.1) tt)
 
-stops : {C : Type 0} (holds : C → Holding) (m n : Moment C) (result : Result Goes KeptFailure) → IsPlain (holds m.chores) → (stop : StopsBehindWith (attended holds) m n result)
-    → AttendedUpTo stop.count m.stage stop.before.stage × AttendedOne stop.before.stage n.stage result
-stops holds m n result plain stop =
-    (up_to holds stop.count m stop.before plain stop.served, one holds stop.before n result (still_plain holds stop.count m stop.before plain stop.served) stop.last)
+one : {C : Type 0} (holds : C → Holding) (terms : Terms) (opened : Filed) (m n : Moment C) (result : Result Goes KeptFailure) → IsAttended holds terms opened m
+    → ServesOneWith (attended holds) m n result → AttendedOne terms (point_of holds m) (point_of holds n) result
+one holds terms opened m n result is serves =
+    let tends = serves.tends in
+    let same = tends.tends.3 ∙ is.same in
+    let attends = tends.attends (is_plain holds terms opened m is) in
+    record {
+      between = point_of holds serves.between;
+      attended = attends;
+      served = if_on holds terms opened m serves.between n serves.tended result (ap (λ (t : Terms). t.asked.console) same ∙ is.plain) same
+          (attends.left ∙ is.unread) tends.hears tends.goes (tends.tends.0 opened is.kept) serves.serves;
+    }
 
-all : {C : Type 0} (holds : C → Holding) (m n : Moment C) (result : Ended) → IsPlain (holds m.chores) → ServesAllWith (attended holds) m n result
-    → AttendedAll m.stage n.stage result
-all holds m n (Ok x) plain (inl most) = record {
+still_unread : (terms : Terms) (p q : Point) → AttendedOne terms p q (Ok On) → p.stage.left ≡ Some [] → q.stage.left ≡ Some []
+still_unread terms p q attends none = by_word attends.served
+  where
+    by_word : ServesHeard p attends.between q (Ok On) ⊎ ((q ≡ attends.between) × EndsFor terms p attends.between (Ok On)) → q.stage.left ≡ Some []
+    by_word (inl serves) = serves.unread refl ∙ (attends.attended.left ∙ none)
+    by_word (inr (same, ends)) = absurd ends
+
+-- commands that were served leave it so
+abbrev pub ServedSo : {C : Type 0} → (C → Holding) → Terms → Filed → ℕ → Moment C → Moment C → Type 0
+ServedSo holds terms opened count m n = AttendedUpTo terms count (point_of holds m) (point_of holds n) × IsAttended holds terms opened n
+
+up_to : {C : Type 0} (holds : C → Holding) (terms : Terms) (opened : Filed) (count : ℕ) (m n : Moment C) → IsAttended holds terms opened m
+    → ServesUpToWith (attended holds) count m n → ServedSo holds terms opened count m n
+up_to holds terms opened zero m n is same =
+    (ap (λ (x : Moment _). point_of holds x) same, subst (λ (x : Moment _). IsAttended holds terms opened x) (sym same) is)
+up_to holds terms opened (suc count) m n is serves =
+    let before = up_to holds terms opened count m serves.0 is serves.1 in
+    let attends = one holds terms opened serves.0 n (Ok On) before.1 serves.2 in
+    let lasts = up_to_lasts holds (suc count) m n serves in (
+      (point_of holds serves.0, before.0, attends),
+      record {
+        plain = is.plain;
+        same = lasts.2 ∙ is.same;
+        unread = still_unread terms (point_of holds serves.0) (point_of holds n) attends before.1.unread;
+        kept = lasts.0 opened is.kept;
+      },
+    )
+
+all : {C : Type 0} (holds : C → Holding) (terms : Terms) (opened : Filed) (m n : Moment C) (result : Ended) → IsAttended holds terms opened m
+    → ServesAllWith (attended holds) m n result → AttendedAll terms (point_of holds m) (point_of holds n) result
+all holds terms opened m n (Ok x) is (inl most) = record {
   count = most.count;
   within = omega (arith, most.all);
-  before = n.stage;
-  served = up_to holds most.count m n plain most.served;
+  before = point_of holds n;
+  served = (up_to holds terms opened most.count m n is most.served).0;
   stops = inl (most.all, refl);
 }
-all holds m n (Ok x) plain (inr stop) =
-    let both = stops holds m n (Ok Out) plain stop in
-    record { count = stop.count; within = le_of_lt stop.within; before = stop.before.stage; served = both.0; stops = inr both.1 }
-all holds m n (Err failure) plain stop =
-    let both = stops holds m n (Err failure) plain stop in
-    record { count = stop.count; within = le_of_lt stop.within; before = stop.before.stage; served = both.0; stops = both.1 }
+all holds terms opened m n (Ok x) is (inr stop) =
+    let before = up_to holds terms opened stop.count m stop.before is stop.served in
+    record {
+      count = stop.count;
+      within = le_of_lt stop.within;
+      before = point_of holds stop.before;
+      served = before.0;
+      stops = inr (one holds terms opened stop.before n (Ok Out) before.1 stop.last);
+    }
+all holds terms opened m n (Err failure) is stop =
+    let before = up_to holds terms opened stop.count m stop.before is stop.served in
+    record {
+      count = stop.count;
+      within = le_of_lt stop.within;
+      before = point_of holds stop.before;
+      served = before.0;
+      stops = one holds terms opened stop.before n (Err failure) before.1 stop.last;
+    }
 
 -- behind the first threads
 
-serves_if : {C : Type 0} (holds : C → Holding) (runs : Bool) (m n : Moment C) (result : Ended) → IsPlain (holds m.chores) → ServesIfWith (attended holds) runs m n result
-    → AttendedIf runs m.stage n.stage result
-serves_if holds true m n result plain serves = all holds m n result plain serves
-serves_if holds false m n result plain same = (ap (λ (x : Moment _). x.stage) same.0, same.1)
+serves_if : {C : Type 0} (holds : C → Holding) (terms : Terms) (opened : Filed) (runs : Bool) (m n : Moment C) (result : Ended) → IsAttended holds terms opened m
+    → ServesIfWith (attended holds) runs m n result → AttendedIf terms runs (point_of holds m) (point_of holds n) result
+serves_if holds terms opened true m n result is serves = all holds terms opened m n result is serves
+serves_if holds terms opened false m n result is same = (ap (λ (x : Moment _). point_of holds x) same.0, same.1)
 
-goes_by : {C : Type 0} (holds : C → Holding) (runs : Bool) (m n : Moment C) (started : Served) (result : Ended) → IsPlain (holds m.chores)
-    → GoesOnByWith (attended holds) runs m n started result → AttendedBy runs m.stage n.stage started result
-goes_by holds runs m n (Ok x) result plain serves = serves_if holds runs m n result plain serves
-goes_by holds runs m n (Err failure) result plain same = (ap (λ (x : Moment _). x.stage) same.0, same.1)
+goes_by : {C : Type 0} (holds : C → Holding) (terms : Terms) (opened : Filed) (runs : Bool) (m n : Moment C) (started : Served) (result : Ended)
+    → IsAttended holds terms opened m → GoesOnByWith (attended holds) runs m n started result
+    → AttendedBy terms runs (point_of holds m) (point_of holds n) started result
+goes_by holds terms opened runs m n (Ok x) result is serves = serves_if holds terms opened runs m n result is serves
+goes_by holds terms opened runs m n (Err failure) result is same = (ap (λ (x : Moment _). point_of holds x) same.0, same.1)
 
-pub goes_attended : {C : Type 0} (holds : C → Holding) (runs : Bool) (m n : Moment C) (result : Ended) → IsPlain (holds m.chores)
-    → GoesWith (attended holds) runs m n result → GoesAttended runs m.stage n.stage result
-goes_attended holds runs m n result plain goes = record {
-  between = goes.between;
-  started = goes.started;
-  starts = goes.starts;
-  unread = goes.unread;
-  serves = goes_by holds runs (record m { stage = goes.between }) n goes.started result plain goes.serves;
-}
+pub goes_attended : {C : Type 0} (holds : C → Holding) (terms : Terms) (opened : Filed) (runs : Bool) (m n : Moment C) (result : Ended)
+    → IsAttended holds terms opened m → GoesWith (attended holds) runs m n result
+    → GoesAttended terms runs (point_of holds m) (point_of holds n) result
+goes_attended {C} holds terms opened runs m n result is goes =
+    let first : Moment C = record m { stage = goes.between } in
+    let later = starts_later m.stage.staff goes.between.staff m.stage.written goes.between.written goes.started goes.starts in
+    record {
+      between = goes.between;
+      started = goes.started;
+      starts = goes.starts;
+      unread = goes.unread;
+      serves = goes_by holds terms opened runs first n goes.started result
+          (record {
+            plain = is.plain;
+            same = is.same;
+            unread = goes.unread.left ∙ is.unread;
+            kept = kept_later opened (holds m.chores).file m.stage.staff.control goes.between.staff.control (holds m.chores).next is.kept later;
+          })
+          goes.serves;
+    }

@@ -1,13 +1,16 @@
 -- What an attended run serves: commands as they come, each carried out as in a run that isn't attended, and between two of them
 -- what is due is asked of the host. (own)
-use Rattle.std.specs.Prelude.{◌≡◌, ◌⊎◌, ℕ, ◌≤◌, zero, suc, List, [], ◌++◌, Bool, true, false, Some, Result, Ok, Err}
+use Rattle.std.specs.Prelude.{◌≡◌, ◌⊎◌, ℕ, ◌≤◌, zero, suc, List, [], ◌++◌, Bool, true, false, Option, Some, Result, Ok, Err}
 use Rattle.std.specs.Io.KnownBytes.{Keeps}
+use Rattle.rv_feed.specs.Hearing.{HearsOn, IsStopped}
+use Rattle.rv_feed.specs.declared.piece.Piece.{Piece}
 use Rattle.rv_input.specs.Coming.{Reading}
 use Rattle.rv_port.specs.Traces.{Passing}
 use Rattle.rv_staff.specs.Giving.{Starts}
 use Rattle.rv_staff.specs.Saying.{Known}
 use Rattle.rv_staff.specs.Staffs.{Staffed}
 use Rattle.rv_attend.specs.Chores.{Chores}
+use Rattle.rv_attend.specs.Going.{CommandComes, HaltIsDue, Terms, entries_seen}
 use Rattle.rv_run.specs.Beside.{Ended, IsOfRun}
 use Rattle.rv_run.specs.Finishing.{Served}
 use Rattle.rv_run.specs.ServingLines.{ServesNext, most_commands}
@@ -40,48 +43,74 @@ ServesBehind first s t outcome = (u : Passing) × Chores first.control u × Serv
 abbrev pub ServesCome : Stage → Stage → Result Goes KeptFailure → Type 0
 ServesCome s t result = (outcome : Outcome) × ServesBehind s.staff s t outcome × IsOfRun outcome result
 
+-- what an attended run is at, and the pieces that were heard of its input, and of the pipe that ends it, where there is one
+pub record Point : Type 0 where
+  pub stage : Stage
+  pub heard : List Piece
+  pub told : Option (List Piece)
+
+abbrev pub point : Stage → List Piece → Option (List Piece) → Point
+point stage heard told = record { stage = stage; heard = heard; told = told }
+
+-- More of the input was heard, and the next command has come whole, or no more comes: then it is carried out. Where the run goes on
+-- nothing else can be read yet.
+pub record ServesHeard (first between last : Point) (result : Result Goes KeptFailure) : Type 0 where
+  pub hears : HearsOn first.heard between.heard first.stage.input between.stage.input
+  pub come : CommandComes between.heard between.stage.input
+  pub serves : ServesCome between.stage last.stage result
+  pub heard : last.heard ≡ between.heard
+  pub told : last.told ≡ between.told
+  pub unread : result ≡ Ok On → last.stage.left ≡ between.stage.left
+
+-- The run ends, since a halt is due by the journal as far as the operator has seen it, or since it was ended from outside.
+pub record EndsOut (terms : Terms) (first last : Point) : Type 0 where
+  pub hears : HearsOn first.heard last.heard first.stage.input last.stage.input
+  pub why : HaltIsDue terms (entries_seen last.stage.staff.control) first.stage.staff.control last.stage.staff.control ⊎ IsStopped last.told
+
+-- it ends; or it fails, of which no more is said
+abbrev pub EndsFor : Terms → Point → Point → Result Goes KeptFailure → Type 0
+EndsFor terms first last (Ok On) = ⊥
+EndsFor terms first last (Ok Out) = EndsOut terms first last
+EndsFor terms first last (Err failure) = Unit {0}
+
 -- The run is attended, and then either the next command is carried out, or the run doesn't go on.
-pub record AttendedOne (s t : Stage) (result : Result Goes KeptFailure) : Type 0 where
-  pub between : Stage
-  pub attended : Attends s between
-  pub served : ServesCome between t result ⊎ ((t ≡ between) × (result ≡ Ok On → ⊥))
+pub record AttendedOne (terms : Terms) (first last : Point) (result : Result Goes KeptFailure) : Type 0 where
+  pub between : Point
+  pub attended : Attends first.stage between.stage
+  pub served : ServesHeard first between last result ⊎ ((last ≡ between) × EndsFor terms first between result)
 
 -- the first so many commands, behind each of which the run goes on
-abbrev pub AttendedUpTo : ℕ → Stage → Stage → Type 0
-AttendedUpTo zero s t = t ≡ s
-AttendedUpTo (suc count) s t = (u : Stage) × AttendedUpTo count s u × AttendedOne u t (Ok On)
+abbrev pub AttendedUpTo : Terms → ℕ → Point → Point → Type 0
+AttendedUpTo terms zero p q = q ≡ p
+AttendedUpTo terms (suc count) p q = (between : Point) × AttendedUpTo terms count p between × AttendedOne terms between q (Ok On)
 
 -- behind them the run goes on no more: it served all that a run serves, or ends by what comes then
-abbrev pub StopsAfter : ℕ → Stage → Stage → Ended → Type 0
-StopsAfter count s t (Ok x) = ((count ≡ most_commands) × (t ≡ s)) ⊎ AttendedOne s t (Ok Out)
-StopsAfter count s t (Err failure) = AttendedOne s t (Err failure)
+abbrev pub StopsAfter : Terms → ℕ → Point → Point → Ended → Type 0
+StopsAfter terms count p q (Ok x) = ((count ≡ most_commands) × (q ≡ p)) ⊎ AttendedOne terms p q (Ok Out)
+StopsAfter terms count p q (Err failure) = AttendedOne terms p q (Err failure)
 
 -- commands are served one after another, until the run goes on no more
-pub record AttendedAll (s t : Stage) (result : Ended) : Type 0 where
+pub record AttendedAll (terms : Terms) (first last : Point) (result : Ended) : Type 0 where
   pub count : ℕ
   pub within : count ≤ most_commands
-  pub before : Stage
-  pub served : AttendedUpTo count s before
-  pub stops : StopsAfter count before t result
+  pub before : Point
+  pub served : AttendedUpTo terms count first before
+  pub stops : StopsAfter terms count before last result
 
 -- if some follow
-abbrev pub AttendedIf : Bool → Stage → Stage → Ended → Type 0
-AttendedIf true s t result = AttendedAll s t result
-AttendedIf false s t result = (t ≡ s) × (result ≡ Ok tt)
+abbrev pub AttendedIf : Terms → Bool → Point → Point → Ended → Type 0
+AttendedIf terms true p q result = AttendedAll terms p q result
+AttendedIf terms false p q result = (q ≡ p) × (result ≡ Ok tt)
 
 -- behind the first threads, unless what is said of them can't be written
-abbrev pub AttendedBy : Bool → Stage → Stage → Served → Ended → Type 0
-AttendedBy runs s t (Ok x) result = AttendedIf runs s t result
-AttendedBy runs s t (Err failure) result = (t ≡ s) × (result ≡ Err (Run failure))
-
--- the first threads are started; that they can't be told of fails the run
-abbrev pub Begins : Staffed → Staffed → Known → Known → Ended → Type 0
-Begins v w old new result = (started : Served) × Starts v w old new started × IsOfRun started result
+abbrev pub AttendedBy : Terms → Bool → Point → Point → Served → Ended → Type 0
+AttendedBy terms runs p q (Ok x) result = AttendedIf terms runs p q result
+AttendedBy terms runs p q (Err failure) result = (q ≡ p) × (result ≡ Err (Run failure))
 
 -- the first threads are started, and commands are served as they come
-pub record GoesAttended (runs : Bool) (s t : Stage) (result : Ended) : Type 0 where
+pub record GoesAttended (terms : Terms) (runs : Bool) (first last : Point) (result : Ended) : Type 0 where
   pub between : Stage
   pub started : Served
-  pub starts : Starts s.staff between.staff s.written between.written started
-  pub unread : ReadsNothing s between
-  pub serves : AttendedBy runs between t started result
+  pub starts : Starts first.stage.staff between.staff first.stage.written between.written started
+  pub unread : ReadsNothing first.stage between
+  pub serves : AttendedBy terms runs (record first { stage = between }) last started result

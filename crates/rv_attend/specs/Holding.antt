@@ -1,39 +1,50 @@
 -- What an attended run does beside its commands. (own)
-use Rattle.std.specs.Prelude.{◌≡◌, ℕ, Option, None, IfNone, Result, Ok}
+use Rattle.std.specs.Prelude.{◌≡◌, ℕ, List, Option, None, IfNone, IfOk, Result, Ok}
+use Rattle.rv_crew.specs.declared.crew.Closed.{Closed}
+use Rattle.rv_feed.specs.Hearing.{HearsOn}
+use Rattle.rv_feed.specs.declared.piece.Piece.{Piece}
 use Rattle.rv_follow.specs.Following.{ClosesFile, Later}
 use Rattle.rv_keep.specs.Keeping.{Known}
-use Rattle.rv_run.specs.Beside.{Beside, Moment}
+use Rattle.rv_run.specs.Beside.{Beside, Ended, Moment}
 use Rattle.rv_run.specs.Staging.{Outcome, ReadsNothing}
 use Rattle.rv_run.specs.declared.command.Goes.{Goes}
 use Rattle.rv_run.specs.declared.command.Goes.TheVariants.{Out}
 use Rattle.rv_run.specs.declared.outputs.KeptFailure.{KeptFailure}
-use Rattle.rv_attend.specs.Attending.{Attends}
+use Rattle.rv_attend.specs.Attending.{Attends, Point, point}
 use Rattle.rv_attend.specs.Chores.{Chores}
+use Rattle.rv_attend.specs.Going.{ClosesAs, Terms}
 use Rattle.rv_attend.specs.KeepingRuns.{Leaving}
-use Rattle.rv_attend.specs.Lasting.{State, Tends, at}
-use Rattle.rv_attend.specs.declared.attention.Attention.{Attention}
+use Rattle.rv_attend.specs.Lasting.{GoesFor, State, Tends, at}
 
--- what it holds: what its file has, the entry that is written there next, and what is asked of it
+-- what it holds: what its file has, the entry that is written there next, what is asked of it, and the pieces that were heard of its
+-- input, and of the pipe that ends it, where there is one
 pub record Holding : Type 0 where
   pub file : Known
   pub next : ℕ
-  pub asked : Attention
+  pub terms : Terms
+  pub heard : List Piece
+  pub told : Option (List Piece)
 
-abbrev pub holding : Known → ℕ → Attention → Holding
-holding file next asked = record { file = file; next = next; asked = asked }
+abbrev pub holding : Known → ℕ → Terms → List Piece → Option (List Piece) → Holding
+holding file next terms heard told = record { file = file; next = next; terms = terms; heard = heard; told = told }
 
 -- what it is at
 abbrev pub state_of : {C : Type 0} → (C → Holding) → Moment C → State
-state_of holds m = at m.stage.staff (holds m.chores).file (holds m.chores).next (holds m.chores).asked
+state_of holds m = at m.stage.staff (holds m.chores).file (holds m.chores).next (holds m.chores).terms
+
+abbrev pub point_of : {C : Type 0} → (C → Holding) → Moment C → Point
+point_of holds m = point m.stage (holds m.chores).heard (holds m.chores).told
 
 -- nobody is at a console
 abbrev pub IsPlain : Holding → Type 0
-IsPlain h = h.asked.console ≡ None
+IsPlain h = h.terms.asked.console ≡ None
 
 -- until the next command comes
 pub record TendsTo {C : Type 0} (holds : C → Holding) (m n : Moment C) (result : Result Goes KeptFailure) : Type 0 where
   pub tends : Tends (state_of holds m) (state_of holds n) result
   pub attends : IsPlain (holds m.chores) → Attends m.stage n.stage
+  pub hears : IfOk result (λ goes. HearsOn (holds m.chores).heard (holds n.chores).heard m.stage.input n.stage.input)
+  pub goes : IfOk result (GoesFor (state_of holds m) (state_of holds n) n.stage.input (holds n.chores).heard (holds n.chores).told)
 
 -- With a line that came: only a word of a console is answered. Of any other line only chores are done, for the notes on it.
 pub record HeedsTo {C : Type 0} (holds : C → Holding) (m n : Moment C) (answer : Option Outcome) : Type 0 where
@@ -44,12 +55,18 @@ pub record HeedsTo {C : Type 0} (holds : C → Holding) (m n : Moment C) (answer
   pub unread : ReadsNothing m.stage n.stage
   pub same : holds n.chores ≡ holds m.chores
 
+-- what is left to do of a host that was closed, behind commands that were served so far
+pub record ClosesTo {C : Type 0} (holds : C → Holding) (chores : C) (closed : Closed) (served : Ended) (chores' : C) (kept : Ended) : Type 0 where
+  pub written : (opened : Known) → Leaving opened (holds chores).file closed.host (holds chores).next served → ClosesFile opened (holds chores').file closed.host kept
+  pub ends : ClosesAs served kept
+  pub heard : (holds chores').heard ≡ (holds chores).heard
+  pub told : (holds chores').told ≡ (holds chores).told
+
 abbrev pub attended : {C : Type 0} → (C → Holding) → Beside C
 attended holds = record {
   tends = λ m n result. TendsTo holds m n result;
   heeds = λ m line n answer. HeedsTo holds m n answer;
   hears = λ chores old new. Unit {0};
   leaves = λ chores old new result. IsPlain (holds chores) → (new ≡ old) × (result ≡ Ok Out);
-  closes = λ chores errors closed served chores' errors' kept. (opened : Known)
-      → Leaving opened (holds chores).file closed.host (holds chores).next served → ClosesFile opened (holds chores').file closed.host kept;
+  closes = λ chores errors closed served chores' errors' kept. ClosesTo holds chores closed served chores' kept;
 }

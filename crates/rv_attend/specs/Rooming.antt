@@ -15,7 +15,7 @@ use Rattle.rv_turn.specs.Passes.{IsWorn}
 use Rattle.rv_turn.specs.declared.pass.Worn.{Worn}
 
 -- The line that denies the unit at a place everything is appended to the list, by one change, as if the operator had typed it; or
--- nothing is asked, without a unit or memory for that line.
+-- nothing is asked, without a quota, a unit or memory for that line.
 abbrev pub DeniesUnit : Passing → Passing → ℕ → Result Answer Worn → Type 0
 DeniesUnit v w place (Ok answer) =
     ((line : Words) × GivesDenial (catalogue_of v.seen) place (Ok line) × Told v (Ask.Change (changes.Append line)) answer w)

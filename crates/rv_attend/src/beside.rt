@@ -1,6 +1,8 @@
 //! What an attended run does beside its commands.
 
+ghost use Rattle.rv_attend.specs.Going.{terms};
 ghost use Rattle.rv_attend.specs.Holding.{attended, holding};
+ghost use Rattle.rv_feed.specs.Hearing.{heard, told};
 
 use crate::closing::close;
 use crate::console::leave;
@@ -20,7 +22,7 @@ use std::sync::Wait;
 use std::time::Clock;
 
 impl<'a, T: Wait + Clock, W: Write, E: Write, F: Write> Chores<T, W, E> for Follower<'a, T, F> {
-    ghost does = { attended (λ f. holding (F.contents f.keeper.file) f.keeper.next f.asked) };
+    ghost does = { attended (λ f. holding (F.contents f.keeper.file) f.keeper.next (terms f.asked f.room.capacity) (heard f.source.feed) (told f.source.stop)) };
 
     fn tend(
         &mut self,

@@ -1,6 +1,6 @@
 //! What a console says beside the answers: a prompt, and what its words show.
 
-ghost use Rattle.std.specs.Prelude.{◌≡◌, IfNone, None, Ok};
+ghost use Rattle.std.specs.Prelude.{◌≡◌, IfNone, IfOk, None, Ok};
 ghost use Rattle.rv_follow.specs.Following.{Later};
 ghost use Rattle.rv_run.specs.declared.command.Goes.TheVariants.{Out};
 
@@ -34,6 +34,7 @@ pub(crate) fn prompt<W: Write>(asked: &Attention, goes: Goes, writer: &mut W) ->
 pub(crate) fn leave<W: Write>(asked: &Attention, writer: &mut W) -> Result<Goes, Failure>
     ensures silent { asked.now.console ≡ None → W.contents writer.new ≡ W.contents writer.old }
     ensures out { asked.now.console ≡ None → result ≡ Ok Out }
+    ensures ends { IfOk result (λ goes. goes ≡ Out) }
 {
     if asked.console.is_none() {
         return Ok(Goes::Out);
@@ -67,6 +68,8 @@ fn show<T: Wait, W: Write, F>(
     ensures later { Later session.old.staff.control session.new.staff.control }
     ensures keeper { follower.new.keeper ≡ follower.old.keeper }
     ensures asked { follower.new.asked ≡ follower.old.asked }
+    ensures room { follower.new.room ≡ follower.old.room }
+    ensures source { follower.new.source ≡ follower.old.source }
 {
     let tally = &follower.room.tally;
     let shown = session
@@ -90,6 +93,8 @@ pub(crate) fn answer_word<T: Wait, W: Write, F>(
     ensures later { Later session.old.staff.control session.new.staff.control }
     ensures keeper { follower.new.keeper ≡ follower.old.keeper }
     ensures asked { follower.new.asked ≡ follower.old.asked }
+    ensures room { follower.new.room ≡ follower.old.room }
+    ensures source { follower.new.source ≡ follower.old.source }
 {
     let typing = follower.asked.console?;
     match wrote(echo(typing, line, writer)) {

@@ -1,9 +1,8 @@
 //! Why a command, or a unit text behind `load`, is refused, for people.
 
-use crate::coming::load_bytes;
 use rv_explain::explain;
 use rv_fault::{ScriptFault, What};
-use rv_input::MOST_BYTES;
+use rv_input::{MOST_BYTES, load_bytes};
 use rv_shell::Order;
 use rv_staff::say;
 use rv_step::reading::StepError;

@@ -5,7 +5,6 @@
 mod attention;
 mod beside;
 mod closing;
-mod coming;
 mod console;
 mod due;
 mod explaining;

@@ -68,6 +68,8 @@ fn explain_if<E: Write, T, F>(
 )
     ensures keeper { follower.new.keeper ≡ follower.old.keeper }
     ensures asked { follower.new.asked ≡ follower.old.asked }
+    ensures room { follower.new.room ≡ follower.old.room }
+    ensures source { follower.new.source ≡ follower.old.source }
 {
     if follower.asked.explains {
         follower.given.explain(line, read, input.ahead(), errors);
@@ -78,6 +80,8 @@ fn explain_if<E: Write, T, F>(
 pub(crate) fn keep_word<T, F>(follower: &mut Follower<'_, T, F>, line: &str)
     ensures keeper { follower.new.keeper ≡ follower.old.keeper }
     ensures asked { follower.new.asked ≡ follower.old.asked }
+    ensures room { follower.new.room ≡ follower.old.room }
+    ensures source { follower.new.source ≡ follower.old.source }
 {
     if follower.asked.explains {
         follower.given.keep_line(line);
@@ -98,6 +102,8 @@ pub(crate) fn tell_before<T: Wait, E: Write, F>(
     ensures crew { session.new.staff.crew ≡ session.old.staff.crew }
     ensures keeper { follower.new.keeper ≡ follower.old.keeper }
     ensures asked { follower.new.asked ≡ follower.old.asked }
+    ensures room { follower.new.room ≡ follower.old.room }
+    ensures source { follower.new.source ≡ follower.old.source }
 {
     tell_if(rt, follower.asked.tells, session, read, errors);
     explain_if(follower, input, line, read, errors);

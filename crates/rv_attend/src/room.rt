@@ -1,9 +1,15 @@
 //! What is done as a journal fills: the room left is told, units are denied everything, or the run ends.
 
-ghost use Rattle.std.specs.Prelude.{◌≡◌};
+ghost use Rattle.std.specs.Prelude.{◌≡◌, ◌-◌, true};
 ghost use Rattle.rv_behind.specs.Events.{catalogue_of};
 ghost use Rattle.rv_attend.specs.Chores.{Chores};
+ghost use Rattle.rv_attend.specs.Going.{CannotDeny, HaltIsDue, terms};
 ghost use Rattle.rv_attend.specs.Rooming.{DeniesUnit, DoesDue};
+ghost use Rattle.rv_attend.specs.declared.room.Then.TheVariants.{End};
+ghost use Rattle.rv_run.specs.declared.command.Goes.TheVariants.{Out};
+ghost use Rattle.rv_tally.specs.Denying.{ends_run};
+ghost use Rattle.rv_tally.specs.Guarding.{is_below};
+ghost use Rattle.rv_tally.specs.declared.guard.Due.TheVariants.{Deny};
 
 use crate::attention::Attention;
 use rv_event::entry::Answer;
@@ -35,7 +41,8 @@ pub struct Room {
     // The entries that were read, by who added them.
     pub(crate) tally: Tally,
     guard: Guard,
-    quota: Option<u32>,
+    // How many entries the journal may have.
+    pub(crate) capacity: usize,
     tells: bool,
     // Whether anything is to be looked after.
     is_watched: bool,
@@ -68,7 +75,7 @@ impl Room {
             alloc,
             tally: Tally::new(),
             guard: Guard::new(quota, halt_below, tells),
-            quota,
+            capacity: 0,
             tells,
             is_watched: quota.is_some() || halt_below.is_some() || tells,
             units: 0,
@@ -77,7 +84,9 @@ impl Room {
     }
 
     // Whether it is time for a look.
-    fn is_due<T: Clock>(&mut self, rt: &T) -> bool {
+    fn is_due<T: Clock>(&mut self, rt: &T) -> bool
+        ensures { self.new.capacity ≡ self.old.capacity }
+    {
         if !self.is_watched {
             return false;
         }
@@ -104,19 +113,31 @@ impl Room {
     }
 }
 
+// Whether so many entries leave less room than the run is to have.
+fn is_low(asked: &Attention, capacity: usize, used: usize) -> bool
+    ensures { result ≡ is_below asked.now.halt_below (capacity - used) }
+{
+    match asked.halt_below {
+        Some(least) => capacity.saturating_sub(used) < least as usize,
+        None => false,
+    }
+}
+
 // Where units came, says whether the journal doesn't hold what quotas let them add.
-fn check_promise<E: Write>(session: &Session, room: &mut Room, errors: &mut E) {
+fn check_promise<E: Write>(session: &Session, asked: &Attention, room: &mut Room, errors: &mut E)
+    ensures { room.new.capacity ≡ room.old.capacity }
+{
     let catalogue = session.staff.catalogue();
     let units = catalogue.shapes().len();
-    let Some(quota) = room.quota else {
+    let Some(quota) = asked.quota else {
         return;
     };
     if units == room.units {
         return;
     }
     room.units = units;
-    if is_too_much(catalogue, quota, session.budget, session.capacity) {
-        let line = promise_line(room.alloc, quota, session.budget, session.capacity);
+    if is_too_much(catalogue, quota, session.budget, room.capacity) {
+        let line = promise_line(room.alloc, quota, session.budget, room.capacity);
         room.tell(line, errors);
     }
 }
@@ -124,7 +145,7 @@ fn check_promise<E: Write>(session: &Session, room: &mut Room, errors: &mut E) {
 // Says how much room is left.
 fn tell_room<E: Write>(session: &Session, room: &Room, used: usize, errors: &mut E) {
     let catalogue = session.staff.catalogue();
-    let line = room_line(room.alloc, catalogue, &room.tally, session.capacity, used);
+    let line = room_line(room.alloc, catalogue, &room.tally, room.capacity, used);
     room.tell(line, errors);
 }
 
@@ -132,6 +153,7 @@ fn tell_room<E: Write>(session: &Session, room: &Room, used: usize, errors: &mut
 fn tell_denial<E: Write>(
     session: &Session,
     room: &Room,
+    quota: u32,
     place: usize,
     answer: &Answer,
     errors: &mut E,
@@ -139,7 +161,6 @@ fn tell_denial<E: Write>(
     let Some(shape) = session.staff.catalogue().shapes().get(place) else {
         return;
     };
-    let quota = room.quota.unwrap_or(0);
     room.tell(denial_line(room.alloc, shape.name(), quota, answer), errors);
 }
 
@@ -147,17 +168,21 @@ fn tell_denial<E: Write>(
 fn behind_denial<E: Write>(
     session: &Session,
     room: &mut Room,
+    quota: u32,
     place: usize,
     answer: Answer,
     errors: &mut E,
-) -> Then {
+) -> Then
+    ensures ends { result ≡ End → ends_run answer ≡ true }
+    ensures capacity { room.new.capacity ≡ room.old.capacity }
+{
     if ends_run(&answer) {
-        tell_denial(session, room, place, &answer, errors);
+        tell_denial(session, room, quota, place, &answer, errors);
         return Then::End;
     }
     match answer {
         Answer::Accepted(_) => {
-            tell_denial(session, room, place, &answer, errors);
+            tell_denial(session, room, quota, place, &answer, errors);
             room.guard.note(Due::Deny(place));
             Then::Next
         }
@@ -181,10 +206,37 @@ fn ask_denial<T: Wait>(
     }
 }
 
-// Does what is due.
+// Denies the unit at a place everything, since its tasks have passed the quota.
+#[tactic(auto, using(crate::proofs::GoingOn::cannot_by, crate::proofs::GoingOn::denies_none))]
+fn deny<T: Wait, E: Write>(
+    rt: &T,
+    session: &mut Session,
+    asked: &Attention,
+    room: &mut Room,
+    place: usize,
+    errors: &mut E,
+) -> Then
+    ensures does { DoesDue (Deny place) session.old.staff.control session.new.staff.control }
+    ensures crew { session.new.staff.crew ≡ session.old.staff.crew }
+    ensures ends { result ≡ End
+        → CannotDeny (terms asked.now room.old.capacity) session.old.staff.control session.new.staff.control }
+    ensures capacity { room.new.capacity ≡ room.old.capacity }
+{
+    let Some(quota) = asked.quota else {
+        return Then::Rest;
+    };
+    match ask_denial(rt, room.alloc, session, place) {
+        Ok(answer) => behind_denial(session, room, quota, place, answer, errors),
+        Err(_) => Then::Rest,
+    }
+}
+
+// Does what is due. The guard finds a halt due only where the room is low, and a denial only where there is a quota.
+#[tactic(auto, using(crate::proofs::GoingOn::low_due))]
 fn do_due<T: Wait, E: Write>(
     rt: &T,
     session: &mut Session,
+    asked: &Attention,
     room: &mut Room,
     due: Due,
     used: usize,
@@ -192,6 +244,9 @@ fn do_due<T: Wait, E: Write>(
 ) -> Then
     ensures does { DoesDue due session.old.staff.control session.new.staff.control }
     ensures crew { session.new.staff.crew ≡ session.old.staff.crew }
+    ensures ends { result ≡ End
+        → HaltIsDue (terms asked.now room.old.capacity) used session.old.staff.control session.new.staff.control }
+    ensures capacity { room.new.capacity ≡ room.old.capacity }
 {
     match due {
         Due::Nothing => Then::Rest,
@@ -200,14 +255,12 @@ fn do_due<T: Wait, E: Write>(
             room.guard.note(due);
             Then::Next
         }
-        Due::Halt => {
+        Due::Halt if is_low(asked, room.capacity, used) => {
             room.tell(String::from_str(room.alloc, ENDS), errors);
             Then::End
         }
-        Due::Deny(place) => match ask_denial(rt, room.alloc, session, place) {
-            Ok(answer) => behind_denial(session, room, place, answer, errors),
-            Err(_) => Then::Rest,
-        },
+        Due::Halt => Then::Rest,
+        Due::Deny(place) => deny(rt, session, asked, room, place, errors),
     }
 }
 
@@ -215,25 +268,24 @@ fn do_due<T: Wait, E: Write>(
 pub(crate) fn keep_room<T: Wait + Clock, E: Write>(
     rt: &T,
     session: &mut Session,
+    asked: &Attention,
     room: &mut Room,
     used: usize,
     errors: &mut E,
 ) -> Goes
     ensures chores { Chores session.old.staff.control session.new.staff.control }
     ensures crew { session.new.staff.crew ≡ session.old.staff.crew }
+    ensures ends { result ≡ Out
+        → HaltIsDue (terms asked.now room.old.capacity) used session.old.staff.control session.new.staff.control }
+    ensures capacity { room.new.capacity ≡ room.old.capacity }
 {
     if !room.is_due(rt) {
         return Goes::On;
     }
-    check_promise(session, room, errors);
+    check_promise(session, asked, room, errors);
     for _ in 0..MOST_DUES {
-        let due = room.guard.next(
-            session.staff.catalogue(),
-            &room.tally,
-            session.capacity,
-            used,
-        );
-        match do_due(rt, session, room, due, used, errors) {
+        let due = room.guard.next(session.staff.catalogue(), &room.tally, room.capacity, used);
+        match do_due(rt, session, asked, room, due, used, errors) {
             Then::Next => {}
             Then::Rest => return Goes::On,
             Then::End => return Goes::Out,

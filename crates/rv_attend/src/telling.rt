@@ -19,6 +19,8 @@ pub(crate) fn open_notices<T, F>(session: &mut Session, follower: &mut Follower<
     ensures staff { session.new.staff ≡ session.old.staff }
     ensures keeper { follower.new.keeper ≡ follower.old.keeper }
     ensures asked { follower.new.asked ≡ follower.old.asked }
+    ensures room { follower.new.room ≡ follower.old.room }
+    ensures source { follower.new.source ≡ follower.old.source }
 {
     if !follower.asked.tells {
         return;

@@ -1,17 +1,22 @@
 //! Waiting for a command.
 
-ghost use Rattle.std.specs.Prelude.{◌≡◌};
+ghost use Rattle.std.specs.Prelude.{◌≡◌, ◌⊎◌, IfOk, IfSome};
 ghost use Rattle.rv_attend.specs.Attending.{Grows};
-ghost use Rattle.rv_attend.specs.Lasting.{Tends, at};
+ghost use Rattle.rv_attend.specs.Going.{CommandComes, UnlessStopped, terms};
+ghost use Rattle.rv_attend.specs.Lasting.{GoesFor, Halts, Tends, at};
+ghost use Rattle.rv_attend.specs.declared.waiting.Heard.TheVariants.{Command};
+ghost use Rattle.rv_feed.specs.Hearing.{HearsOn, IsStopped, heard, told};
+ghost use Rattle.rv_feed.specs.declared.feed.Came.TheVariants.{Over};
+ghost use Rattle.rv_input.specs.Whole.{HasCommand};
+ghost use Rattle.rv_run.specs.declared.command.Goes.TheVariants.{Out};
 
-use crate::coming::{has_command, has_command_now};
 use crate::due::{do_chores, do_round};
 use crate::follower::Follower;
 use crate::ticking::until_tick;
 use rv_fault::Failure;
 use rv_feed::{Came, Listening};
 use rv_follow::Found;
-use rv_input::Input;
+use rv_input::{Input, has_command, has_command_now};
 use rv_pace::Pace;
 use rv_run::command::{Goes, of_input};
 use rv_run::outputs::KeptFailure;
@@ -45,20 +50,37 @@ fn next_wait<T: Clock>(rt: &T, pace: &Option<Pace>, millis: u64) -> Duration {
     }
 }
 
+// What was found of the input, where this came behind so many bytes.
+fn found_by(came: Came, input: &Input, before: usize) -> Heard
+    ensures { result ≡ Command → (came ≡ Over) ⊎ HasCommand input.now }
+{
+    match came {
+        Came::Bytes => {
+            if has_command_now(input, before) {
+                Heard::Command
+            } else {
+                Heard::More
+            }
+        }
+        Came::Nothing => Heard::Nothing,
+        Came::Over => Heard::Command,
+    }
+}
+
 // Waits for more of the input.
 fn hear<T: Wait + Clock>(
     source: &mut Listening<'_, T>,
     input: &mut Input,
     most: Duration,
 ) -> Result<Heard, Failure>
-    ensures { Grows input.old input.new }
+    ensures grows { Grows input.old input.new }
+    ensures hears { IfOk result (λ _. HearsOn (heard source.old.feed) (heard source.new.feed) input.old input.new) }
+    ensures comes { IfOk result (λ found. found ≡ Command → CommandComes (heard source.new.feed) input.new) }
+    ensures stop { source.new.stop ≡ source.old.stop }
 {
     let before = input.ahead().len();
     match source.hear(input, most) {
-        Ok(Came::Bytes) if has_command_now(input, before) => Ok(Heard::Command),
-        Ok(Came::Bytes) => Ok(Heard::More),
-        Ok(Came::Over) => Ok(Heard::Command),
-        Ok(Came::Nothing) => Ok(Heard::Nothing),
+        Ok(came) => Ok(found_by(came, input, before)),
         Err(fault) => Err(of_input(fault)),
     }
 }
@@ -73,8 +95,44 @@ fn wait_behind(found: Found, heard: Heard, millis: u64) -> u64 {
 }
 
 // Whether the run goes on: it was not ended from outside.
-fn unless_stopped<T: Wait + Clock>(source: &Listening<'_, T>, goes: Goes) -> Goes {
-    if source.is_stopped() { Goes::Out } else { goes }
+fn unless_stopped<T: Wait + Clock>(source: &mut Listening<'_, T>, goes: Goes) -> Goes
+    ensures goes { UnlessStopped (told source.old.stop) (told source.new.stop) goes result }
+    ensures feed { source.new.feed ≡ source.old.feed }
+{
+    match goes {
+        Goes::On => {
+            if source.is_stopped() {
+                Goes::Out
+            } else {
+                Goes::On
+            }
+        }
+        Goes::Out => Goes::Out,
+    }
+}
+
+// Does what is due once, behind what was found of the input. Gives the end of the run, where it ends.
+fn do_once<T: Wait + Clock, E: Write, F: Write>(
+    rt: &T,
+    session: &mut Session,
+    follower: &mut Follower<'_, T, F>,
+    found: Heard,
+    errors: &mut E,
+    millis: &mut u64,
+) -> Result<Option<Goes>, KeptFailure>
+    ensures tends { Tends (at session.old.staff (F.contents follower.old.keeper.file) follower.old.keeper.next (terms follower.old.asked follower.old.room.capacity))
+        (at session.new.staff (F.contents follower.new.keeper.file) follower.new.keeper.next (terms follower.new.asked follower.new.room.capacity)) result }
+    ensures feed { follower.new.source.feed ≡ follower.old.source.feed }
+    ensures ends { IfOk result (λ goes. IfSome goes (λ ends. (ends ≡ Out) × (Halts (at session.old.staff (F.contents follower.old.keeper.file) follower.old.keeper.next (terms follower.old.asked follower.old.room.capacity))
+        (at session.new.staff (F.contents follower.new.keeper.file) follower.new.keeper.next (terms follower.new.asked follower.new.room.capacity)) ⊎ IsStopped (told follower.new.source.stop)))) }
+{
+    match do_round(rt, session, follower, errors) {
+        Ok(round) => {
+            *millis = wait_behind(round.found, found, *millis);
+            Ok(unless_on(unless_stopped(&mut follower.source, round.goes)))
+        }
+        Err(failure) => Err(failure),
+    }
 }
 
 // Waits once, and then does what is due, also where more entries came than are written at once: so a command is soon heard.
@@ -87,26 +145,25 @@ fn wait_once<T: Wait + Clock, E: Write, F: Write>(
     errors: &mut E,
     millis: &mut u64,
 ) -> Result<Option<Goes>, KeptFailure>
-    ensures tends { Tends (at session.old.staff (F.contents follower.old.keeper.file) follower.old.keeper.next follower.old.asked)
-        (at session.new.staff (F.contents follower.new.keeper.file) follower.new.keeper.next follower.new.asked) result }
-    ensures heard { Grows input.old input.new }
+    ensures tends { Tends (at session.old.staff (F.contents follower.old.keeper.file) follower.old.keeper.next (terms follower.old.asked follower.old.room.capacity))
+        (at session.new.staff (F.contents follower.new.keeper.file) follower.new.keeper.next (terms follower.new.asked follower.new.room.capacity)) result }
+    ensures grows { Grows input.old input.new }
+    ensures hears { IfOk result (λ _. HearsOn (heard follower.old.source.feed) (heard follower.new.source.feed) input.old input.new) }
+    ensures goes { IfOk result (λ goes. IfSome goes (GoesFor (at session.old.staff (F.contents follower.old.keeper.file) follower.old.keeper.next (terms follower.old.asked follower.old.room.capacity))
+        (at session.new.staff (F.contents follower.new.keeper.file) follower.new.keeper.next (terms follower.new.asked follower.new.room.capacity)) input.new (heard follower.new.source.feed) (told follower.new.source.stop))) }
 {
     let most = next_wait(rt, &follower.pace, *millis);
     match hear(&mut follower.source, input, most) {
         Ok(Heard::Command) => Ok(Some(Goes::On)),
-        Ok(heard) => match do_round(rt, session, follower, errors) {
-            Ok(round) => {
-                *millis = wait_behind(round.found, heard, *millis);
-                Ok(unless_on(unless_stopped(&follower.source, round.goes)))
-            }
-            Err(failure) => Err(failure),
-        },
+        Ok(found) => do_once(rt, session, follower, found, errors, millis),
         Err(failure) => Err(KeptFailure::Run(failure)),
     }
 }
 
 // The end of a run, or nothing yet.
-fn unless_on(goes: Goes) -> Option<Goes> {
+fn unless_on(goes: Goes) -> Option<Goes>
+    ensures { IfSome result (λ ends. (ends ≡ Out) × (goes ≡ Out)) }
+{
     match goes {
         Goes::On => None,
         Goes::Out => Some(Goes::Out),
@@ -122,18 +179,21 @@ pub(crate) fn wait_command<T: Wait + Clock, E: Write, F: Write>(
     input: &mut Input,
     errors: &mut E,
 ) -> Result<Goes, KeptFailure>
-    ensures tends { Tends (at session.old.staff (F.contents follower.old.keeper.file) follower.old.keeper.next follower.old.asked)
-        (at session.new.staff (F.contents follower.new.keeper.file) follower.new.keeper.next follower.new.asked) result }
-    ensures heard { Grows input.old input.new }
+    ensures tends { Tends (at session.old.staff (F.contents follower.old.keeper.file) follower.old.keeper.next (terms follower.old.asked follower.old.room.capacity))
+        (at session.new.staff (F.contents follower.new.keeper.file) follower.new.keeper.next (terms follower.new.asked follower.new.room.capacity)) result }
+    ensures grows { Grows input.old input.new }
+    ensures hears { IfOk result (λ _. HearsOn (heard follower.old.source.feed) (heard follower.new.source.feed) input.old input.new) }
+    ensures goes { IfOk result (GoesFor (at session.old.staff (F.contents follower.old.keeper.file) follower.old.keeper.next (terms follower.old.asked follower.old.room.capacity))
+        (at session.new.staff (F.contents follower.new.keeper.file) follower.new.keeper.next (terms follower.new.asked follower.new.room.capacity)) input.new (heard follower.new.source.feed) (told follower.new.source.stop)) }
 {
     if has_command(input) {
-        return Ok(unless_stopped(&follower.source, Goes::On));
+        return Ok(unless_stopped(&mut follower.source, Goes::On));
     }
     let mut millis = SHORTEST;
     for _ in rt.forever() {
         match wait_once(rt, session, follower, input, errors, &mut millis) {
             Ok(None) => {}
-            Ok(Some(goes)) => return Ok(unless_stopped(&follower.source, goes)),
+            Ok(Some(goes)) => return Ok(unless_stopped(&mut follower.source, goes)),
             Err(failure) => return Err(failure),
         }
     }
@@ -149,9 +209,12 @@ pub(crate) fn wait_caught_up<T: Wait + Clock, E: Write, F: Write>(
     input: &mut Input,
     errors: &mut E,
 ) -> Result<Goes, KeptFailure>
-    ensures tends { Tends (at session.old.staff (F.contents follower.old.keeper.file) follower.old.keeper.next follower.old.asked)
-        (at session.new.staff (F.contents follower.new.keeper.file) follower.new.keeper.next follower.new.asked) result }
-    ensures heard { Grows input.old input.new }
+    ensures tends { Tends (at session.old.staff (F.contents follower.old.keeper.file) follower.old.keeper.next (terms follower.old.asked follower.old.room.capacity))
+        (at session.new.staff (F.contents follower.new.keeper.file) follower.new.keeper.next (terms follower.new.asked follower.new.room.capacity)) result }
+    ensures grows { Grows input.old input.new }
+    ensures hears { IfOk result (λ _. HearsOn (heard follower.old.source.feed) (heard follower.new.source.feed) input.old input.new) }
+    ensures goes { IfOk result (GoesFor (at session.old.staff (F.contents follower.old.keeper.file) follower.old.keeper.next (terms follower.old.asked follower.old.room.capacity))
+        (at session.new.staff (F.contents follower.new.keeper.file) follower.new.keeper.next (terms follower.new.asked follower.new.room.capacity)) input.new (heard follower.new.source.feed) (told follower.new.source.stop)) }
 {
     match wait_command(rt, session, follower, input, errors) {
         Ok(Goes::On) if follower.asked.console.is_some() => {

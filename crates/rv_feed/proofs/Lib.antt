@@ -1,2 +1,2 @@
 pub mod Ordered
-pub mod Giving
+pub mod Heard

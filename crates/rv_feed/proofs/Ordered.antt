@@ -7,7 +7,7 @@ use lib.ListN.{get_elem?}
 use Rattle.crossbeam_channel.specs.Fifo.{Pushes}
 use Rattle.rv_input.specs.declared.fault.InputFault.{InputFault}
 use Rattle.rv_feed.specs.Hearing.{HandsOn, HandsOnBut, ReadsPiece, Says, most_of_piece}
-use Rattle.rv_feed.specs.Order.{AreInOrder, all_bytes, bytes_of, grown, pieces_known}
+use Rattle.rv_feed.specs.Order.{AreInOrder, IsOver, all_bytes, bytes_of, grown, is_end, is_over, pieces_known}
 use Rattle.rv_feed.specs.declared.piece.Piece.{Piece}
 use Rattle.rv_feed.specs.declared.piece.Piece.TheVariants as Pieces
 use Rattle.rv_feed.specs.declared.rule.Known.{Known}
@@ -70,29 +70,65 @@ handed n pass view piece says = subst (λ (v : Known). Pushes AreInOrder n pass 
 none_lost : 0 ≤ most_of_piece
 none_lost = omega arith
 
--- nothing was read
-pub hands_nothing : (before : List Piece) (old new : Option (List ℕ)) → ReadsPiece old new None → HandsOn before before old new
-hands_nothing before old new reads = ([], none_lost, ([], sym (append-nil before), reads))
-
 -- bytes were read, and handed on
-pub hands_bytes : (before after : List Piece) (old new : Option (List ℕ)) (bytes : Vec ℕ Global) → ReadsPiece old new (Some (Pieces.Bytes bytes))
+pub hands_bytes : (before after : List Piece) (old new : Option (List ℕ)) (bytes : Vec ℕ Global) → ReadsPiece old new (Pieces.Bytes bytes)
     → Says before after (Pieces.Bytes bytes) true → HandsOnBut [] before after old new
 hands_bytes before after old new bytes reads says =
     (Pieces.Bytes bytes ∷ [], says, subst (λ (l : List ℕ). Consumes old new l) (sym (append-nil (bytes.items ++ []) ∙ append-nil bytes.items)) reads.0)
 
 -- unless nobody waits for them
-pub hands_read : (before after : List Piece) (old new : Option (List ℕ)) (bytes : Vec ℕ Global) (is_said : Bool) → ReadsPiece old new (Some (Pieces.Bytes bytes))
+pub hands_read : (before after : List Piece) (old new : Option (List ℕ)) (bytes : Vec ℕ Global) (is_said : Bool) → ReadsPiece old new (Pieces.Bytes bytes)
     → Says before after (Pieces.Bytes bytes) is_said → HandsOn before after old new
 hands_read before after old new bytes true reads says = ([], none_lost, hands_bytes before after old new bytes reads says)
 hands_read before after old new bytes false reads says = (bytes.items, reads.1, ([], says ∙ sym (append-nil before), reads.0))
 
 -- a read failed
-pub hands_fault : (before after : List Piece) (old new : Option (List ℕ)) (fault : InputFault) (is_said : Bool) → ReadsPiece old new (Some (Pieces.Failed fault))
+pub hands_fault : (before after : List Piece) (old new : Option (List ℕ)) (fault : InputFault) (is_said : Bool) → ReadsPiece old new (Pieces.Failed fault)
     → Says before after (Pieces.Failed fault) is_said → HandsOn before after old new
 hands_fault before after old new fault true (lost, few, reads) says = (lost, few, (Pieces.Failed fault ∷ [], says, reads))
 hands_fault before after old new fault false (lost, few, reads) says = (lost, few, ([], says ∙ sym (append-nil before), reads))
 
-bytes_both : (xs ys : List Piece) → all_bytes (xs ++ ys) ≡ all_bytes xs ++ all_bytes ys
+-- the end was read
+pub hands_end : (before after : List Piece) (old new : Option (List ℕ)) (is_said : Bool) → ReadsPiece old new Pieces.End
+    → Says before after Pieces.End is_said → HandsOn before after old new
+hands_end before after old new true reads says = ([], none_lost, (Pieces.End ∷ [], says, reads.0))
+hands_end before after old new false reads says = ([], none_lost, ([], says ∙ sym (append-nil before), reads.0))
+
+-- What is last
+
+-- the last piece tells whether the input is over
+pub over_by : (before : List Piece) (piece : Piece) → is_over (before ++ piece ∷ []) ≡ is_end piece
+over_by [] piece = refl
+over_by (x ∷ []) piece = refl
+over_by (x ∷ y ∷ before) piece = over_by (y ∷ before) piece
+
+-- behind the end it is
+pub over_behind : (before after : List Piece) (piece : Piece) → after ≡ before ++ piece ∷ [] → piece ≡ Pieces.End → IsOver after
+over_behind before after piece is end = ap is_over is ∙ (over_by before piece ∙ ap is_end end)
+
+not_true : (b : Bool) → b ≡ true → b ≡ false → ⊥
+not_true b is isn't = absurd (cc (is, isn't))
+
+-- behind bytes or a failure that were handed on it isn't
+pub not_over_by_bytes : (before after : List Piece) (bytes : Vec ℕ Global) → Says before after (Pieces.Bytes bytes) true → IsOver after → ⊥
+not_over_by_bytes before after bytes says over = not_true (is_over after) over (ap is_over says ∙ over_by before (Pieces.Bytes bytes))
+
+not_over_by_fault : (before after : List Piece) (fault : InputFault) → Says before after (Pieces.Failed fault) true → IsOver after → ⊥
+not_over_by_fault before after fault says over = not_true (is_over after) over (ap is_over says ∙ over_by before (Pieces.Failed fault))
+
+-- nor where nothing was
+still_going : (before after : List Piece) → after ≡ before → (IsOver before → ⊥) → IsOver after → ⊥
+still_going before after same going over = going (subst (λ (l : List Piece). IsOver l) same over)
+
+pub ends_not_by_bytes : (before after : List Piece) (bytes : Vec ℕ Global) (is_said : Bool) (P : Type 0) → Says before after (Pieces.Bytes bytes) is_said → (IsOver before → ⊥) → IsOver after → P
+ends_not_by_bytes before after bytes true P says going over = absurd (not_over_by_bytes before after bytes says over)
+ends_not_by_bytes before after bytes false P says going over = absurd (still_going before after says going over)
+
+pub ends_not_by_fault : (before after : List Piece) (fault : InputFault) (is_said : Bool) (P : Type 0) → Says before after (Pieces.Failed fault) is_said → (IsOver before → ⊥) → IsOver after → P
+ends_not_by_fault before after fault true P says going over = absurd (not_over_by_fault before after fault says over)
+ends_not_by_fault before after fault false P says going over = absurd (still_going before after says going over)
+
+pub bytes_both : (xs ys : List Piece) → all_bytes (xs ++ ys) ≡ all_bytes xs ++ all_bytes ys
 bytes_both [] ys = refl
 bytes_both (x ∷ xs) ys = ap (λ (l : List ℕ). bytes_of x ++ l) (bytes_both xs ys) ∙ sym (append_assoc (bytes_of x) (all_bytes xs) (all_bytes ys))
 

@@ -1,19 +1,35 @@
 -- The order of the pieces of an input between the two ends of a feed. (own)
-use Rattle.std.specs.Prelude.{◌≡◌, ◌⊎◌, ℕ, List, [], ◌∷◌, ◌++◌}
+use Rattle.std.specs.Prelude.{◌≡◌, ◌⊎◌, ℕ, Bool, true, false, List, [], ◌∷◌, ◌++◌}
 use Rattle.rv_feed.specs.declared.piece.Piece.{Piece}
 use Rattle.rv_feed.specs.declared.piece.Piece.TheVariants as Pieces
 use Rattle.rv_feed.specs.declared.rule.Known.{Known}
 use Rattle.rv_feed.specs.declared.rule.Known.TheVariants.{Nothing, Said, Heard}
 
--- the bytes of a piece; a failure has none
+-- the bytes of a piece; a failure has none, and the end neither
 abbrev pub bytes_of : Piece → List ℕ
 bytes_of (Pieces.Bytes bytes) = bytes.items
 bytes_of (Pieces.Failed fault) = []
+bytes_of Pieces.End = []
 
 -- the bytes of pieces, one behind another
 abbrev pub all_bytes : List Piece → List ℕ
 all_bytes [] = []
 all_bytes (piece ∷ pieces) = bytes_of piece ++ all_bytes pieces
+
+-- a piece tells the end of the input
+abbrev pub is_end : Piece → Bool
+is_end Pieces.End = true
+is_end piece = false
+
+-- the last of these pieces tells it
+abbrev pub is_over : List Piece → Bool
+is_over [] = false
+is_over (piece ∷ []) = is_end piece
+is_over (piece ∷ next ∷ pieces) = is_over (next ∷ pieces)
+
+-- the input is over
+abbrev pub IsOver : List Piece → Type 0
+IsOver pieces = is_over pieces ≡ true
 
 -- the pieces that an end handed on or took
 abbrev pub pieces_known : Known → List Piece

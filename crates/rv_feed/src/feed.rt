@@ -1,11 +1,11 @@
 //! The end that waits for an input.
 
-ghost use Rattle.std.specs.Prelude.{◌≡◌};
-ghost use Rattle.rv_feed.specs.Hearing.{Hears, IsErrorOf, ReadsInTime, Takes, heard};
+ghost use Rattle.std.specs.Prelude.{◌≡◌, false, true};
+ghost use Rattle.rv_feed.specs.Hearing.{Hears, IsLost, Takes, Waits, heard};
+ghost use Rattle.rv_feed.specs.Order.{IsOver};
 
 use crate::pair::Feed;
 use crate::piece::Piece;
-use crate::rest::Rest;
 use crate::rule::Goes;
 use crossbeam_channel::TryRecvError;
 use rv_input::{Input, InputFault};
@@ -25,29 +25,28 @@ pub enum Came {
     Over,
 }
 
-// The error that tells of a fault.
-fn error_of(fault: InputFault) -> io::Error
-    ensures { IsErrorOf fault result }
+// Who reads the input is gone, and hasn't told its end.
+fn lost() -> InputFault
+    ensures { IsLost result }
 {
-    match fault {
-        InputFault::Memory => io::Error::from(ErrorKind::OutOfMemory),
-        InputFault::Io(e) => e,
-    }
+    InputFault::Io(io::Error::from(ErrorKind::UnexpectedEof))
 }
 
 impl Feed {
     // The next piece, if one came.
     fn look<R: Wait>(&mut self, rt: &R) -> Result<Piece, TryRecvError>
+        requires { self.now.is_over ≡ false }
         ensures takes { Takes (heard self.old) (heard self.new) result }
-        ensures rest { self.new.rest ≡ self.old.rest }
+        ensures same { self.new.is_over ≡ self.old.is_over }
     {
         self.pieces.try_recv_as::<Goes, R>(rt, &mut self.pass)
     }
 
     // The next piece, for which it waits at most a while.
     fn next<R: Wait + Clock>(&mut self, rt: &R, most: Duration) -> Result<Piece, TryRecvError>
+        requires { self.now.is_over ≡ false }
         ensures takes { Takes (heard self.old) (heard self.new) result }
-        ensures rest { self.new.rest ≡ self.old.rest }
+        ensures same { self.new.is_over ≡ self.old.is_over }
     {
         match self.look(rt) {
             Ok(piece) => Ok(piece),
@@ -59,10 +58,12 @@ impl Feed {
         }
     }
 
-    /// Waits for more of the input, at most for a while, and puts the next piece behind what was read ahead.
+    /// Waits for more of the input, at most for a while, and puts the next piece behind what was read ahead. Behind the
+    /// end of the input nothing is waited for any more.
     ///
     /// # Errors
-    /// As the read that failed, or for want of memory.
+    /// As the read that failed, or for want of memory. `UnexpectedEof` where who reads the input is gone without a word.
+    #[tactic(auto, using(crate::proofs::Ordered::over_behind))]
     pub fn hear<R: Wait + Clock>(
         &mut self,
         rt: &R,
@@ -70,47 +71,33 @@ impl Feed {
         most: Duration,
     ) -> Result<Came, InputFault>
         ensures hears { Hears (heard self.old) (heard self.new) input.old input.new result }
-        ensures rest { self.new.rest ≡ self.old.rest }
     {
+        if self.is_over {
+            return Ok(Came::Over);
+        }
         match self.next(rt, most) {
             Ok(Piece::Bytes(bytes)) => match input.put(bytes.as_slice()) {
                 Ok(()) => Ok(Came::Bytes),
                 Err(_) => Err(InputFault::Memory),
             },
             Ok(Piece::Failed(fault)) => Err(fault),
-            Err(TryRecvError::Disconnected) => Ok(Came::Over),
+            Ok(Piece::End) => {
+                self.is_over = true;
+                Ok(Came::Over)
+            }
+            Err(TryRecvError::Disconnected) => Err(lost()),
             Err(TryRecvError::Empty) => Ok(Came::Nothing),
         }
     }
 
-    /// Whether the end that reads the input is gone. No piece is taken.
-    pub fn is_over<R: Wait>(&self, rt: &R) -> bool {
-        matches!(self.bell.try_recv(rt), Err(TryRecvError::Disconnected))
-    }
-
-    /// Reads the next bytes, for which it waits at most a while: 0 at the end, and none where nothing came.
-    ///
-    /// # Errors
-    /// As the read that failed.
-    pub(crate) fn read<R: Wait + Clock>(
-        &mut self,
-        rt: &R,
-        most: Duration,
-        buf: &mut [u8],
-    ) -> io::Result<Option<usize>>
-        ensures { ReadsInTime (heard self.old) (heard self.new) self.old.rest buf.new self.new.rest result }
+    /// Whether the input is over. A piece that came and isn't its end is let go.
+    #[tactic(auto, using(crate::proofs::Ordered::over_behind))]
+    pub fn is_over<R: Wait>(&mut self, rt: &R) -> bool
+        ensures { result ≡ true → IsOver (heard self.new) }
     {
-        if !self.rest.is_empty() {
-            return Ok(Some(self.rest.give(buf)));
+        if !self.is_over {
+            self.is_over = matches!(self.look(rt), Ok(Piece::End));
         }
-        match self.next(rt, most) {
-            Ok(Piece::Bytes(bytes)) => {
-                self.rest = Rest::all_of(bytes);
-                Ok(Some(self.rest.give(buf)))
-            }
-            Ok(Piece::Failed(fault)) => Err(error_of(fault)),
-            Err(TryRecvError::Disconnected) => Ok(Some(0)),
-            Err(TryRecvError::Empty) => Ok(None),
-        }
+        self.is_over
     }
 }

@@ -6,8 +6,8 @@ mod feed;
 mod listening;
 mod pair;
 mod piece;
-mod rest;
 mod rule;
+mod sections;
 mod speaker;
 
 pub use feed::Came;

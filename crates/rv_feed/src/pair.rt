@@ -1,13 +1,12 @@
 //! The two ends of an input that a thread reads.
 
-ghost use Rattle.std.specs.Prelude.{◌≡◌, [], IfOk};
+ghost use Rattle.std.specs.Prelude.{◌≡◌, [], IfOk, true};
 ghost use Rattle.crossbeam_channel.specs.Claims.{view, IsSeatAt};
 ghost use Rattle.crossbeam_channel.specs.Ends.{receives_on, sends_on};
-ghost use Rattle.rv_feed.specs.Order.{pieces_known};
+ghost use Rattle.rv_feed.specs.Order.{IsOver, pieces_known};
 ghost use Rattle.rv_feed.specs.declared.rule.Known.TheVariants.{Said, Heard};
 
 use crate::piece::Piece;
-use crate::rest::Rest;
 use crate::rule::{InOrder, Known, Parts};
 use crossbeam_channel::{
     Pass, Receiver, RuledReceiver, RuledSender, Sender, bounded, bounded_with,
@@ -36,10 +35,11 @@ pub struct Feed {
     pub(crate) pieces: RuledReceiver<Piece, Known, InOrder>,
     pub(crate) pass: Pass<Piece, Known>,
     pub(crate) bell: Receiver<u8>,
-    // What a read into a short buffer left of a piece.
-    pub(crate) rest: Rest,
+    // Whether the input is over, as was told.
+    pub(crate) is_over: bool,
     pub ghost at: { IsSeatAt (receives_on pieces) pass },
     pub ghost hears: { view pass ≡ Heard (pieces_known (view pass)) },
+    pub ghost told: { is_over ≡ true → IsOver (pieces_known (view pass)) },
 }
 
 /// The two ends of one channel. Nothing was read yet.
@@ -50,7 +50,6 @@ pub fn ends(alloc: Global) -> Result<(Speaker, Feed), AllocError>
     ensures one { IfOk result (λ ends. receives_on ends.1.pieces ≡ sends_on ends.0.pieces) }
     ensures said { IfOk result (λ ends. pieces_known (view ends.0.pass) ≡ []) }
     ensures heard { IfOk result (λ ends. pieces_known (view ends.1.pass) ≡ []) }
-    ensures rest { IfOk result (λ ends. ends.1.rest ≡ []) }
 {
     let (bell, rings) = bounded(alloc, 1)?;
     let (sender, receiver, mut pass): (
@@ -70,7 +69,7 @@ pub fn ends(alloc: Global) -> Result<(Speaker, Feed), AllocError>
         pieces: receiver,
         pass: other,
         bell: rings,
-        rest: Rest::none(alloc),
+        is_over: false,
     };
     Ok((speaker, feed))
 }

@@ -9,4 +9,6 @@ pub enum Piece {
     Bytes(Vec<u8>),
     /// A read failed, or memory for its bytes was refused.
     Failed(InputFault),
+    /// It is over: nothing comes behind this.
+    End,
 }

@@ -1,8 +1,10 @@
 //! The end that reads an input.
 
 ghost use Rattle.std.specs.Prelude.{◌≡◌, ◌≤◌, ℕ, List, [], length, true};
-ghost use Rattle.std.specs.Io.KnownBytes.{Consumes};
-ghost use Rattle.rv_feed.specs.Hearing.{HandsOn, HandsOnBut, IsCopy, ReadsPiece, Says, said};
+ghost use Rattle.std.specs.Io.KnownBytes.{Consumes, IsAtEnd};
+ghost use Rattle.rv_feed.specs.Hearing.{HandsOn, HandsOnBut, IsCopy, MaySay, ReadsPiece, Says, said};
+ghost use Rattle.rv_feed.specs.Order.{IsOver};
+ghost use Rattle.rv_feed.specs.declared.piece.Piece.TheVariants as Pieces;
 
 use crate::pair::Speaker;
 use crate::piece::Piece;
@@ -26,15 +28,15 @@ impl Speaker {
         }
     }
 
-    // The next piece; none at the end.
-    fn piece<I: Read>(&self, reader: &mut I) -> Option<Piece>
+    // The next piece of an input.
+    fn piece<I: Read>(&self, reader: &mut I) -> Piece
         ensures { ReadsPiece (I.remaining reader.old) (I.remaining reader.new) result }
     {
         let mut chunk = [0; PIECE];
         match reader.read(&mut chunk) {
-            Ok(0) => None,
-            Ok(count) => Some(self.copied(&chunk[..count])),
-            Err(e) => Some(Piece::Failed(InputFault::Io(e))),
+            Ok(0) => Piece::End,
+            Ok(count) => self.copied(&chunk[..count]),
+            Err(e) => Piece::Failed(InputFault::Io(e)),
         }
     }
 
@@ -53,24 +55,31 @@ impl Speaker {
     }
 
     // Reads once, and hands on what comes. False at the end, behind a failure, and where nobody waits any more.
-    #[tactic(auto, using(crate::proofs::Ordered::hands_nothing, crate::proofs::Ordered::hands_bytes, crate::proofs::Ordered::hands_read, crate::proofs::Ordered::hands_fault))]
+    #[tactic(auto, using(crate::proofs::Ordered::hands_bytes, crate::proofs::Ordered::hands_read, crate::proofs::Ordered::hands_fault, crate::proofs::Ordered::hands_end, crate::proofs::Ordered::not_over_by_bytes, crate::proofs::Ordered::ends_not_by_bytes, crate::proofs::Ordered::ends_not_by_fault))]
     fn read_on<R: Wait, I: Read>(&mut self, rt: &R, reader: &mut I) -> bool
         ensures hands { HandsOn (said self.old) (said self.new) (I.remaining reader.old) (I.remaining reader.new) }
         ensures whole { result ≡ true → HandsOnBut [] (said self.old) (said self.new) (I.remaining reader.old) (I.remaining reader.new) }
+        ensures goes { result ≡ true → IsOver (said self.new) → ⊥ }
+        ensures ends { (IsOver (said self.old) → ⊥) → IsOver (said self.new) → IsAtEnd (I.remaining reader.new) }
     {
         match self.piece(reader) {
-            None => false,
-            Some(Piece::Bytes(bytes)) => self.say(rt, Piece::Bytes(bytes)),
-            Some(Piece::Failed(fault)) => {
+            Piece::Bytes(bytes) => self.say(rt, Piece::Bytes(bytes)),
+            Piece::Failed(fault) => {
                 self.say(rt, Piece::Failed(fault));
+                false
+            }
+            Piece::End => {
+                self.say(rt, Piece::End);
                 false
             }
         }
     }
 
-    /// Reads an input to its end, or until nobody waits for it, and hands on what comes.
+    /// Reads an input to its end, or until nobody waits for it, and hands on what comes. The end of the input is told
+    /// where it was read, and only there.
     pub fn read_all<R: Wait, I: Read>(&mut self, rt: &R, reader: &mut I)
-        ensures { HandsOn (said self.old) (said self.new) (I.remaining reader.old) (I.remaining reader.new) }
+        ensures hands { HandsOn (said self.old) (said self.new) (I.remaining reader.old) (I.remaining reader.new) }
+        ensures ends { (IsOver (said self.old) → ⊥) → IsOver (said self.new) → IsAtEnd (I.remaining reader.new) }
     {
         for _ in rt.forever() {
             if !self.read_on(rt, reader) {
@@ -79,11 +88,20 @@ impl Speaker {
         }
     }
 
-    /// Reads an input once, at most a byte, to whatever comes of it, and is gone then: the other end is over.
-    pub fn read_once<I: Read>(self, reader: &mut I)
-        ensures { (bytes : List ℕ) × (length bytes ≤ 1) × Consumes (I.remaining reader.old) (I.remaining reader.new) bytes }
+    /// Tells that an input is over, where somebody waits for it.
+    pub fn tell_end<R: Wait>(&mut self, rt: &R)
+        ensures { MaySay (said self.old) (said self.new) Pieces.End }
+    {
+        self.say(rt, Piece::End);
+    }
+
+    /// Reads an input once, at most a byte, to whatever comes of it, and then tells that it is over.
+    pub fn read_once<R: Wait, I: Read>(&mut self, rt: &R, reader: &mut I)
+        ensures reads { (bytes : List ℕ) × (length bytes ≤ 1) × Consumes (I.remaining reader.old) (I.remaining reader.new) bytes }
+        ensures tells { MaySay (said self.old) (said self.new) Pieces.End }
     {
         let mut chunk = [0];
         let _ = reader.read(&mut chunk);
+        self.tell_end(rt);
     }
 }

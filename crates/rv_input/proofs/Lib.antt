@@ -1,3 +1,4 @@
 mod Told
 mod FirstLines
 mod Passing
+pub mod WholeLines

@@ -1,7 +1,7 @@
 -- What calls tell of what comes.
 use Rattle.std.proofs.Common.{◌≡◌, ℕ, zero, suc, ◌+◌, ◌-◌, ◌<◌, Bool, List, [], ◌∷◌, ◌++◌, Option, Some, None, MatchOption, IfSome, length, take, drop, refl, sym, ap, ◌∙◌, subst, arith, append_assoc, length-drop}
 use Rattle.std.specs.Io.KnownBytes.{Consumes, IsAtEnd, Keeps, prepend_known}
-use Rattle.rv_input.specs.Coming.{Reading, IfTold, GivesBefore, GivesByte, IsBefore, coming, most_before}
+use Rattle.rv_input.specs.Coming.{Reading, IfTold, GivesBefore, GivesByte, IsBefore, Shortens, coming, most_before}
 
 -- an input of which nothing was read
 abbrev fresh : Reading
@@ -70,6 +70,18 @@ taken_both (Some x) (Some y) (Some z) xs ys p q = p ∙ (ap (λ (l : List ℕ). 
 -- the same bytes are taken
 pub taken_as : (a b : Option (List ℕ)) (xs ys : List ℕ) → xs ≡ ys → Consumes a b xs → Consumes a b ys
 taken_as a b xs ys e t = subst (λ (l : List ℕ). Consumes a b l) e t
+
+-- What a reader has left
+
+pub shortens_same : (a : Option (List ℕ)) → Shortens a a
+shortens_same None = ([], tt)
+shortens_same (Some x) = ([], refl)
+
+pub shortens_by : (a b : Option (List ℕ)) (bytes : List ℕ) → Consumes a b bytes → Shortens a b
+shortens_by a b bytes t = (bytes, t)
+
+pub shortens_on : (a b c : Option (List ℕ)) → Shortens a b → Shortens b c → Shortens a c
+shortens_on a b c p q = (p.0 ++ q.0, taken_both a b c p.0 q.0 p.1 q.1)
 
 -- what is ahead is taken with what was given
 ahead_taken : (r s : Option (List ℕ)) (bytes run ahead : List ℕ) → Consumes (prepend_known [] r) (prepend_known ahead s) (bytes ++ run) → Consumes r s (bytes ++ (run ++ ahead))

@@ -1,5 +1,6 @@
 -- What an input still gives, line by line (own).
 use Rattle.std.specs.Prelude.{◌≡◌, ◌⊎◌, ℕ, ◌<◌, ◌+◌, ◌-◌, Bool, true, false, List, [], ◌∷◌, ◌++◌, take, length, codes, ◌==◌, if◌then◌else◌, Option, Some, None, option_map, ⊤}
+use Rattle.std.specs.Io.KnownBytes.{Consumes}
 use Rattle.std.specs.List.{position_or_len, after_first, slice_index}
 use Rattle.std.specs.Str.{IsUtf8, bytes_eq}
 use Rattle.std.specs.Str.Lines.{lines, strip_carriage_return}
@@ -27,6 +28,10 @@ abbrev pub IfTold : Option (List ℕ) → Option (List ℕ) → (List ℕ → Li
 IfTold None new fact = ⊤
 IfTold (Some old) None fact = ⊥
 IfTold (Some old) (Some new) fact = fact old new
+
+-- what a reader has left behind a call is what it had left before, without some bytes at its front
+abbrev pub Shortens : Option (List ℕ) → Option (List ℕ) → Type 0
+Shortens old new = (bytes : List ℕ) × Consumes old new bytes
 
 -- a byte, where one is given
 abbrev pub byte_alone : Option ℕ → List ℕ

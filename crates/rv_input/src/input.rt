@@ -3,7 +3,7 @@
 ghost use Rattle.std.specs.Prelude.{◌≡◌, ◌<◌, ◌≤◌, ◌+◌, ◌++◌, ◌∷◌, [], length, IfOk, OnOk, OnErr, IfSome, MatchOption, Some, option_map, string_bytes};
 ghost use Rattle.std.specs.Io.KnownBytes.{Consumes, IsAtEnd, Keeps, prepend_known};
 ghost use Rattle.std.specs.Str.Lines.{strip_carriage_return};
-ghost use Rattle.rv_input.specs.Coming.{IfTold, Takes, GivesByte, GivesLine, GivesBefore, GivesText, ReadsAs, byte_alone, coming, content, is_run, most_bytes, most_before};
+ghost use Rattle.rv_input.specs.Coming.{IfTold, Takes, GivesByte, GivesLine, GivesBefore, GivesText, ReadsAs, Shortens, byte_alone, coming, content, is_run, most_bytes, most_before};
 
 use crate::fault::InputFault;
 use crate::lines::{is_run, keep, keep_line, keep_text, text_line};
@@ -76,10 +76,12 @@ impl Input {
     }
 
     // Reads where nothing is ahead. Behind it nothing is ahead at the end of input alone.
+    #[tactic(auto, using(crate::proofs::Told::shortens_same, crate::proofs::Told::shortens_by))]
     fn look_ahead<R: Read>(&mut self, reader: &mut R) -> Result<(), InputFault>
         ensures given { self.new.given ≡ self.old.given }
         ensures ahead { OnOk result (Keeps (prepend_known self.old.ahead (R.remaining reader.old)) (prepend_known self.new.ahead (R.remaining reader.new))) }
         ensures end { OnOk result (self.new.ahead ≡ [] → IsAtEnd (R.remaining reader.new)) }
+        ensures reads { OnOk result (Shortens (R.remaining reader.old) (R.remaining reader.new)) }
     {
         if self.next < self.ahead.len() {
             return Ok(());
@@ -104,11 +106,13 @@ impl Input {
     }
 
     // The next byte; none at the end of input and past a length of the whole.
+    #[tactic(auto, using(crate::proofs::Told::shortens_same))]
     fn byte<R: Read>(&mut self, reader: &mut R, most: usize) -> Result<Option<u8>, InputFault>
         requires { most ≤ most_before }
         ensures given { IfOk result (λ byte. MatchOption byte (self.new.given ≡ self.old.given) (λ _. (self.new.given ≡ self.old.given + 1) × (self.old.given < most))) }
         ensures comes { IfOk result (λ byte. IfTold (coming most self.old (R.remaining reader.old)) (coming most self.new (R.remaining reader.new)) (GivesByte byte)) }
         ensures taken { IfOk result (λ byte. Consumes (prepend_known self.old.ahead (R.remaining reader.old)) (prepend_known self.new.ahead (R.remaining reader.new)) (byte_alone byte)) }
+        ensures reads { OnOk result (Shortens (R.remaining reader.old) (R.remaining reader.new)) }
     {
         if self.given >= most {
             return Ok(None);
@@ -123,6 +127,7 @@ impl Input {
         ensures given { IfOk result (λ line. 0 < length line.items → (self.old.given < self.new.given) × (self.new.given ≤ most)) }
         ensures comes { IfOk result (λ line. IfTold (coming most self.old (R.remaining reader.old)) (coming most self.new (R.remaining reader.new)) (Takes line.items)) }
         ensures taken { IfOk result (λ line. Consumes (prepend_known self.old.ahead (R.remaining reader.old)) (prepend_known self.new.ahead (R.remaining reader.new)) line.items) }
+        ensures reads { OnOk result (Shortens (R.remaining reader.old) (R.remaining reader.new)) }
     {
         let mut line = Vec::new(self.alloc);
         while let Some(byte) = self.byte(reader, most)? {
@@ -200,6 +205,7 @@ impl Input {
     pub fn line<R: Read>(&mut self, reader: &mut R) -> Result<Option<String>, InputFault>
         ensures given { IfOk result (λ line. IfSome line (λ _. (self.old.given < self.new.given) × (self.new.given ≤ most_bytes))) }
         ensures comes { IfOk result (λ line. IfTold (coming most_before self.old (R.remaining reader.old)) (coming most_before self.new (R.remaining reader.new)) (GivesLine self.new.given (option_map string_bytes line))) }
+        ensures reads { OnOk result (Shortens (R.remaining reader.old) (R.remaining reader.new)) }
     {
         let raw = self.raw_line(reader, MOST_BEFORE)?;
         if self.given > MOST_BYTES {
@@ -215,7 +221,8 @@ impl Input {
     /// # Errors
     /// As the first read or growth that fails.
     pub fn unit_text<R: Read>(&mut self, reader: &mut R) -> Result<Option<String>, InputFault>
-        ensures { IfOk result (λ text. IfTold (coming most_before self.old (R.remaining reader.old)) (coming most_before self.new (R.remaining reader.new)) (GivesText self.new.given (option_map string_bytes text))) }
+        ensures comes { IfOk result (λ text. IfTold (coming most_before self.old (R.remaining reader.old)) (coming most_before self.new (R.remaining reader.new)) (GivesText self.new.given (option_map string_bytes text))) }
+        ensures reads { OnOk result (Shortens (R.remaining reader.old) (R.remaining reader.new)) }
     {
         let mut text = String::new(self.alloc);
         while let Some(line) = self.line(reader)? {

@@ -6,7 +6,9 @@ mod before;
 mod fault;
 mod input;
 mod lines;
+mod whole;
 
 pub use before::{Before, read_before};
 pub use fault::InputFault;
 pub use input::{Input, MOST_BYTES, Preamble};
+pub use whole::{Looked, has_command, has_command_now, load_bytes};

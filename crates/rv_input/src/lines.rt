@@ -7,8 +7,8 @@ ghost use Rattle.rv_input.specs.Coming.{ReadsAs, content, is_run};
 use crate::fault::InputFault;
 use std::alloc::Global;
 
-// The line that ends the sections of a script and begins its commands.
-const RUN: &[u8] = b"@run";
+/// The line that ends the sections of a script and begins its commands.
+pub(crate) const RUN: &[u8] = b"@run";
 
 /// Puts a byte at the end of bytes.
 pub(crate) fn keep(bytes: &mut Vec<u8>, byte: u8) -> Result<(), InputFault>
@@ -50,8 +50,8 @@ fn owned(alloc: Global, line: &str) -> Result<Option<String>, InputFault>
     }
 }
 
-// A line without the carriage return at its end.
-fn stripped(line: &[u8]) -> &[u8]
+/// A line without the carriage return at its end.
+pub(crate) fn stripped(line: &[u8]) -> &[u8]
     ensures { result.now ≡ strip_carriage_return line.now }
 {
     let len = line.len();

@@ -49,7 +49,7 @@ commanded m n line result serves =
 next : {C : Type 0} (m n : Moment C) (result : Outcome) → ServesNextWith no_chores m n result → ServesNext m.stage n.stage result × (n.errors ≡ m.errors)
 next m n result (inl line) =
     let serves = commanded (reads m line.input line.left) n line.line result line.serves in
-    (inl record { line = line.line; read = line.input; left = line.left; comes = line.comes; commands = serves.0 }, serves.1)
+    (inl record { line = line.line; read = line.input; left = line.left; comes = line.comes; shorter = line.shorter; commands = serves.0 }, serves.1)
 next m n result (inr (inl none)) = (
   inr (inl record {
     comes = subst (λ (x : Moment _). Comes m.stage x.stage (GivesLine x.stage.input.given None)) (sym none.same) none.comes;

@@ -1,5 +1,6 @@
 -- What a script opens.
-use Rattle.std.proofs.Common.{◌≡◌, ℕ, Bool, List, [], Ok, inl, sym, ap, subst}
+use Rattle.std.proofs.Common.{◌≡◌, ℕ, Bool, List, [], Ok, Err, IfOk, inl, sym, ap, subst}
+use Rattle.std.specs.Prelude.{Result}
 use Rattle.rv_fault.specs.Sections.{GivesSettings, line_of}
 use Rattle.rv_history.specs.Legal.{empty}
 use Rattle.rv_history.specs.Limits.{limits_with}
@@ -12,7 +13,7 @@ use Rattle.rv_staff.specs.Staffs.{Staffed, no_crew}
 use Rattle.rv_run.specs.Finishing.{Plays, Served}
 use Rattle.rv_run.specs.Preparing.{Prepares}
 use Rattle.rv_port.specs.Controls.{IsControlOf}
-use Rattle.rv_run.specs.Running.{IsPrepared, Opens, Runs}
+use Rattle.rv_run.specs.Running.{IsPrepared, Opens, OpensFor, Runs}
 
 pub is_prepared : (script : OpenedText) (settings : SettingsText) (first control : Passing) (staff : Staffed)
     → IsControlOf (empty (limits_with settings.capacity settings.queue_limit)) first
@@ -25,15 +26,22 @@ is_prepared script settings first control staff begins prepared is = record {
   alone = ap (λ (s : Staffed). s.crew) is;
 }
 
-pub opens : (bytes text : List ℕ) (script : OpenedText) (settings : SettingsText) (staff : Staffed) → text ≡ bytes → opened text ≡ Ok script
-    → GivesSettings script.settings (Ok settings) → IsPrepared script settings staff → Opens bytes staff
-opens bytes text script settings staff same is are prepared = record {
-  script = script;
-  is_script = subst (λ (t : List ℕ). opened t ≡ Ok script) same is;
-  settings = settings;
-  are_settings = are;
-  prepared = prepared;
-}
+pub opens_for : (bytes text : List ℕ) (script : OpenedText) (settings : SettingsText) (staff : Staffed) (capacity : ℕ) → text ≡ bytes → opened text ≡ Ok script
+    → GivesSettings script.settings (Ok settings) → IsPrepared script settings staff → capacity ≡ settings.capacity → OpensFor bytes staff capacity
+opens_for bytes text script settings staff capacity same is are prepared long = (
+  record {
+    script = script;
+    is_script = subst (λ (t : List ℕ). opened t ≡ Ok script) same is;
+    settings = settings;
+    are_settings = are;
+    prepared = prepared;
+  },
+  long,
+)
+
+pub both_ok : {X E : Type 0} (result : Result X E) (P Q R : X → Type 0) → ((x : X) → P x → Q x → R x) → IfOk result P → IfOk result Q → IfOk result R
+both_ok (Ok x) P Q R join first second = join x first second
+both_ok (Err error) P Q R join first second = tt
 
 -- what comes behind a script that was opened without a word
 pub runs_on : (remaining old new errors errors' : Known) (result : Served) (bytes slice : List ℕ) (runs : Bool) (first input : Reading) (left silent : Known) (staff : Staffed)

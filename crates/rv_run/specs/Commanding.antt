@@ -14,7 +14,7 @@ use Rattle.rv_port.specs.Controls.{Brings, LoadTold}
 use Rattle.rv_fault.specs.Sections.{GivesUnit, Reads}
 use Rattle.rv_fault.specs.declared.failure.Failure.{Failure}
 use Rattle.rv_fault.specs.declared.failure.Failure.TheVariants as Failures
-use Rattle.rv_input.specs.Coming.{GivesText}
+use Rattle.rv_input.specs.Coming.{GivesText, Shortens}
 use Rattle.rv_shell.specs.Serving.{Serves, Writes, answer_line}
 use Rattle.rv_shell.specs.declared.shell.Next.TheVariants as Nexts
 use Rattle.rv_shell.specs.declared.shell.Next.{Next}
@@ -98,6 +98,7 @@ LoadsText v w old new text result = LoadsUnit v w old new text result ⊎ Refuse
 pub record TextComes (s t : Stage) (result : Outcome) : Type 0 where
   pub text : List ℕ
   pub comes : Comes s t (GivesText t.input.given (Some text))
+  pub shorter : Shortens s.left t.left
   pub loads : LoadsText s.staff t.staff s.written t.written text result
 
 -- where the input ends before that, the run does

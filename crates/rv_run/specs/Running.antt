@@ -28,6 +28,10 @@ pub record Opens (bytes : List ℕ) (staff : Staffed) : Type 0 where
   pub are_settings : GivesSettings script.settings (Ok settings)
   pub prepared : IsPrepared script settings staff
 
+-- the same, and the journal may have so many entries as its settings say
+abbrev pub OpensFor : List ℕ → Staffed → ℕ → Type 0
+OpensFor bytes staff capacity = (opens : Opens bytes staff) × (capacity ≡ opens.settings.capacity)
+
 -- What stands before the line `@run` is a script, which is carried out without a word. Then threads are started, the lines that
 -- come are served as commands, the host is halted, its threads are joined, and what it leaves is said.
 pub record RunsOn (remaining old new errors errors' : Known) (result : Served) : Type 0 where

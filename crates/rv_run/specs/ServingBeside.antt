@@ -1,6 +1,6 @@
 -- Commands are served one after another, with what is done beside them. (own)
 use Rattle.std.specs.Prelude.{◌≡◌, ◌⊎◌, ℕ, ◌<◌, zero, suc, List, Option, Some, None, Result, Ok, Err}
-use Rattle.rv_input.specs.Coming.{GivesLine, Reading}
+use Rattle.rv_input.specs.Coming.{GivesLine, Reading, Shortens}
 use Rattle.rv_staff.specs.Saying.{Known}
 use Rattle.rv_run.specs.declared.command.Goes.{Goes}
 use Rattle.rv_run.specs.declared.command.Goes.TheVariants.{On, Out}
@@ -37,6 +37,7 @@ pub record LineComesWith {C : Type 0} (does : Beside C) (m n : Moment C) (result
   pub input : Reading
   pub left : Known
   pub comes : Comes m.stage (reads m input left).stage (GivesLine input.given (Some line))
+  pub shorter : Shortens m.stage.left left
   pub serves : ServesLine does (reads m input left) n line result
 
 -- no line comes any more

@@ -2,7 +2,7 @@
 use Rattle.std.specs.Prelude.{◌≡◌, ◌⊎◌, ℕ, ◌<◌, zero, suc, List, Some, None, Result, Ok, Err}
 use Rattle.std.specs.Io.KnownBytes.{Keeps}
 use Rattle.rv_fault.specs.declared.failure.Failure.{Failure}
-use Rattle.rv_input.specs.Coming.{GivesLine, Reading}
+use Rattle.rv_input.specs.Coming.{GivesLine, Reading, Shortens}
 use Rattle.rv_staff.specs.Saying.{Known}
 use Rattle.rv_run.specs.declared.command.Goes.TheVariants.{On, Out}
 use Rattle.rv_run.specs.Commanding.{Commands, ReadFails}
@@ -18,6 +18,7 @@ pub record LineComes (s t : Stage) (result : Outcome) : Type 0 where
   pub read : Reading
   pub left : Known
   pub comes : Comes s (record s { input = read; left = left }) (GivesLine read.given (Some line))
+  pub shorter : Shortens s.left left
   pub commands : Commands (record s { input = read; left = left }) t line result
 
 -- no line comes any more

@@ -111,7 +111,7 @@ pub(crate) fn site_row(list: &AccessList, unit: &str, object: &str, operation: &
     let lines = list.lines();
     let mut words = [0; WORDS];
     for i in 0..lines.len() {
-        if fits_object(lines[i].object(), unit, object) && fits(lines[i].operation(), operation) {
+        if fits(lines[i].operation(), operation) && fits_object(lines[i].object(), unit, object) {
             mark(&mut words, lines.len() - 1 - i);
         }
     }

@@ -1,36 +1,52 @@
 use Rattle.std.proofs.Common.{◌∙◌, refl}
 use Rattle.rv_follow.proofs.Reading.{kept_later}
 use Rattle.rv_attend.proofs.Chores.{chores_later, chores_on}
+use Rattle.rv_attend.proofs.GoingOn.{halt_after}
 use Rattle.rv_attend.proofs.due.catch_up.Goals as goal
 
 pub loop-init : goal.loop-init
-loop-init g c = (
-  λ opened kept. kept_later opened _ _ _ _ kept (chores_later _ _ c.entries_now-most.ensures.chores),
-  c.entries_now-most.ensures.chores,
-  c.entries_now-most.ensures.crew,
-  refl,
-)
+loop-init g c = record {
+  tends = (
+    λ opened kept. kept_later opened _ _ _ _ kept (chores_later _ _ c.entries_now-most.ensures.chores),
+    c.entries_now-most.ensures.chores,
+    c.entries_now-most.ensures.crew,
+    refl,
+  );
+  feed = refl;
+}
 
 pub loop-preserved : goal.loop-preserved
-loop-preserved g c = (
-  λ opened kept. c.in-Ok.ensures.0 opened (c.loop.invariant.0 opened kept),
-  chores_on _ _ _ c.loop.invariant.1 c.do_round.ensures.1,
-  c.do_round.ensures.2 ∙ c.loop.invariant.2,
-  c.do_round.ensures.3 ∙ c.loop.invariant.3,
+loop-preserved g c = record {
+  tends = (
+    λ opened kept. c.in-Ok.ensures.tends.0 opened (c.loop.invariant.tends.0 opened kept),
+    chores_on _ _ _ c.loop.invariant.tends.1 c.do_round.ensures.tends.1,
+    c.do_round.ensures.tends.2 ∙ c.loop.invariant.tends.2,
+    c.do_round.ensures.tends.3 ∙ c.loop.invariant.tends.3,
+  );
+  feed = c.is_last.ensures ∙ c.do_round.ensures.feed ∙ c.loop.invariant.feed;
+}
+
+pub returns-then-is_last-clause-tends : goal.returns-then-is_last-clause-tends
+returns-then-is_last-clause-tends g c = (
+  λ opened kept. c.in-Ok.ensures.tends.0 opened (c.loop.invariant.tends.0 opened kept),
+  chores_on _ _ _ c.loop.invariant.tends.1 c.do_round.ensures.tends.1,
+  c.do_round.ensures.tends.2 ∙ c.loop.invariant.tends.2,
+  c.do_round.ensures.tends.3 ∙ c.loop.invariant.tends.3,
 )
 
-pub returns-then-is_last : goal.returns-then-is_last
-returns-then-is_last g c = (
-  λ opened kept. c.in-Ok.ensures.0 opened (c.loop.invariant.0 opened kept),
-  chores_on _ _ _ c.loop.invariant.1 c.do_round.ensures.1,
-  c.do_round.ensures.2 ∙ c.loop.invariant.2,
-  c.do_round.ensures.3 ∙ c.loop.invariant.3,
+pub returns-then-is_last-clause-ends : goal.returns-then-is_last-clause-ends
+returns-then-is_last-clause-ends g c = λ out. halt_after _ _ _ _ _ c.loop.invariant.tends.1 (c.in-Ok.ensures.ends out)
+
+pub returns-then-is_last-clause-feed : goal.returns-then-is_last-clause-feed
+returns-then-is_last-clause-feed g c = c.is_last.ensures ∙ c.do_round.ensures.feed ∙ c.loop.invariant.feed
+
+pub returns-in-Err-clause-tends : goal.returns-in-Err-clause-tends
+returns-in-Err-clause-tends g c = (
+  λ opened kept. c.in-Err.ensures.tends.0 opened (c.loop.invariant.tends.0 opened kept),
+  chores_on _ _ _ c.loop.invariant.tends.1 c.do_round.ensures.tends.1,
+  c.do_round.ensures.tends.2 ∙ c.loop.invariant.tends.2,
+  c.do_round.ensures.tends.3 ∙ c.loop.invariant.tends.3,
 )
 
-pub returns-in-Err : goal.returns-in-Err
-returns-in-Err g c = (
-  λ opened kept. c.in-Err.ensures.0 opened (c.loop.invariant.0 opened kept),
-  chores_on _ _ _ c.loop.invariant.1 c.do_round.ensures.1,
-  c.do_round.ensures.2 ∙ c.loop.invariant.2,
-  c.do_round.ensures.3 ∙ c.loop.invariant.3,
-)
+pub returns-in-Err-clause-feed : goal.returns-in-Err-clause-feed
+returns-in-Err-clause-feed g c = c.do_round.ensures.feed ∙ c.loop.invariant.feed

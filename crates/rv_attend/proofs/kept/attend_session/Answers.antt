@@ -1,10 +1,15 @@
 use Rattle.rv_attend.proofs.kept.attend_session.Goals as goal
 
 pub returns : goal.returns
-returns g c = rw (
-  ← c.keep_given.ensures.keeper,
-  ← c.keep_given.ensures.asked,
-  ← c.open_notices.ensures.staff,
-  ← c.open_notices.ensures.keeper,
-  ← c.open_notices.ensures.asked,
-) c.play.ensures
+returns g c =
+    rw (
+      c.open_notices.ensures.staff,
+      c.open_notices.ensures.keeper,
+      c.open_notices.ensures.asked,
+      c.open_notices.ensures.room,
+      c.open_notices.ensures.source,
+      c.keep_given.ensures.keeper,
+      c.keep_given.ensures.asked,
+      c.keep_given.ensures.room,
+      c.keep_given.ensures.source,
+    ) at c.play.ensures

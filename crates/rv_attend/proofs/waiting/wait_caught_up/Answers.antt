@@ -1,19 +1,37 @@
-use Rattle.std.proofs.Common.{◌∙◌}
+use Rattle.std.proofs.Common.{◌∙◌, refl, sym, ap, subst}
+use Rattle.rv_feed.specs.Hearing.{HearsOn, heard, told}
+use Rattle.rv_feed.specs.declared.pair.Feed.{Feed}
+use Rattle.rv_attend.specs.Going.{terms}
+use Rattle.rv_attend.specs.Lasting.{at}
 use Rattle.rv_attend.proofs.Chores.{chores_on}
+use Rattle.rv_attend.proofs.GoingOn.{caught_up}
 use Rattle.rv_attend.proofs.waiting.wait_caught_up.Goals as goal
 
 pub returns-in-Ok-clause-tends : goal.returns-in-Ok-clause-tends
 returns-in-Ok-clause-tends g c = (
-  λ opened kept. c.in-Ok.ensures.0 opened (c.in-Ok-On.ensures.tends.0 opened kept),
-  chores_on _ _ _ c.wait_command.ensures.tends.1 c.do_chores.ensures.1,
-  c.do_chores.ensures.2 ∙ c.wait_command.ensures.tends.2,
-  c.do_chores.ensures.3 ∙ c.wait_command.ensures.tends.3,
+  λ opened kept. c.in-Ok.ensures.tends.0 opened (c.in-Ok-On.ensures.tends.0 opened kept),
+  chores_on _ _ _ c.wait_command.ensures.tends.1 c.do_chores.ensures.tends.1,
+  c.do_chores.ensures.tends.2 ∙ c.wait_command.ensures.tends.2,
+  c.do_chores.ensures.tends.3 ∙ c.wait_command.ensures.tends.3,
 )
+
+pub returns-in-Ok-clause-hears : goal.returns-in-Ok-clause-hears
+returns-in-Ok-clause-hears g c =
+    subst (λ (f : Feed). HearsOn (heard c.args.follower.now.source.feed) (heard f) c.args.input.now c.wait_command.new.input) (sym c.do_chores.ensures.feed)
+    c.in-Ok-On.ensures.hears
+
+pub returns-in-Ok-clause-goes : goal.returns-in-Ok-clause-goes
+returns-in-Ok-clause-goes g c =
+    caught_up (at c.args.session.now.staff (g.F.Write.contents c.args.follower.now.keeper.file) c.args.follower.now.keeper.next (terms c.args.follower.now.asked c.args.follower.now.room.capacity))
+    (at c.wait_command.new.session.staff (g.F.Write.contents c.wait_command.new.follower.keeper.file) c.wait_command.new.follower.keeper.next (terms c.wait_command.new.follower.asked c.wait_command.new.follower.room.capacity))
+    (at c.do_chores.new.session.staff (g.F.Write.contents c.do_chores.new.follower.keeper.file) c.do_chores.new.follower.keeper.next (terms c.do_chores.new.follower.asked c.do_chores.new.follower.room.capacity)) c.wait_command.new.input
+    (heard c.wait_command.new.follower.source.feed) (heard c.do_chores.new.follower.source.feed) (told c.do_chores.new.follower.source.stop) c.in-Ok.round.goes
+    c.wait_command.ensures.tends.1 (ap heard c.do_chores.ensures.feed) (rw c.in-Ok-On.field-0-is at c.in-Ok-On.ensures.goes) c.in-Ok.ensures.ends
 
 pub returns-in-Err-clause-tends : goal.returns-in-Err-clause-tends
 returns-in-Err-clause-tends g c = (
-  λ opened kept. c.in-Err.ensures.0 opened (c.in-Ok-On.ensures.tends.0 opened kept),
-  chores_on _ _ _ c.wait_command.ensures.tends.1 c.do_chores.ensures.1,
-  c.do_chores.ensures.2 ∙ c.wait_command.ensures.tends.2,
-  c.do_chores.ensures.3 ∙ c.wait_command.ensures.tends.3,
+  λ opened kept. c.in-Err.ensures.tends.0 opened (c.in-Ok-On.ensures.tends.0 opened kept),
+  chores_on _ _ _ c.wait_command.ensures.tends.1 c.do_chores.ensures.tends.1,
+  c.do_chores.ensures.tends.2 ∙ c.wait_command.ensures.tends.2,
+  c.do_chores.ensures.tends.3 ∙ c.wait_command.ensures.tends.3,
 )

@@ -1,46 +1,83 @@
-use Rattle.std.proofs.Common.{◌∙◌, refl}
+use Rattle.std.proofs.Common.{◌∙◌, refl, sym, ap, subst, rules}
+use Rattle.rv_feed.specs.Hearing.{HearsOn, heard, told}
+use Rattle.rv_feed.specs.declared.pair.Feed.{Feed}
+use Rattle.rv_feed.proofs.Heard.{hears_none, hears_on}
+use Rattle.rv_input.specs.Whole.{HasCommand}
+use Rattle.rv_attend.specs.Going.{terms}
+use Rattle.rv_attend.specs.Lasting.{at}
 use Rattle.rv_attend.proofs.Attended.{grows_on, grows_same}
 use Rattle.rv_attend.proofs.Chores.{chores_on, no_chores}
+use Rattle.rv_attend.proofs.GoingOn.{goes_after, goes_unless, goes_with}
 use Rattle.rv_attend.proofs.waiting.wait_command.Goals as goal
 
 pub returns-then-has_command-clause-tends : goal.returns-then-has_command-clause-tends
 returns-then-has_command-clause-tends g c = (λ opened kept. kept, no_chores _ _ refl, refl, refl)
 
-pub returns-then-has_command-clause-heard : goal.returns-then-has_command-clause-heard
-returns-then-has_command-clause-heard g c = grows_same _ _ refl
+pub returns-then-has_command-clause-grows : goal.returns-then-has_command-clause-grows
+returns-then-has_command-clause-grows g c = grows_same _ _ refl
+
+pub returns-then-has_command-clause-hears : goal.returns-then-has_command-clause-hears
+returns-then-has_command-clause-hears g c = hears_none _ _ _ _ (ap heard c.unless_stopped.ensures.feed) refl
+
+pub returns-then-has_command-clause-goes : goal.returns-then-has_command-clause-goes
+returns-then-has_command-clause-goes g c =
+    let has : HasCommand c.args.input.now = search rules in
+    goes_with (at c.args.session.now.staff (g.F.Write.contents c.args.follower.now.keeper.file) c.args.follower.now.keeper.next (terms c.args.follower.now.asked c.args.follower.now.room.capacity))
+    (at c.args.session.now.staff (g.F.Write.contents c.args.follower.now.keeper.file) c.args.follower.now.keeper.next (terms c.args.follower.now.asked c.args.follower.now.room.capacity)) c.args.input.now
+    (heard c.unless_stopped.new.source.feed) (told c.args.follower.now.source.stop) (told c.unless_stopped.new.source.stop) c.unless_stopped.result
+    c.unless_stopped.ensures.goes has
 
 pub loop-init : goal.loop-init
-loop-init g c = ((λ opened kept. kept, no_chores _ _ refl, refl, refl), grows_same _ _ refl)
+loop-init g c = record { tends = (λ opened kept. kept, no_chores _ _ refl, refl, refl); grows = grows_same _ _ refl; hears = hears_none _ _ _ _ refl refl }
 
 pub loop-preserved : goal.loop-preserved
-loop-preserved g c = (
-  (
-    λ opened kept. c.in-Ok-None.ensures.tends.0 opened (c.loop.invariant.0.0 opened kept),
-    chores_on _ _ _ c.loop.invariant.0.1 c.wait_once.ensures.tends.1,
-    c.wait_once.ensures.tends.2 ∙ c.loop.invariant.0.2,
-    c.wait_once.ensures.tends.3 ∙ c.loop.invariant.0.3,
-  ),
-  grows_on _ _ _ c.loop.invariant.1 c.wait_once.ensures.heard,
-)
+loop-preserved g c = record {
+  tends = (
+    λ opened kept. c.in-Ok-None.ensures.tends.0 opened (c.loop.invariant.tends.0 opened kept),
+    chores_on _ _ _ c.loop.invariant.tends.1 c.wait_once.ensures.tends.1,
+    c.wait_once.ensures.tends.2 ∙ c.loop.invariant.tends.2,
+    c.wait_once.ensures.tends.3 ∙ c.loop.invariant.tends.3,
+  );
+  grows = grows_on _ _ _ c.loop.invariant.grows c.wait_once.ensures.grows;
+  hears = hears_on _ _ _ _ _ _ c.loop.invariant.hears c.in-Ok-None.ensures.hears;
+}
 
 pub returns-in-Ok-Some-clause-tends : goal.returns-in-Ok-Some-clause-tends
 returns-in-Ok-Some-clause-tends g c = (
-  λ opened kept. c.in-Ok-Some.ensures.tends.0 opened (c.loop.invariant.0.0 opened kept),
-  chores_on _ _ _ c.loop.invariant.0.1 c.wait_once.ensures.tends.1,
-  c.wait_once.ensures.tends.2 ∙ c.loop.invariant.0.2,
-  c.wait_once.ensures.tends.3 ∙ c.loop.invariant.0.3,
+  λ opened kept. c.in-Ok-Some.ensures.tends.0 opened (c.loop.invariant.tends.0 opened kept),
+  chores_on _ _ _ c.loop.invariant.tends.1 c.wait_once.ensures.tends.1,
+  c.wait_once.ensures.tends.2 ∙ c.loop.invariant.tends.2,
+  c.wait_once.ensures.tends.3 ∙ c.loop.invariant.tends.3,
 )
 
-pub returns-in-Ok-Some-clause-heard : goal.returns-in-Ok-Some-clause-heard
-returns-in-Ok-Some-clause-heard g c = grows_on _ _ _ c.loop.invariant.1 c.wait_once.ensures.heard
+pub returns-in-Ok-Some-clause-grows : goal.returns-in-Ok-Some-clause-grows
+returns-in-Ok-Some-clause-grows g c = grows_on _ _ _ c.loop.invariant.grows c.wait_once.ensures.grows
+
+pub returns-in-Ok-Some-clause-hears : goal.returns-in-Ok-Some-clause-hears
+returns-in-Ok-Some-clause-hears g c =
+    subst (λ (f : Feed). HearsOn (heard c.args.follower.now.source.feed) (heard f) c.args.input.now c.wait_once.new.input) (sym c.unless_stopped-in-Ok-Some.ensures.feed)
+    (hears_on _ _ _ _ _ _ c.loop.invariant.hears c.in-Ok-Some.ensures.hears)
+
+pub returns-in-Ok-Some-clause-goes : goal.returns-in-Ok-Some-clause-goes
+returns-in-Ok-Some-clause-goes g c =
+    goes_unless (at c.args.session.now.staff (g.F.Write.contents c.args.follower.now.keeper.file) c.args.follower.now.keeper.next (terms c.args.follower.now.asked c.args.follower.now.room.capacity))
+    (at c.wait_once.new.session.staff (g.F.Write.contents c.wait_once.new.follower.keeper.file) c.wait_once.new.follower.keeper.next (terms c.wait_once.new.follower.asked c.wait_once.new.follower.room.capacity)) c.wait_once.new.input
+    (heard c.wait_once.new.follower.source.feed) (heard c.unless_stopped-in-Ok-Some.new.source.feed) (told c.wait_once.new.follower.source.stop)
+    (told c.unless_stopped-in-Ok-Some.new.source.stop) c.in-Ok-Some.goes c.unless_stopped-in-Ok-Some.result (ap heard c.unless_stopped-in-Ok-Some.ensures.feed)
+    c.unless_stopped-in-Ok-Some.ensures.goes
+    (goes_after (at c.args.session.now.staff (g.F.Write.contents c.args.follower.now.keeper.file) c.args.follower.now.keeper.next (terms c.args.follower.now.asked c.args.follower.now.room.capacity))
+    (at c.loop.session.staff (g.F.Write.contents c.loop.follower.keeper.file) c.loop.follower.keeper.next (terms c.loop.follower.asked c.loop.follower.room.capacity))
+    (at c.wait_once.new.session.staff (g.F.Write.contents c.wait_once.new.follower.keeper.file) c.wait_once.new.follower.keeper.next (terms c.wait_once.new.follower.asked c.wait_once.new.follower.room.capacity)) c.wait_once.new.input
+    (heard c.wait_once.new.follower.source.feed) (told c.wait_once.new.follower.source.stop) c.in-Ok-Some.goes c.loop.invariant.tends.1
+    (rw c.in-Ok-Some.field-0-is at c.in-Ok-Some.ensures.goes))
 
 pub returns-in-Err-clause-tends : goal.returns-in-Err-clause-tends
 returns-in-Err-clause-tends g c = (
-  λ opened kept. c.in-Err.ensures.tends.0 opened (c.loop.invariant.0.0 opened kept),
-  chores_on _ _ _ c.loop.invariant.0.1 c.wait_once.ensures.tends.1,
-  c.wait_once.ensures.tends.2 ∙ c.loop.invariant.0.2,
-  c.wait_once.ensures.tends.3 ∙ c.loop.invariant.0.3,
+  λ opened kept. c.in-Err.ensures.tends.0 opened (c.loop.invariant.tends.0 opened kept),
+  chores_on _ _ _ c.loop.invariant.tends.1 c.wait_once.ensures.tends.1,
+  c.wait_once.ensures.tends.2 ∙ c.loop.invariant.tends.2,
+  c.wait_once.ensures.tends.3 ∙ c.loop.invariant.tends.3,
 )
 
-pub returns-in-Err-clause-heard : goal.returns-in-Err-clause-heard
-returns-in-Err-clause-heard g c = grows_on _ _ _ c.loop.invariant.1 c.wait_once.ensures.heard
+pub returns-in-Err-clause-grows : goal.returns-in-Err-clause-grows
+returns-in-Err-clause-grows g c = grows_on _ _ _ c.loop.invariant.grows c.wait_once.ensures.grows

@@ -7,6 +7,7 @@ returns-in-Ok-Some g c = inl record {
   input = c.line.new.self;
   left = g.R.Read.remaining c.line.new.reader;
   comes = rw c.in-Ok-Some.field-0-is at c.in-Ok-Some.ensures.comes;
+  shorter = c.in-Ok-Some.ensures.reads;
   serves = rw c.as_str.ensures.value at c.serve_line.ensures;
 }
 

@@ -1,0 +1,83 @@
+-- Why an attended run goes on, and why it ends. (own)
+use Rattle.std.specs.Prelude.{◌≡◌, ◌⊎◌, ℕ, ◌-◌, true, List, Option, Some, None, length, Result, Ok, Err}
+use Rattle.rv_behind.specs.Events.{history_at}
+use Rattle.rv_event.specs.declared.entry.Answer.{Answer}
+use Rattle.rv_fault.specs.declared.failure.Failure.TheVariants.{Memory}
+use Rattle.rv_feed.specs.Hearing.{IsStopped}
+use Rattle.rv_feed.specs.Order.{IsOver}
+use Rattle.rv_feed.specs.declared.piece.Piece.{Piece}
+use Rattle.rv_input.specs.Coming.{Reading}
+use Rattle.rv_input.specs.Whole.{HasCommand}
+use Rattle.rv_port.specs.Traces.{Passing, limits_in}
+use Rattle.rv_run.specs.Beside.{Ended}
+use Rattle.rv_run.specs.declared.command.Goes.{Goes}
+use Rattle.rv_run.specs.declared.command.Goes.TheVariants.{On, Out}
+use Rattle.rv_run.specs.declared.outputs.KeptFailure.{KeptFailure}
+use Rattle.rv_run.specs.declared.outputs.KeptFailure.TheVariants.{Run, File}
+use Rattle.rv_tally.specs.Denying.{ends_run}
+use Rattle.rv_tally.specs.Guarding.{is_below}
+use Rattle.rv_attend.specs.Chores.{Chores}
+use Rattle.rv_attend.specs.Rooming.{DeniesUnit}
+use Rattle.rv_attend.specs.declared.attention.Attention.{Attention}
+
+-- what is asked of a run, and how many entries its journal may have
+pub record Terms : Type 0 where
+  pub asked : Attention
+  pub capacity : ℕ
+
+abbrev pub terms : Attention → ℕ → Terms
+terms asked capacity = record { asked = asked; capacity = capacity }
+
+-- The run goes on
+
+-- the next command has come whole, or no more comes
+abbrev pub CommandComes : List Piece → Reading → Type 0
+CommandComes heard input = HasCommand input ⊎ IsOver heard
+
+-- The run ends
+
+-- so many entries leave less room than the run is to have
+abbrev pub IsLow : Terms → ℕ → Type 0
+IsLow terms used = is_below terms.asked.halt_below (terms.capacity - used) ≡ true
+
+-- so many entries are there, as far as the operator has seen
+abbrev pub entries_seen : Passing → ℕ
+entries_seen v = length (history_at (limits_in v.about) v.seen).past
+
+-- Behind chores a unit is to be denied everything, where there is a quota, and can't be: the list has no line left, or the journal
+-- no room.
+pub record CannotDeny (terms : Terms) (v w : Passing) : Type 0 where
+  pub quota : ℕ
+  pub is_quota : terms.asked.quota ≡ Some quota
+  pub before : Passing
+  pub chores : Chores v before
+  pub place : ℕ
+  pub answer : Answer
+  pub denies : DeniesUnit before w place (Ok answer)
+  pub ends : ends_run answer ≡ true
+
+-- a halt is due, with so many entries
+abbrev pub HaltIsDue : Terms → ℕ → Passing → Passing → Type 0
+HaltIsDue terms used v w = IsLow terms used ⊎ CannotDeny terms v w
+
+-- the end of a run from outside is heard of one that would go on
+abbrev pub UnlessStopped : Option (List Piece) → Option (List Piece) → Goes → Goes → Type 0
+UnlessStopped told told' Out result = (told' ≡ told) × (result ≡ Out)
+UnlessStopped told told' On On = Unit {0}
+UnlessStopped told told' On Out = IsStopped told'
+
+-- Its file
+
+-- why what is left of a journal isn't written
+abbrev pub FailsToKeep : KeptFailure → Type 0
+FailsToKeep (Run failure) = failure ≡ Memory
+FailsToKeep (File error) = Unit {0}
+
+-- What is left of the journal is written behind commands that were served so far: only where all were served can the whole go well,
+-- and why they weren't is told, unless that fails too. Behind a failure of the file nothing is written.
+abbrev pub ClosesAs : Ended → Ended → Type 0
+ClosesAs (Ok x) (Ok y) = Unit {0}
+ClosesAs (Ok x) (Err failure) = FailsToKeep failure
+ClosesAs (Err (Run failure)) (Ok y) = ⊥
+ClosesAs (Err (Run failure)) (Err other) = (other ≡ Run failure) ⊎ FailsToKeep other
+ClosesAs (Err (File error)) result = result ≡ Err (File error)
