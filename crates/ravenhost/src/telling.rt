@@ -16,7 +16,7 @@ pub struct Telling {
     pub tells: bool,
     /// Whether such a note on a list before the first step ends the program.
     pub are_errors: bool,
-    /// Whether its fault is explained.
+    /// Whether its fault is explained, and in a run a command that is refused.
     pub explains: bool,
     /// Whether all that has colours.
     pub is_coloured: bool,
@@ -31,14 +31,19 @@ fn is_shown(notes: When, are_errors: bool, is_watched: bool) -> bool {
     }
 }
 
-/// What is told, by what was chosen: unless that says otherwise, notes where somebody waits at a terminal, and colours where
-/// there may be some.
+// Whether faults are explained: where that is asked for, and to somebody at a terminal, unless no notes are to be told.
+fn is_explained(explains: bool, notes: When, is_watched: bool) -> bool {
+    explains || (is_watched && notes != When::Never)
+}
+
+/// What is told, by what was chosen: unless that says otherwise, notes and explanations where somebody waits at a terminal, and
+/// colours where there may be some.
 pub fn telling_of(chosen: &Selection<'_>, is_watched: bool, has_colors: bool) -> Telling {
     Telling {
         is_shown: is_shown(chosen.notes, chosen.are_errors, is_watched),
         tells: is_shown(chosen.notes, false, is_watched),
         are_errors: chosen.are_errors,
-        explains: chosen.explains,
+        explains: is_explained(chosen.explains, chosen.notes, is_watched),
         is_coloured: is_shown(chosen.color, false, has_colors),
     }
 }

@@ -166,4 +166,4 @@ pub const SCRIPT_HELP: &str = "Read the script from this file, in place of stand
 
 /// What is explained of a refused script.
 pub const FAULT_HELP: &str =
-    "Below a fault, show the line with its place, and say what the fault means";
+    "Below a fault, show the line with its place, and say what the fault means; at a terminal this is done unless --notes is never";
