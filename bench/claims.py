@@ -17,7 +17,7 @@ CRATES = TOP / "crates"
 PAGE = TOP / "docs" / "CLAIMS.md"
 # What is written as code and isn't declared: words of scripts, answers and command lines, and what the toolchain or std has.
 WORDS = frozenset(
-    "rt ci full done stopped unattached audit play check append raise exit go in FROM deny allow run UNIT FILE None Ok Err Integer Interrupts "
+    "rt ci full done stopped unattached audit play check append load raise exit go in FROM deny allow run UNIT FILE None Ok Err Integer Interrupts "
     "remaining contents".split())
 CRATE = r"\b(rv_\w+|thread_rows|embedding|raven\w+)\b"
 NAME = re.compile(r"[A-Za-z_]\w*(?:::[A-Za-z_]\w*)*")
