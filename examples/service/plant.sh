@@ -11,14 +11,19 @@
 # or, of one line and alone, by  echo quit >FOLDER/commands  .
 # The answers come on standard output, notes on standard error; under systemd:  journalctl -fu ravenhost-plant
 # The journal:  tail -f FOLDER/journal.DATE; judged over the units of the script that ran, by the script ./ravenhost:
-#     ./ravenhost audit --script --journal FOLDER/journal.DATE FOLDER/plant.raven
+#     ./ravenhost audit --script --journal FOLDER/journal.DATE FOLDER/script.DATE
 # The end: SIGTERM (systemctl stop), or the command quit. It ends also where this script is killed.
 set -u
 here=$(dirname "$(readlink -f "${BASH_SOURCE[0]}")")
-script=${2:+$(readlink -f "$2")}
+script=
+if [ -n "${2:-}" ]; then
+    if [ ! -f "$2" ] || [ ! -r "$2" ]; then echo "plant.sh: $2 can't be read" >&2 && exit 4; fi
+    script=$(readlink -f "$2")
+fi
 cd "${1:-${STATE_DIRECTORY:-.}}" || exit 4
+date=$(date +%Y%m%dT%H%M%S)
 
-# A copy of the script, up to its line @run, beside the journals that it is to be judged with. Of the example: with room for a day or
+# A copy of the script, up to its line @run, beside the journal that it is to be judged with. Of the example: with room for a day or
 # two, and with tasks that act once a second in place of once a millisecond.
 {
     if [ -n "$script" ]; then
@@ -27,7 +32,7 @@ cd "${1:-${STATE_DIRECTORY:-.}}" || exit 4
         printf '@host.toml\ncapacity = 1048576\n'
         sed -e 's/Milliseconds (1)/Milliseconds (1000)/' -e '/^@run/,$d' "$here/../plant.raven"
     fi && echo @run
-} >plant.raven || exit 4
+} >"script.$date" || exit 4
 
 # This script holds both pipes open: that of commands doesn't end when an operator's echo does.
 rm -f commands stop
@@ -37,7 +42,7 @@ trap 'echo >&4' TERM INT HUP
 
 (
     trap '' TERM INT HUP
-    exec "${RAVENHOST:-ravenhost}" run --journal "journal.$(date +%Y%m%dT%H%M%S)" --tick 1000 --notes always --stop-by stop plant.raven
+    exec "${RAVENHOST:-ravenhost}" run --journal "journal.$date" --tick 1000 --notes always --stop-by stop "script.$date"
 ) <commands 3>&- 4>&- &
 
 # A signal ends the wait early, and not the run.
