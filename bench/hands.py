@@ -5,10 +5,11 @@
 
 Two runs on one journal; a journal that others cut off, remove or replace; standard input, output or error closed before the
 start; a limit on the size of files; a journal's file that a wrong command line would leave behind; texts that are sent to a run, and
-hold commands, are cut short or large, by several senders at once. It needs flock, and a program: the proved one or the trial that is
-kept.
+hold commands, are cut short or large, by several senders at once; scripts that are named to the wrong command. It needs flock, and a
+program: the proved one or the trial that is kept.
 """
 import os
+import pty
 import re
 import subprocess
 import sys
@@ -237,9 +238,39 @@ def wrong_sends(hands: Hands) -> None:
     hands.due("a reader that ends is told", (done.returncode, done.stderr) == (4, b"ravenhost: what reads mute ended before it had the whole message\n"), done)
 
 
+def at_terminal(hands: Hands, words: list[str]) -> bytes:
+    """What a start prints where its standard error is a terminal."""
+    near, far = pty.openpty()
+    done = subprocess.run([hands.launcher, *words], cwd=hands.folder, stdin=subprocess.DEVNULL, stdout=subprocess.DEVNULL, stderr=far, timeout=SECONDS, check=False)
+    os.close(far)
+    try:
+        said = os.read(near, 65536)
+    except OSError:  # (nothing was written)
+        said = b""
+    os.close(near)
+    return said if done.returncode in (0, 1) else b"status %d" % done.returncode
+
+
+def scripts_to_the_wrong_command(hands: Hands) -> None:
+    """At a terminal it is said why a run ends at once, and why an audit doesn't judge what was meant; elsewhere nothing is."""
+    units, journal = PLANT.split(b"@list")[0], b"@journal\n1 operator load Plant -> accepted 0\n"
+    for name, text, words, why in (
+            ("no-run", units, ["run"], b"no-run has no line @run, behind which commands stand: the run ends once its threads are started"),
+            ("whole", PLANT, ["run"], b""),
+            ("whole", PLANT, ["audit"], b"whole has @list @run, which an audit doesn't take: with --script it passes over them"),
+            ("whole", PLANT, ["audit", "--script"], b""),
+            ("two", units + journal + journal, ["audit"], b"two has 2 sections @journal, and the last is judged alone"),
+            ("one", units + journal, ["audit"], b""), ("one", units + journal, ["check"], b"")):
+        hands.file(name, text)
+        told = [line for line in at_terminal(hands, [*words, name]).splitlines() if line.startswith(b"ravenhost: ") and b"not proved" not in line]
+        hands.due(f"{words} {name} at a terminal", told == ([b"ravenhost: " + why] if why else []), told)
+        done = hands.asked([*words, str(hands.folder / name)], b"")
+        hands.due(f"{words} {name} elsewhere", why not in done.stderr or not why, done.stderr)
+
+
 CASES: tuple[Callable[[Hands], None], ...] = (
     two_runs_on_one_file, journals_that_others_change, streams_that_are_closed, limits_on_files, wrong_command_lines, texts_that_are_sent,
-    senders_at_once, wrong_sends)
+    senders_at_once, wrong_sends, scripts_to_the_wrong_command)
 
 
 def main(words: list[str]) -> int:
