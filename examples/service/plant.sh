@@ -2,7 +2,7 @@
 # Runs a plant as a service, under systemd (ravenhost-plant.service beside this) or by hand:
 #
 #     plant.sh [FOLDER [SCRIPT]]     FOLDER, else $STATE_DIRECTORY, else the current one, has the pipe and the journals;
-#                                    SCRIPT has your plant: settings, units, lists, and @run; without it that of ../plant.raven runs
+#                                    SCRIPT has your plant: settings, units, lists, and a line @run; without it that of ../plant.raven runs
 #
 # RAVENHOST names the program, where it isn't on PATH; the script ./ravenhost of the sources is one too.
 # Operator: send commands into the pipe by that script, which lets in one message at a time, as in
@@ -18,6 +18,8 @@ here=$(dirname "$(readlink -f "${BASH_SOURCE[0]}")")
 script=
 if [ -n "${2:-}" ]; then
     if [ ! -f "$2" ] || [ ! -r "$2" ]; then echo "plant.sh: $2 can't be read" >&2 && exit 4; fi
+    # One that was cut short, before its last deny, has no such line.
+    grep -q $'^@run\r\\?$' "$2" || { echo "plant.sh: $2 has no line @run" >&2 && exit 1; }
     script=$(readlink -f "$2")
 fi
 cd "${1:-${STATE_DIRECTORY:-.}}" || exit 4
