@@ -180,7 +180,7 @@ def texts_that_are_sent(hands: Hands) -> None:
         hands.due("and answered", run.stdout.readline() == b"accepted 0\n", "")
         for what, text, why in (("that holds commands", HOSTILE, b", line 5, begins with @"), ("of a section", b"package A is\n@list\nallow * * *\n", b", line 2, begins with @"),
                                 ("of @end alone", b"@end", b", line 1, begins with @"), ("with a carriage return", b"end A;\r\n@end\r\nquit\r\n", b", line 2, begins with @"),
-                                ("behind a zero byte", b"\0\n@end\n", b", line 2, begins with @"), ("that isn't UTF-8", b"-- \xff\n", b"isn't UTF-8"),
+                                ("with zero bytes", b"\0\n@end\0\n", b", line 2, begins with @"), ("that isn't UTF-8", b"-- \xff\n", b"isn't UTF-8"),
                                 ("that is too long", small_unit("Long", 400_000), b"is longer than a unit text may be")):
             done = hands.sent("sent", "load", hands.file("text", text))
             hands.due(f"a text {what} is refused, with 1", done.returncode == 1, done.returncode)
