@@ -46,7 +46,6 @@ ONE, ALL = "\t", "\x14"
 
 # What is typed, the key, and the line that is due; the words that ALL inserts are sorted before they are compared.
 ROWS = [
-    ("{} ", ALL, "{} audit check help manual play run"),
     ("{} pl", ONE, "{} play "),
     ("{} play --", ALL, "{} play --all --color --explain --help --notes --warnings-are-errors "),
     ("{} play --a", ONE, "{} play --all "),
@@ -83,6 +82,8 @@ ROWS = [
     ("{} nonsense --", ALL, "{} nonsense --"),
 ]
 OF_PROGRAM = [
+    ("{} ", ALL, "{} audit check help manual play run"),
+    ("{} send z", ONE, "{} send z"),
     ("{} --", ALL, "{} --help --version"),
     ("{} -", ALL, "{} --help --version -V -h"),
     ("{} run --", ALL, "{} run --color --console --explain --halt-below --help --journal --notes --quota --stop-by --sync --tick --warnings-are-errors "),
@@ -91,6 +92,14 @@ OF_PROGRAM = [
     ("{} audit --journal x-one.journal --", ALL, "{} audit --journal x-one.journal --color --explain --torn"),
 ]
 OF_LAUNCHER = [
+    ("{} ", ALL, "{} audit check help manual new play refusals run send waits"),
+    ("{} se", ONE, "{} send "),
+    ("{} new y", ONE, "{} new y-folder/"),
+    ("{} send z", ONE, "{} send z.raven "),
+    ("{} send x-one.journal ", ALL, "{} send x-one.journal append halt journal load quit raise remove replace tick"),
+    ("{} send x-one.journal lo", ONE, "{} send x-one.journal load "),
+    ("{} send x-one.journal load z", ONE, "{} send x-one.journal load z.raven "),
+    ("{} send x-one.journal tick z", ONE, "{} send x-one.journal tick z"),
     ("{} --", ALL, "{} --help --install --prove --version"),
     ("{} run --", ALL, "{} run --color --console --explain --halt-below --help --journal --notes --quota --stop-by --sync --tick --trial --warnings-are-errors "),
     ("{} --pr", ONE, "{} --prove "),

@@ -4,10 +4,13 @@
     bench/hands.py [LAUNCHER]           the launcher is ./ravenhost of this checkout where none is named
 
 Two runs on one journal; a journal that others cut off, remove or replace; standard input, output or error closed before the
-start; a limit on the size of files; a journal's file that a wrong command line would leave behind. It needs flock, and a program:
-the proved one or the trial that is kept.
+start; a limit on the size of files; a journal's file that a wrong command line would leave behind; texts that are sent to a run, and
+hold commands, are cut short or large, by several senders at once; scripts that are named to the wrong command. It needs flock, and a
+program: the proved one or the trial that is kept.
 """
 import os
+import pty
+import re
 import subprocess
 import sys
 import tempfile
@@ -48,6 +51,30 @@ allow * * *
 """
 
 
+# A unit that grants itself rights where its text is pasted behind a command `load`.
+HOSTILE = b"""package Good is
+end Good;
+package body Good is
+end Good;
+@end
+append allow Evil * *
+load
+package Evil is
+end Evil;
+package body Evil is
+end Evil;
+"""
+
+# Standard error of a command line that isn't one of `send`.
+SEND = b"ravenhost: send takes a pipe and a command, as ./ravenhost send commands tick 1, or ./ravenhost send commands load FILE\n"
+
+
+def small_unit(name: str, size: int = 0) -> bytes:
+    """A unit without anything in it, and comments up to so many bytes."""
+    comments = b"-- " + b"@" * 75 + b"\n"
+    return f"package {name} is\nend {name};\n".encode() + comments * (size // len(comments)) + f"package body {name} is\nend {name};\n".encode()
+
+
 class Hands:
     """The launcher, a folder to work in, and what was seen that isn't due."""
 
@@ -63,6 +90,14 @@ class Hands:
         if not is_due:
             self.faults += 1
             print(f"{what}: {seen!r}")
+
+    def sent(self, *words: str) -> subprocess.CompletedProcess[bytes]:
+        """What a start of `send` prints, in the folder."""
+        return subprocess.run([self.launcher, "send", *words], cwd=self.folder, stdin=subprocess.DEVNULL, capture_output=True, timeout=SECONDS, check=False)
+
+    def file(self, name: str, text: bytes) -> str:
+        (self.folder / name).write_bytes(text)
+        return name
 
     def judged(self, journal: Path) -> int:
         """The status of an audit of a journal that was cut off or not."""
@@ -130,8 +165,112 @@ def wrong_command_lines(hands: Hands) -> None:
     hands.due("and leaves no file", not journal.exists(), journal)
 
 
+def run_of_a_pipe(hands: Hands, name: str) -> "subprocess.Popen[bytes]":
+    """A run of no unit, with one line of its list, that reads its commands from a pipe of this name."""
+    script, pipe = hands.folder / hands.file(f"{name}.raven", b"@list\ndeny Evil * *\n@run\n"), hands.folder / name
+    os.mkfifo(pipe)
+    return subprocess.Popen(["bash", "-c", 'exec "$0" run "$1" <>"$2"', hands.launcher, script, pipe], stdout=subprocess.PIPE, stderr=subprocess.DEVNULL)
+
+
+def texts_that_are_sent(hands: Hands) -> None:
+    """What can't be part of a unit text isn't sent, and what is cut short swallows no command."""
+    with run_of_a_pipe(hands, "sent") as run:
+        assert run.stdout
+        hands.due("a first command is sent", hands.sent("sent", "tick", "1").returncode == 0, "")
+        hands.due("and answered", run.stdout.readline() == b"accepted 0\n", "")
+        for what, text, why in (("that holds commands", HOSTILE, b", line 5, begins with @"), ("of a section", b"package A is\n@list\nallow * * *\n", b", line 2, begins with @"),
+                                ("of @end alone", b"@end", b", line 1, begins with @"), ("with a carriage return", b"end A;\r\n@end\r\nquit\r\n", b", line 2, begins with @"),
+                                ("with zero bytes", b"\0\n@end\0\n", b", line 2, begins with @"), ("that isn't UTF-8", b"-- \xff\n", b"isn't UTF-8"),
+                                ("that is too long", small_unit("Long", 400_000), b"is longer than a unit text may be")):
+            done = hands.sent("sent", "load", hands.file("text", text))
+            hands.due(f"a text {what} is refused, with 1", done.returncode == 1, done.returncode)
+            hands.due(f"and told why, in a line ({what})", why in done.stderr and done.stderr.count(b"\n") == 1, done.stderr)
+        for number, (what, text) in enumerate((("whole", b""), ("without a last line feed", b"\n"), ("that ends in a carriage return", b"\n"))):
+            cut = small_unit(f"Cut{number}").removesuffix(text) + b"\r" * (number == 2)
+            done = hands.sent("sent", "load", hands.file("text", cut))
+            hands.due(f"a text {what} is sent", (done.returncode, done.stdout, done.stderr) == (0, b"", b""), done)
+            hands.due(f"and loaded ({what})", run.stdout.readline() == b"accepted 0\n", "")
+        hands.sent("sent", "load", hands.file("text", small_unit("Cut3") + b"-- cut short\0"))
+        hands.due("a text that ends in a zero byte is answered", run.stdout.readline() == b"accepted 0\n", "")
+        hands.sent("sent", "load", hands.file("text", b""))
+        hands.due("an empty text is answered", run.stdout.readline().startswith(b"parse "), "")
+        hands.due("a line of a list, in one word", hands.sent("sent", "append deny A * *").returncode == 0, "")
+        hands.sent("sent", "journal 1")
+        hands.sent("sent", "quit")
+        said = run.stdout.read()
+    hands.due("the run was ended by quit", run.returncode == 0 and said.endswith(b"\nentries 8\n"), (run.returncode, said))
+    hands.due("the list has nothing of the hostile text", re.findall(rb"list (\[.*\]) -> accepted", said) == [b"[deny Evil * *]", b"[deny Evil * *; deny A * *]"], said)
+
+
+def senders_at_once(hands: Hands) -> None:
+    """Large texts of several senders don't interleave, nor do single commands among them."""
+    with run_of_a_pipe(hands, "busy") as run:
+        names = [f"Unit_{number}" for number in range(6)]
+        senders = [subprocess.Popen([hands.launcher, "send", hands.folder / "busy", *words], stdin=subprocess.DEVNULL)
+                   for name in names for words in (("load", hands.folder / hands.file(name, small_unit(name, 240_000))), ("tick", "1"))]
+        ended = [sender.wait(SECONDS) for sender in senders]
+        hands.due("each sender ends with 0", set(ended) == {0}, ended)
+        for command in ("journal 1", "quit"):
+            hands.sent("busy", command)
+        said = run.communicate(timeout=SECONDS)[0]
+    hands.due("each command is answered", said.startswith(b"accepted 0\n" * 12), said[:300])
+    hands.due("each text is loaded", sorted(re.findall(rb"operator load (\w+) -> accepted", said)) == [name.encode() for name in names], said)
+
+
+def wrong_sends(hands: Hands) -> None:
+    """What can't be sent is told in one line."""
+    os.mkfifo(hands.folder / "mute")
+    text = hands.file("text", small_unit("A"))
+    for words in ((), ("mute",), ("mute", ""), ("mute", " ", ""), ("mute", "load"), ("mute", "load "), ("mute", "load\r"), ("mute", "load text"),
+                  ("mute", "load", text, text), ("--help",), ("-x", "tick", "1")):
+        done = hands.sent(*words)
+        hands.due(f"send {words} is usage", (done.returncode, done.stdout, done.stderr) == (2, b"", SEND), done)
+    for words, status, why in ((("mute", "tick 1\nquit"), 2, "a command is one line, and a word here has a line feed"), (("nowhere", "quit"), 4, "nowhere is no named pipe"),
+                               (("text", "quit"), 4, "text is no named pipe"), ((".", "quit"), 4, ". is no named pipe"), (("mute", "load", "nowhere"), 4, "nowhere can't be read"),
+                               (("mute", "load", "."), 4, ". is a folder"), (("mute", "quit"), 4, "nobody reads mute; nothing is sent"),
+                               (("mute", "load", text), 4, "nobody reads mute; nothing is sent")):
+        begun = time.monotonic()
+        done = hands.sent(*words)
+        hands.due(f"send {words} ends with {status}", (done.returncode, done.stdout, done.stderr) == (status, b"", f"ravenhost: {why}\n".encode()), done)
+        hands.due(f"send {words} doesn't hang", time.monotonic() - begun < 20, time.monotonic() - begun)
+    with subprocess.Popen(["bash", "-c", "read -r line <mute"], cwd=hands.folder):
+        done = hands.sent("mute", "load", hands.file("large", small_unit("A", 240_000)))
+    hands.due("a reader that ends is told", (done.returncode, done.stderr) == (4, b"ravenhost: what reads mute ended before it had the whole message\n"), done)
+
+
+def at_terminal(hands: Hands, words: list[str]) -> bytes:
+    """What a start prints where its standard error is a terminal."""
+    near, far = pty.openpty()
+    done = subprocess.run([hands.launcher, *words], cwd=hands.folder, stdin=subprocess.DEVNULL, stdout=subprocess.DEVNULL, stderr=far, timeout=SECONDS, check=False)
+    os.close(far)
+    try:
+        said = os.read(near, 65536)
+    except OSError:  # (nothing was written)
+        said = b""
+    os.close(near)
+    return said if done.returncode in (0, 1) else b"status %d" % done.returncode
+
+
+def scripts_to_the_wrong_command(hands: Hands) -> None:
+    """At a terminal it is said why a run ends at once, and why an audit doesn't judge what was meant; elsewhere nothing is."""
+    units, journal = PLANT.split(b"@list")[0], b"@journal\n1 operator load Plant -> accepted 0\n"
+    for name, text, words, why in (
+            ("no-run", units, ["run"], b"no-run has no line @run, behind which commands stand: the run ends once its threads are started"),
+            ("whole", PLANT, ["run"], b""),
+            ("whole", PLANT, ["audit"], b"whole has @list @run, which an audit doesn't take: with --script it passes over them"),
+            ("whole", PLANT, ["audit", "--script"], b""),
+            ("two", units + journal + journal, ["audit"], b"two has 2 sections @journal, and the last is judged alone"),
+            ("one", units + journal, ["audit"], b""), ("one", units + journal, ["check"], b"")):
+        hands.file(name, text)
+        told = [line for line in at_terminal(hands, [*words, name]).splitlines() if line.startswith(b"ravenhost: ") and b"not proved" not in line]
+        hands.due(f"{words} {name} at a terminal", told == ([b"ravenhost: " + why] if why else []), told)
+        done = hands.asked([*words, str(hands.folder / name)], b"")
+        hands.due(f"{words} {name} elsewhere", why not in done.stderr or not why, done.stderr)
+
+
 CASES: tuple[Callable[[Hands], None], ...] = (
-    two_runs_on_one_file, journals_that_others_change, streams_that_are_closed, limits_on_files, wrong_command_lines)
+    two_runs_on_one_file, journals_that_others_change, streams_that_are_closed, limits_on_files, wrong_command_lines, texts_that_are_sent,
+    senders_at_once, wrong_sends, scripts_to_the_wrong_command)
 
 
 def main(words: list[str]) -> int:

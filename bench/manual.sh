@@ -48,7 +48,12 @@ flags_named() {
         count=$((count + 1))
         grep -qE -e "(^|[^-a-z])$word([^-a-z]|\$)" "$folder/page" || { echo "$word isn't in the page"; missing=1; }
     done < <(sed -n '/^ /p' crates/ravenhost/usage/help* crates/ravenhost/usage/launcher | grep -oE -e '(^| )--?[a-zA-Z][-a-zA-Z]*' | sort -u)
-    [ "$missing:$((count > 8))" = 0:1 ]
+    # The words of the launcher that are no flags.
+    while read -r word; do
+        count=$((count + 1))
+        grep -qE -e "^ +.*(^| )$word( |,|\$)" "$folder/page" || { echo "$word isn't in the page"; missing=1; }
+    done < <(sed -nE 's/^  ([a-z]+) .*/\1/p' crates/ravenhost/usage/launcher | sort -u)
+    [ "$missing:$((count > 14))" = 0:1 ]
 }
 
 # What clap is told in the source stands in the stored help. bench/command_line.py compares it with the program's own.

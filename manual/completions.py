@@ -16,6 +16,9 @@ PAGES = "crates/ravenhost/usage"
 HELP, VERSION = ("-h", "--help"), ("-V", "--version")
 BESIDE = ("--script",)
 
+# Commands that a run is sent.
+SENT = "append remove replace tick halt journal raise load quit"
+
 # What completes a value of no listed words, or a word that is no flag, by the name that the help gives it.
 FILES, FOLDERS, COMMANDS = "files", "folders", "commands"
 WORDS = {"FILE": FILES, "COMMAND": COMMANDS}
@@ -38,10 +41,11 @@ class Flag:
 
 
 class Command:
-    """A subcommand, or the program itself: its flags, those that the launcher adds, and the name of its word that is no flag."""
+    """A subcommand, or the program itself: its flags, those that the launcher adds, and the name of its word that is no flag.
+    Of the program also the launcher's own subcommands, each with what it is for."""
 
     def __init__(self, about):
-        self.about, self.flags, self.launcher, self.word = about, [], [], None
+        self.about, self.flags, self.launcher, self.word, self.own = about, [], [], None, {}
 
 
 def page(name):
@@ -99,8 +103,9 @@ def described():
             text = page(f"help-{name}")
             command.flags, command.word = flags(text), word(text)
     for left, about in rows(page("launcher"), "Of the script ./ravenhost:"):
-        # (a word of the launcher's own is no flag, and isn't completed)
-        if re.fullmatch(r"[a-z]+(?: FOLDER)?", left):
+        own = re.fullmatch(r"([a-z]+)(?: [A-Z]+(?: COMMAND\.\.| load FILE)?)?", left)
+        if own:
+            commands[""].own.setdefault(own[1], about)
             continue
         row = re.fullmatch(r"(?:(\w+) )?(--[\w-]+)(?: ([A-Z]+))?", left)
         if not row or (row[1] or "") not in commands:
@@ -138,6 +143,14 @@ _ravenhost_launcher_flags() {
     case $1 in
 @launcher@
     esac
+}
+
+# The subcommands that the launcher adds, and the commands of a run that one of them sends.
+_ravenhost_launcher_subcommands() {
+    echo "@own@"
+}
+_ravenhost_sent() {
+    echo "@sent@"
 }
 
 # What the value of a flag is; nothing where it takes none.
@@ -187,7 +200,7 @@ def bash(commands, kept):
     worded = [(name, WORDS[command.word]) for name, command in commands.items() if command.word]
     text = BASH
     for mark, words in (("subcommands", bash_rows(subcommands)), ("flags", bash_rows(flagged)),
-                        ("launcher", bash_rows(launched)), ("values", bash_rows(values)), ("words", bash_rows(worded)), ("alone", " | ".join(alone))):
+                        ("launcher", bash_rows(launched)), ("own", " ".join(commands[""].own)), ("sent", SENT), ("values", bash_rows(values)), ("words", bash_rows(worded)), ("alone", " | ".join(alone))):
         text = text.replace(f"@{mark}@", words)
     return text + by_hand(kept)
 
@@ -208,6 +221,9 @@ _ravenhost_is_launcher() {
 _ravenhost_subcommands() {
     local -a subcommands=(
 @commands@
+    )
+    (( ! $#launcher )) || subcommands+=(
+@own@
     )
     _describe -t commands subcommand subcommands
 }
@@ -238,6 +254,10 @@ _ravenhost() {
     curcontext=${curcontext%:*:*}:ravenhost-$line[1]:
     case $line[1] in
 @cases@
+    esac
+    (( $#launcher )) && case $line[1] in
+        new) _arguments '1:FOLDER:_path_files -/' && ret=0 ;;
+        send) _arguments '1:PIPE:_files' '2:COMMAND:(@sent@)' '3:FILE:{ [[ $words[3] == load ]] && _files }' && ret=0 ;;
     esac
     return ret
 }
@@ -270,12 +290,11 @@ def is_alone(flag):
     return set(flag.spellings) <= {*HELP, *VERSION}
 
 
-def zsh_commands(commands, without=()):
+def zsh_commands(named):
     lines = []
-    for name, command in commands.items():
-        if name and name not in without:
-            about = command.about.replace("\\", "\\\\").replace(":", "\\:")
-            lines.append(f"        {quoted(f'{name}:{about}')}")
+    for name, about in named:
+        about = about.replace("\\", "\\\\").replace(":", "\\:")
+        lines.append(f"        {quoted(f'{name}:{about}')}")
     return "\n".join(lines)
 
 
@@ -301,7 +320,9 @@ def zsh_case(name, command):
 def zsh(commands):
     program = commands[""]
     text = ZSH
-    for mark, words in (("commands", zsh_commands(commands)), ("subjects", zsh_commands(commands, ("help",))),
+    named = [(name, command.about) for name, command in commands.items() if name]
+    for mark, words in (("commands", zsh_commands(named)), ("subjects", zsh_commands(pair for pair in named if pair[0] != "help")),
+                        ("own", zsh_commands(program.own.items())), ("sent", SENT),
                         ("flags", "\n".join(f"        {zsh_flag(flag, is_alone(flag))} \\" for flag in program.flags)),
                         ("launcher", "\n".join(f"            {zsh_flag(flag, True)}" for flag in program.launcher)),
                         ("cases", "\n".join(zsh_case(name, command) for name, command in commands.items() if name))):

@@ -30,6 +30,14 @@ _ravenhost_launcher_flags() {
     esac
 }
 
+# The subcommands that the launcher adds, and the commands of a run that one of them sends.
+_ravenhost_launcher_subcommands() {
+    echo "new send refusals waits"
+}
+_ravenhost_sent() {
+    echo "append remove replace tick halt journal raise load quit"
+}
+
 # What the value of a flag is; nothing where it takes none.
 _ravenhost_value() {
     case $1 in
@@ -88,7 +96,7 @@ _ravenhost_names() {
 }
 
 _ravenhost() {
-    local current=${COMP_WORDS[COMP_CWORD]} previous=${COMP_WORDS[COMP_CWORD - 1]} front="" word command="" named="" given=" " flags n
+    local current=${COMP_WORDS[COMP_CWORD]} previous=${COMP_WORDS[COMP_CWORD - 1]} front="" word command="" named="" given=" " flags n words=0 launcher=""
     COMPREPLY=()
     # A flag, = and its value are three words, or one where = breaks no words.
     case $current in
@@ -120,13 +128,21 @@ _ravenhost() {
                     n=$((n + 1))
                 fi
                 ;;
-            *) if [ -z "$command" ]; then command=$word; else named=$word given+="$word "; fi ;;
+            *) if [ -z "$command" ]; then command=$word; else named=$word given+="$word " words=$((words + 1)); fi ;;
         esac
     done
     if [ "$command" = help ]; then
         if [ "$given" = " " ]; then _ravenhost_offer "$(_ravenhost_subcommands help)" ""; fi
         return 0
     fi
+
+    # What the launcher adds.
+    if _ravenhost_is_launcher "${COMP_WORDS[0]}"; then launcher=yes; fi
+    case $launcher:$command:$words:$named in
+        yes:new:0:*) _ravenhost_names -d "" && return ;;
+        yes:send:0:* | yes:send:2:load) _ravenhost_names -f "" && return ;;
+        yes:send:1:*) _ravenhost_offer "$(_ravenhost_sent)" "" && return ;;
+    esac
 
     # A word that is no flag: of those that a subcommand takes, the first.
     case $current in
@@ -141,9 +157,12 @@ _ravenhost() {
     esac
 
     flags=$(_ravenhost_flags "$command")
-    if _ravenhost_is_launcher "${COMP_WORDS[0]}"; then flags+=" $(_ravenhost_launcher_flags "$command")"; fi
+    if [ "$launcher" ]; then flags+=" $(_ravenhost_launcher_flags "$command")"; fi
     if [ -z "$command" ]; then
-        case $current in -*) ;; *) flags=$(_ravenhost_subcommands "") ;; esac
+        case $current in
+            -*) ;;
+            *) flags="$(_ravenhost_subcommands "") ${launcher:+$(_ravenhost_launcher_subcommands)}" ;;
+        esac
     fi
     for word in $flags; do
         case $word in

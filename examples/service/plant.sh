@@ -1,23 +1,40 @@
 #!/usr/bin/env bash
-# Runs the plant of ../plant.raven as a service, under systemd (ravenhost-plant.service beside this) or by hand:
+# Runs a plant as a service, under systemd (ravenhost-plant.service beside this) or by hand:
 #
-#     plant.sh [FOLDER]       FOLDER, else $STATE_DIRECTORY, else the current one, has the pipe and the journals
+#     plant.sh [FOLDER [SCRIPT]]     FOLDER, else $STATE_DIRECTORY, else the current one, has the pipe and the journals;
+#                                    SCRIPT has your plant: settings, units, lists, and a line @run; without it that of ../plant.raven runs
 #
-# Operator: write commands to the pipe, one a line, as in  echo 'append deny Feed Plant.Tank Fill' >FOLDER/commands
+# RAVENHOST names the program, where it isn't on PATH; the script ./ravenhost of the sources is one too.
+# Operator: send commands into the pipe by that script, which lets in one message at a time, as in
+#     ./ravenhost send FOLDER/commands 'append deny Feed Plant.Tank Fill'
+#     ./ravenhost send FOLDER/commands load team.raven
+# or, of one line and alone, by  echo quit >FOLDER/commands  .
 # The answers come on standard output, notes on standard error; under systemd:  journalctl -fu ravenhost-plant
-# The journal:  tail -f FOLDER/journal.*; judged over the units, without the list:
-#     sed '/^@list/,$d' FOLDER/plant.raven | ravenhost audit --journal FOLDER/journal.DATE
-# The end: SIGTERM (systemctl stop), or  echo quit >FOLDER/commands  . It ends also where this script is killed.
-# RAVENHOST names the program, where it isn't on PATH.
+# The journal:  tail -f FOLDER/journal.DATE; judged over the units of the script that ran, by the script ./ravenhost:
+#     ./ravenhost audit --script --journal FOLDER/journal.DATE FOLDER/script.DATE
+# The end: SIGTERM (systemctl stop), or the command quit. It ends also where this script is killed.
 set -u
 here=$(dirname "$(readlink -f "${BASH_SOURCE[0]}")")
+script=
+if [ -n "${2:-}" ]; then
+    if [ ! -f "$2" ] || [ ! -r "$2" ]; then echo "plant.sh: $2 can't be read" >&2 && exit 4; fi
+    # One that was cut short, before its last deny, has no such line.
+    grep -q $'^@run\r\\?$' "$2" || { echo "plant.sh: $2 has no line @run" >&2 && exit 1; }
+    script=$(readlink -f "$2")
+fi
 cd "${1:-${STATE_DIRECTORY:-.}}" || exit 4
+date=$(date +%Y%m%dT%H%M%S)
 
-# The plant, with room for a day or two, and with tasks that act once a second in place of once a millisecond.
+# A copy of the script, up to its line @run, beside the journal that it is to be judged with. Of the example: with room for a day or
+# two, and with tasks that act once a second in place of once a millisecond.
 {
-    printf '@host.toml\ncapacity = 1048576\n'
-    sed -e 's/Milliseconds (1)/Milliseconds (1000)/' -e '/^@run/,$d' "$here/../plant.raven"
-} >plant.raven || exit 4
+    if [ -n "$script" ]; then
+        sed '/^@run/,$d' "$script"
+    else
+        printf '@host.toml\ncapacity = 1048576\n'
+        sed -e 's/Milliseconds (1)/Milliseconds (1000)/' -e '/^@run/,$d' "$here/../plant.raven"
+    fi && echo @run
+} >"script.$date" || exit 4
 
 # This script holds both pipes open: that of commands doesn't end when an operator's echo does.
 rm -f commands stop
@@ -27,9 +44,8 @@ trap 'echo >&4' TERM INT HUP
 
 (
     trap '' TERM INT HUP
-    exec "${RAVENHOST:-ravenhost}" run --journal "journal.$(date +%Y%m%dT%H%M%S)" --tick 1000 --notes always --stop-by stop
+    exec "${RAVENHOST:-ravenhost}" run --journal "journal.$date" --tick 1000 --notes always --stop-by stop "script.$date"
 ) <commands 3>&- 4>&- &
-{ cat plant.raven && echo @run; } >&3
 
 # A signal ends the wait early, and not the run.
 wait $!
