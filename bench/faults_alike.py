@@ -93,7 +93,8 @@ def kind_of(fault: bytes) -> str:
 
 
 def main() -> int:
-    parser = argparse.ArgumentParser(description="Compares the faults of two builds.", usage="bench/faults_alike.py OLD NEW [--seed S] [--count N] [--jobs J]")
+    parser = argparse.ArgumentParser(description="Compares the faults of two builds.",
+                                     usage="bench/faults_alike.py OLD NEW [--seed S] [--count N] [--jobs J]")
     parser.add_argument("old", type=Path)
     parser.add_argument("new", type=Path)
     parser.add_argument("--seed", metavar="S", type=int, default=0)
