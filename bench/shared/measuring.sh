@@ -85,13 +85,12 @@ build_beside() {
 }
 
 # Builds a trial of a program of bench/, `program`, as the launcher builds the one that it keeps: optimised, with the checks of a
-# trial, and nothing is proved. It is kept until a source changes. The words after its name are those of a short run of it.
+# trial, and nothing is proved. It is kept until a source changes. rt runs it for a second, whatever comes of that.
 try_beside() {
     needs rt find sed
     local name=$1 top tree=$folder/tree crate
     # shellcheck disable=SC2034 # the launcher's lay_kit reads it
     local work=$folder
-    shift
     top=$(dirname "$bench")
     program=$bench/$name/out/trial/$name
     if [ -x "$program" ] && [ -z "$(find "$top/crates.txt" "$top"/crates/*/src "$top"/crates/*/specs "$bench/$name" \
@@ -103,7 +102,7 @@ try_beside() {
         lay_kit && mkdir -p "$tree/crates" || exit
         for crate in "$top"/crates/* "$bench/$name"; do copy_crate "$crate" "$tree/crates" || exit; done
         take_files "$name" "$tree" && cp "$top/HANDLES" "$tree" && cat "$top/crates.txt" "$bench/$name/crates.line" >"$tree/crates.txt" &&
-            cd "$tree/crates/$name" && "$folder/kit/bin/rt" try --steps 1 --seconds 600 -- "$@"
+            cd "$tree/crates/$name" && "$folder/kit/bin/rt" try --steps 1 --seconds 1
     ) >"$folder/log" 2>&1 </dev/null || true
     if ! [ -x "$folder/made" ]; then
         cat "$folder/log" >&2
