@@ -63,7 +63,7 @@ pub fn read_beside<R: Wait>(rt: &R, mut port: Port, ends: Ends) -> Finished
 }
 
 // The ends of both readers. None where there is no memory.
-fn ends(alloc: Global) -> Option<(Ends, Ends)> {
+fn both_ends(alloc: Global) -> Option<(Ends, Ends)> {
     let (opens, opened) = unbounded(alloc).ok()?;
     let (answers, answered) = unbounded(alloc).ok()?;
     let open = Ends {
@@ -82,7 +82,7 @@ fn begin_both(hands: &Hands, alloc: Global, control: &mut Control, crew: &mut Cr
     requires { IsOfTurn control.old.turn crew.old }
     ensures { IsOfTurn control.new.turn crew.new }
 {
-    let (open, beside) = ends(alloc)?;
+    let (open, beside) = both_ends(alloc)?;
     let first = port_of(control, FIRST)?;
     if !begin(hands, crew, first, Role::OpenReader(open)) {
         return None;
