@@ -7,7 +7,7 @@ ghost use Rattle.thread_rows.specs.Hearing.{Hears, Tells};
 use crate::crews::notes::{Hearer, Teller, ends};
 use crate::crews::tasks::{read_valve, with_tasks};
 use crate::role::Role;
-use crate::stage::changes::change;
+use crate::stage::changes::change_list;
 use crate::stage::hands::Hands;
 use crate::stage::host::port_of;
 use crate::stage::threads::{begin, close};
@@ -88,7 +88,7 @@ fn revoke<R: Wait>(rt: &R, control: &mut Control, teller: &mut Teller)
     requires { Tells control.old.turn teller.old }
     ensures { control.new.turn ≡ control.old.turn }
 {
-    change(rt, control, Change::Remove(1));
+    change_list(rt, control, Change::Remove(1));
     teller.tell(rt, control.note());
 }
 

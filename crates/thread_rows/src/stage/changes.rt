@@ -7,7 +7,7 @@ use rv_port::control::Control;
 use std::sync::Wait;
 
 /// Changes the list.
-pub fn change<R: Wait>(rt: &R, control: &mut Control, change: Change)
+pub fn change_list<R: Wait>(rt: &R, control: &mut Control, change: Change)
     ensures { control.new.turn ≡ control.old.turn }
 {
     let _ = control.change(rt, change);
