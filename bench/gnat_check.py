@@ -110,7 +110,7 @@ def gnat_errors(case: static_rules.Case) -> list[str]:
 
 
 def compared(program: Path | None, case: static_rules.Case) -> Outcome:
-    verdict = static_rules.verdict_of(program, case) if program else case.verdict
+    verdict = static_rules.told(program, static_rules.script_of(case)) if program else case.verdict
     return Outcome(case, verdict, gnat_errors(case))
 
 

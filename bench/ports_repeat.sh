@@ -1,24 +1,19 @@
 #!/usr/bin/env bash
-# Plays the jobs of crews of crates/thread_rows again and again, the storm among them, and the games of ports that stand in no
-# file, beside four times as many busy threads as there are processors. It says how many rounds ended within five minutes each
+# Plays the jobs of crews of bench/thread_games again and again, the storm among them, and the games of ports whose steps stand
+# in no file, beside four times as many busy threads as there are processors. It says how many rounds ended within five minutes each
 # with each line as due. How often may be given (200). It proves nothing; a round that stalls has a port that was not woken, or
 # a thread that waits for another one.
 #
 #     bench/ports_repeat.sh [ROUNDS [PROGRAM]]
 #
-# Without a program, by its whole path, it is proved and built the first time, which takes some minutes. It needs rt, nproc, seq, grep, cmp, mktemp and timeout.
+# Without a program, by its whole path, it is built the first time, as a trial in some three minutes. It needs rt, nproc, seq, grep,
+# cmp, mktemp and timeout.
 set -eu
 
-missing() {
-    echo "bench/ports_repeat.sh: $1 is missing" >&2
-    exit 127
-}
-for tool in rt nproc seq grep cmp mktemp timeout; do
-    command -v "$tool" >/dev/null || missing "$tool"
-done
-
-cd "$(dirname "$(readlink -f "$0")")/../crates/thread_rows"
-folder=$(mktemp -d)
+bench=$(dirname "$(readlink -f "$0")")
+. "$bench/shared/measuring.sh"
+needs nproc seq grep cmp mktemp timeout
+take_folder
 log=$folder/log
 busy=()
 stop() {
@@ -29,19 +24,10 @@ stop() {
 }
 trap stop EXIT
 program=${2:-}
-if [ -z "$program" ]; then
-    # Here, beside its data, the run itself finds no games; what counts is the proved program that it builds.
-    rt run >"$log" 2>&1 </dev/null || true
-    if ! [ -x out/thread_rows ] || ! [ -e out/thread_rows.stamp ]; then
-        cat "$log" >&2
-        exit 1
-    fi
-    program=$PWD/out/thread_rows
-fi
-# There are no transcripts and no games of steps where it runs: so their lines aren't due.
-grep -v -e '^@' -e '\.run: ' stdout >"$folder/due"
+[ -n "$program" ] || try_beside thread_games
+# It is given no steps: so the lines of their games aren't due.
+grep -v '^@' "$bench/thread_games/stdout" >"$folder/due"
 cd "$folder"
-: >games
 for _ in $(seq $((4 * $(nproc)))); do
     (while :; do :; done) &
     busy+=("$!")
@@ -52,7 +38,7 @@ stalled=0
 start=$(date +%s)
 for _ in $(seq "$wanted"); do
     status=0
-    timeout 300 "$program" >"$log" 2>&1 || status=$?
+    timeout 300 "$program" >"$log" 2>&1 </dev/null || status=$?
     if [ "$status" -eq 124 ]; then
         stalled=$((stalled + 1))
     elif [ "$status" -eq 0 ] && cmp -s "$log" due; then

@@ -1,5 +1,5 @@
-# What scripts of bench/ have in common that measure by bench/rv_bench or look at allocations. They source it, with their folder in
-# `bench`.
+# What scripts of bench/ have in common that build a program beside the gate, measure by bench/rv_bench or look at allocations. They
+# source it, with their folder in `bench`.
 
 missing() {
     echo "bench/$(basename "$0"): $1 is missing" >&2
@@ -32,6 +32,19 @@ copy_crate() {
     find "$to" -name '*.antt.txt' -o -name '*.rt.txt' | while IFS= read -r part; do mv "$part" "${part%.txt}"; done
 }
 
+# Takes into a program of bench/ that was laid in a tree what its file `taken` names of crates, in lines `CRATE PATH..`: there the
+# names of that crate are its own.
+take_files() {
+    local name=$1 to=$2/crates/$1 crate paths path
+    [ -e "$bench/$name/taken" ] || return 0
+    while read -r crate paths; do
+        for path in $paths; do
+            mkdir -p "$(dirname "$to/$path")" && cp -r "$bench/../crates/$crate/$path" "$to/$path" &&
+                find "$to/$path" -type f -exec sed -i "s/\bRattle\.$crate\./Rattle.$name./" {} + || return
+        done
+    done <"$bench/$name/taken"
+}
+
 # Gives a program of bench/ its out/ back, and removes the tree, since the gate takes no sources but those of crates.
 lift_tree() {
     [ ! -d "$2/crates/$1/out" ] || [ -d "$bench/$1/out" ] || mv "$2/crates/$1/out" "$bench/$1/"
@@ -47,6 +60,7 @@ lay_tree() {
     done
     lift_tree "$name" "$tree" && mkdir -p "$tree/crates" || return
     for crate in "$bench"/../crates/* "$bench/$name"; do copy_crate "$crate" "$tree/crates" || return; done
+    take_files "$name" "$tree" || return
     cp "$bench/../HANDLES" "$tree" &&
         cat "$bench/../crates.txt" "$bench/$name/crates.line" >"$tree/crates.txt" &&
         mkdir -p "$bench/$name/out" && rmdir "$tree/crates/$name/out" && mv "$bench/$name/out" "$tree/crates/$name/"
@@ -68,6 +82,33 @@ build_beside() {
         cat "$folder/log" >&2
         exit 1
     }
+}
+
+# Builds a trial of a program of bench/, `program`, as the launcher builds the one that it keeps: optimised, with the checks of a
+# trial, and nothing is proved. It is kept until a source changes. rt runs it for a second, whatever comes of that.
+try_beside() {
+    needs rt find sed
+    local name=$1 top tree=$folder/tree crate
+    # shellcheck disable=SC2034 # the launcher's lay_kit reads it
+    local work=$folder
+    top=$(dirname "$bench")
+    program=$bench/$name/out/trial/$name
+    if [ -x "$program" ] && [ -z "$(find "$top/crates.txt" "$top"/crates/*/src "$top"/crates/*/specs "$bench/$name" \
+        -path "$bench/$name/out" -prune -o -newer "$program" -print -quit)" ]; then
+        return
+    fi
+    eval "$(sed -n '/^lay_kit() {/,/^}/p' "$top/ravenhost")"
+    (
+        lay_kit && mkdir -p "$tree/crates" || exit
+        for crate in "$top"/crates/* "$bench/$name"; do copy_crate "$crate" "$tree/crates" || exit; done
+        take_files "$name" "$tree" && cp "$top/HANDLES" "$tree" && cat "$top/crates.txt" "$bench/$name/crates.line" >"$tree/crates.txt" &&
+            cd "$tree/crates/$name" && "$folder/kit/bin/rt" try --steps 1 --seconds 1
+    ) >"$folder/log" 2>&1 </dev/null || true
+    if ! [ -x "$folder/made" ]; then
+        cat "$folder/log" >&2
+        exit 1
+    fi
+    mkdir -p "${program%/*}" && mv "$folder/made" "$program"
 }
 
 # Makes a folder and goes to rv_bench, which the first time is proved and built. The words are those of a short run of it.

@@ -30,8 +30,9 @@ use Rattle.thread_rows.specs.contracts.crews.notes.OneTurn as rule
 use Rattle.thread_rows.specs.contracts.crews.notes.OneTurnProtocolNoteOptionNote.TheImpl as protocol
 use Rattle.thread_rows.specs.contracts.crews.notes.Hearer as hearer
 use Rattle.thread_rows.specs.contracts.crews.told_revoke.ToldReader as told
-use Rattle.thread_rows.specs.contracts.hands.Role as role
-use Rattle.thread_rows.proofs.crews.caller.Caller.TheSendSync as caller_crosses
+use Rattle.thread_rows.specs.contracts.role.Role as role
+use Rattle.thread_rows.proofs.crews.told_revoke.Caller.TheSendSync as caller_crosses
+use Rattle.thread_rows.proofs.crews.two_readers.Ends.TheSendSync as ends_crosses
 
 abbrev known : RattleType
 known = option.the_row note.the_row
@@ -71,7 +72,7 @@ told_field = struct_send (structs.shape told.the_type) (hearer_field, (caller_cr
 role_field : IsSend (role.the_field).row
 role_field = enum_send (enums.shape role.the_type) (
   (work_crosses.the_field_send, tt),
-  ((caller_crosses.the_field_send, tt), ((told_field, tt), tt)),
+  ((told_field, tt), ((ends_crosses.the_field_send, tt), ((ends_crosses.the_field_send, tt), tt))),
 )
 
 pub role_send : IsSend role.the_row

@@ -1,4 +1,5 @@
-//! Worked rows on threads: games of ports, jobs of a crew, and runs, each kind under a heading.
+//! Worked rows on threads, of what no contract says: two games of a crew, and runs, each kind under a heading. More games stand
+//! beside the gate, in `bench/thread_games`.
 #![tactic(auto)]
 
 ghost use Rattle.std.specs.Prelude.{◌≡◌};
@@ -6,18 +7,17 @@ ghost use Rattle.rv_crew.specs.Hiring.{hired};
 ghost use Rattle.thread_rows.specs.Fitting.{Fits};
 
 mod crews;
-mod hands;
-mod host;
-mod ports;
+mod role;
 mod runs;
-mod units;
+mod stage;
 
-use hands::{Hands, Role, act};
+use role::{Role, act};
 use rv_crew::crew::Crew;
 use rv_crew::hiring::{HireFault, give_up, start};
 use rv_crew::job::Job;
 use rv_exec::machine::STACK_BYTES;
 use rv_port::port::{Finished, Port};
+use stage::hands::Hands;
 use std::fs::Files;
 use std::snapshot::Snapshot;
 use std::sync::Wait;
@@ -30,8 +30,6 @@ fn play_all<R>(rt: &R, hands: &Hands) -> io::Result<()>
 where
     R: Threads + Wait + Clock + AllocGlobal + Print + Files + Clone + Sync,
 {
-    println!(rt; "# Games of ports")?;
-    ports::play_all(rt)?;
     println!(rt; "# Jobs of a crew")?;
     crews::play_all(rt, hands)?;
     println!(rt; "# Runs")?;

@@ -5,7 +5,7 @@ ghost use Rattle.crossbeam_channel.specs.Claims.{view, IsSeatAt};
 ghost use Rattle.crossbeam_channel.specs.Ends.{receives_on, sends_on};
 ghost use Rattle.thread_rows.specs.OneTurn.{IsFor};
 
-use crate::crews::waiting::LOOKS;
+use crate::stage::waiting::LOOKS;
 use crossbeam_channel::protocol::{Lesson, Outcome, Protocol, Split};
 use crossbeam_channel::{Pass, RuledReceiver, RuledSender, TryRecvError, bounded_with};
 use rv_port::note::Note;

@@ -4,15 +4,17 @@ ghost use Rattle.std.specs.Prelude.{◌≡◌};
 ghost use Rattle.rv_crew.specs.Teams.{IsOfTurn};
 ghost use Rattle.thread_rows.specs.Hearing.{Hears, Tells};
 
-use crate::crews::caller::{Caller, GET, call_all, caller_of};
-use crate::crews::changes::remove;
 use crate::crews::notes::{Hearer, Teller, ends};
-use crate::crews::plant::{FIRST, TASKS, with_scene};
-use crate::crews::threads::{begin, close};
-use crate::crews::waiting::receive;
-use crate::hands::{Hands, Role};
-use crate::host::port_of;
-use crossbeam_channel::Receiver;
+use crate::crews::tasks::{read_valve, with_tasks};
+use crate::role::Role;
+use crate::stage::changes::change_list;
+use crate::stage::hands::Hands;
+use crate::stage::host::port_of;
+use crate::stage::threads::{begin, close};
+use crate::stage::units::FIRST;
+use crate::stage::waiting::receive;
+use crossbeam_channel::{Receiver, Sender, unbounded};
+use rv_access::Change;
 use rv_crew::crew::{Closed, Crew};
 use rv_event::entry::Rule;
 use rv_port::control::Control;
@@ -22,6 +24,22 @@ use rv_value::Args;
 use std::sync::Wait;
 use std::thread::Threads;
 
+/// Who reads the valve, and tells what came of it.
+#[derive(Drop)]
+struct Caller {
+    replies: Sender<Reached>,
+}
+
+impl Caller {
+    // Reads the valve.
+    fn read<R: Wait>(&self, rt: &R, port: &mut Port)
+        ensures { (port.new.turn ≡ port.old.turn) × (port.new.actor ≡ port.old.actor) }
+    {
+        let reached = read_valve(rt, port);
+        let _ = self.replies.send(rt, reached);
+    }
+}
+
 /// What the reader has that is told.
 #[derive(Drop)]
 pub struct ToldReader {
@@ -29,7 +47,7 @@ pub struct ToldReader {
     caller: Caller,
 }
 
-// Reads once it is told a note, and says what came of it.
+// Reads once it is told a note.
 fn read_once<R: Wait>(rt: &R, port: &mut Port, reader: &mut ToldReader)
     requires { Hears port.old.turn reader.old.notes }
     ensures port { (port.new.turn ≡ port.old.turn) × (port.new.actor ≡ port.old.actor) }
@@ -37,7 +55,7 @@ fn read_once<R: Wait>(rt: &R, port: &mut Port, reader: &mut ToldReader)
 {
     if let Some(note) = reader.notes.hear(rt) {
         port.told(note);
-        call_all(rt, port, &reader.caller);
+        reader.caller.read(rt, port);
     }
 }
 
@@ -70,7 +88,7 @@ fn revoke<R: Wait>(rt: &R, control: &mut Control, teller: &mut Teller)
     requires { Tells control.old.turn teller.old }
     ensures { control.new.turn ≡ control.old.turn }
 {
-    remove(rt, control, 1);
+    change_list(rt, control, Change::Remove(1));
     teller.tell(rt, control.note());
 }
 
@@ -101,9 +119,12 @@ fn read<R: Threads + Wait + AllocGlobal>(
 {
     let mut control = control;
     let (mut teller, notes) = ends(rt, rt.alloc(), control.note())?;
-    let (caller, come) = caller_of(rt.alloc(), 1, GET)?;
+    let (replies, come) = unbounded(rt.alloc()).ok()?;
     let mut crew = Crew::new(rt.alloc());
-    let reader = ToldReader { notes, caller };
+    let reader = ToldReader {
+        notes,
+        caller: Caller { replies },
+    };
     if !begin(hands, &mut crew, port, Role::ToldReader(reader)) {
         return None;
     }
@@ -115,7 +136,7 @@ fn read<R: Threads + Wait + AllocGlobal>(
 
 /// Plays the game. None where it isn't as it should be: then threads may be left.
 pub fn play<R: Threads + Wait + AllocGlobal>(rt: &R, hands: &Hands) -> Option<Closed> {
-    let mut control = with_scene(rt, rt.alloc(), &TASKS)?;
+    let mut control = with_tasks(rt, rt.alloc())?;
     let port = port_of(&mut control, FIRST)?;
     read(rt, hands, port, control)
 }

@@ -1,5 +1,0 @@
-use Rattle.rv_crew.specs.Teams.{IsOfTurn}
-use Rattle.thread_rows.proofs.crews.storm.begin_all.Given as goal
-
-abbrev pub invariant-loop-number : goal.invariant-loop-number
-invariant-loop-number g l = IsOfTurn l.control.turn l.crew
