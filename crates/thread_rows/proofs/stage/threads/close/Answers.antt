@@ -1,5 +1,5 @@
 use Rattle.rv_crew.proofs.Turns.{joined_of_turn}
-use Rattle.thread_rows.proofs.crews.threads.close.Goals as goal
+use Rattle.thread_rows.proofs.stage.threads.close.Goals as goal
 
 pub close-requires-clause-turn : goal.close-requires-clause-turn
 close-requires-clause-turn g c =
