@@ -60,7 +60,13 @@ pub record Leads (from : Control) (before : List Frame) (to : Control) (after : 
   pub less : (bodies : UnitBodies) (s : Setting) → moves_left bodies to after s < moves_left bodies from before s
   pub low : (bodies : UnitBodies) (s : Setting) (one : ℕ) → highest one bodies to after s ≤ highest one bodies from before s
 
--- one in one setting
+-- the same where it may also stand where it stood: no more of the run is left
+pub record Keeps (from : Control) (before : List Frame) (to : Control) (after : List Frame) : Type 0 where
+  pub same : (bodies : UnitBodies) (s : Setting) → meant bodies from before s ≡ meant bodies to after s
+  pub less : (bodies : UnitBodies) (s : Setting) → moves_left bodies to after s ≤ moves_left bodies from before s
+  pub low : (bodies : UnitBodies) (s : Setting) (one : ℕ) → highest one bodies to after s ≤ highest one bodies from before s
+
+-- a move in one setting
 pub record LeadsIn (s : Setting) (from : Control) (before : List Frame) (to : Control) (after : List Frame) : Type 0 where
   pub same : (bodies : UnitBodies) → meant bodies from before s ≡ meant bodies to after s
   pub less : (bodies : UnitBodies) → moves_left bodies to after s < moves_left bodies from before s

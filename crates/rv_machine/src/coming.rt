@@ -23,6 +23,7 @@ impl Machine {
     pub(crate) fn pass(&mut self, unit: &FlatUnit, frame: Frame)
         ensures below { (now : Now) → is_kind (kind_taken frame) (comes_as now) ≡ false → MovesOn (flat_view unit.now) (comes now) (frames_with unit.now (frame ∷ waiting self.old.stack) (set_aside self.old.stack)) self.old.setting (comes now) (below unit.now self.new.stack) self.new.setting }
         ensures same { self.new.activation ≡ self.old.activation }
+        ensures point { self.new.point ≡ self.old.point }
         ensures kept { room self.new.stack ≡ room self.old.stack }
     {
         let _ = unit;
@@ -81,16 +82,30 @@ impl Machine {
 
     /// The end of a statement comes to this frame, which was on top.
     fn end_meets(&mut self, unit: &FlatUnit, frame: Frame, end: End)
-        requires { HasRoom 1 self.old.stack }
+        requires { HasRoom 3 self.old.stack }
         ensures moves { MovesTo unit.now (comes (done end self.old.activation)) (frames_with unit.now (frame ∷ waiting self.old.stack) (set_aside self.old.stack)) self.old.setting self.new }
         ensures kept { room self.new.stack ≡ room self.old.stack }
     {
         match frame {
             Frame::End(part) => {
-                self.point = take_end(unit, &mut self.stack, &self.activation, part, end);
+                self.point = take_end(
+                    unit,
+                    &mut self.stack,
+                    &mut self.activation,
+                    &self.setting,
+                    part,
+                    end,
+                );
             }
             Frame::Counting(count, statements) => {
-                self.point = take_count_end(unit, &self.activation, count, statements, end);
+                self.point = take_count_end(
+                    unit,
+                    &mut self.stack,
+                    &mut self.activation,
+                    count,
+                    statements,
+                    end,
+                );
             }
             Frame::Handling(handlers) => {
                 self.point = handle(
@@ -111,7 +126,7 @@ impl Machine {
 
     /// The end of a statement comes to the frame on top.
     pub(crate) fn end_comes(&mut self, unit: &FlatUnit, end: End)
-        requires room { HasRoom 1 self.old.stack }
+        requires room { HasRoom 3 self.old.stack }
         requires waits { waiting self.old.stack ≡ [] → set_aside self.old.stack ≡ [] → ⊥ }
         ensures moves { MovesTo unit.now (comes (done end self.old.activation)) (below unit.now self.old.stack) self.old.setting self.new }
         ensures kept { room self.new.stack ≡ room self.old.stack }
@@ -149,24 +164,23 @@ impl Machine {
     }
 
     /// How a run ends comes to this frame, which was on top, and passes it.
-    fn over_meets(&mut self, unit: &FlatUnit, frame: Frame, point: Point)
-        requires { is_over point ≡ true }
-        ensures moves { MovesTo unit.now (control (trees unit.now.code) point self.old.activation) (frames_with unit.now (frame ∷ waiting self.old.stack) (set_aside self.old.stack)) self.old.setting self.new }
+    fn over_meets(&mut self, unit: &FlatUnit, frame: Frame)
+        requires { is_over self.old.point ≡ true }
+        ensures moves { MovesTo unit.now (control (trees unit.now.code) self.old.point self.old.activation) (frames_with unit.now (frame ∷ waiting self.old.stack) (set_aside self.old.stack)) self.old.setting self.new }
         ensures kept { room self.new.stack ≡ room self.old.stack }
     {
         self.pass(unit, frame);
-        self.point = point;
     }
 
     /// How a run ends comes to the frame on top, and passes it.
-    pub(crate) fn over_comes(&mut self, unit: &FlatUnit, point: Point)
-        requires over { is_over point ≡ true }
+    pub(crate) fn over_comes(&mut self, unit: &FlatUnit)
+        requires over { is_over self.old.point ≡ true }
         requires waits { waiting self.old.stack ≡ [] → set_aside self.old.stack ≡ [] → ⊥ }
-        ensures moves { MovesTo unit.now (control (trees unit.now.code) point self.old.activation) (below unit.now self.old.stack) self.old.setting self.new }
+        ensures moves { MovesTo unit.now (control (trees unit.now.code) self.old.point self.old.activation) (below unit.now self.old.stack) self.old.setting self.new }
         ensures kept { room self.new.stack ≡ room self.old.stack }
     {
         if let Some(frame) = self.stack.pop() {
-            self.over_meets(unit, frame, point);
+            self.over_meets(unit, frame);
         }
     }
 }

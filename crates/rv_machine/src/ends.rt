@@ -5,7 +5,7 @@ ghost use Rattle.rv_flat.specs.Tables.{trees};
 ghost use Rattle.rv_flat.specs.Trees.{tree_at, as_handlers};
 ghost use Rattle.rv_frames.specs.Frames.{Frame as Waiting, handling, comes, done};
 ghost use Rattle.rv_frames.specs.Rests.{is_next};
-ghost use Rattle.rv_machine.specs.Points.{control, left_by, Leads, LeadsAcross};
+ghost use Rattle.rv_machine.specs.Points.{control, left_by, Leads, LeadsIn, LeadsAcross};
 ghost use Rattle.rv_machine.specs.Stacks.{below, count_frame, end_frame, HasRoom, room};
 
 use crate::choices::handler_of;
@@ -13,6 +13,7 @@ use crate::frame::{Count, EndFrame};
 use crate::outcomes::{operation_outcome, task_outcome};
 use crate::point::Point;
 use crate::stack::Stack;
+use crate::statements::{count, run_all, turn};
 use rv_exec::activation::Activation;
 use rv_exec::end::End;
 use rv_exec::outcome::raised;
@@ -66,17 +67,18 @@ pub fn handle(
 /// The end of the statements for one value of a loop's range comes (5.5).
 pub fn take_count_end(
     unit: &FlatUnit,
-    activation: &Activation,
-    count: Count,
+    stack: &mut Stack,
+    activation: &mut Activation,
+    values: Count,
     statements: usize,
     end: End,
 ) -> Point
-    ensures { (fs : List Waiting) → Leads (comes (done end activation.now)) (count_frame (trees unit.now.code) count statements ∷ fs) (control (trees unit.now.code) result activation.now) fs }
+    requires { HasRoom 1 stack.old }
+    ensures leads { Leads (comes (done end activation.old)) (count_frame (trees unit.now.code) values statements ∷ below unit.now stack.old) (control (trees unit.now.code) result activation.new) (below unit.now stack.new) }
+    ensures kept { room stack.new ≡ room stack.old }
 {
-    let _ = unit;
-    let _ = activation;
     if is_next(end) {
-        Point::Counts(count, statements)
+        count(unit, stack, activation, values, statements)
     } else {
         Point::Done(left_by(end))
     }
@@ -86,25 +88,26 @@ pub fn take_count_end(
 pub fn take_end(
     unit: &FlatUnit,
     stack: &mut Stack,
-    activation: &Activation,
+    activation: &mut Activation,
+    setting: &Setting,
     frame: EndFrame,
     end: End,
 ) -> Point
-    requires { HasRoom 1 stack.old }
-    ensures leads { Leads (comes (done end activation.now)) (end_frame unit.now frame ∷ below unit.now stack.old) (control (trees unit.now.code) result activation.now) (below unit.now stack.new) }
+    requires { HasRoom 3 stack.old }
+    ensures leads { LeadsIn setting.now (comes (done end activation.old)) (end_frame unit.now frame ∷ below unit.now stack.old) (control (trees unit.now.code) result activation.new) (below unit.now stack.new) }
     ensures kept { room stack.new ≡ room stack.old }
 {
     match frame {
         EndFrame::Turning(turns, condition, statements) => {
             if is_next(end) {
-                Point::Turns(turns, condition, statements)
+                turn(unit, stack, activation, turns, condition, statements)
             } else {
                 Point::Done(left_by(end))
             }
         }
         EndFrame::Sequencing(statements) => {
             if is_next(end) {
-                Point::RunsAll(statements)
+                run_all(unit, stack, activation, setting, statements)
             } else {
                 Point::Done(end)
             }

@@ -7,10 +7,12 @@ ghost use Rattle.rv_frames.specs.Frames.{evaluates, links as links_of, argues};
 ghost use Rattle.rv_machine.specs.Points.{control, Leads};
 ghost use Rattle.rv_machine.specs.Stacks.{below, HasRoom, room};
 
+use crate::at_once::{MOST_DEPTH, value_at_once};
 use crate::frame::{OperandFrame, ValuesFrame};
 use crate::nodes::{ExpressionNode, expression_at, expressions_at, links_at};
 use crate::point::Point;
 use crate::stack::Stack;
+use crate::values::argument_comes;
 use rv_exec::activation::Activation;
 use rv_exec::operators::decides;
 use rv_flat::unit::FlatUnit;
@@ -22,6 +24,9 @@ pub fn evaluate(unit: &FlatUnit, stack: &mut Stack, activation: &Activation, num
     ensures leads { Leads (evaluates (as_expression (tree_at (trees unit.now.code) number)) activation.now) (below unit.now stack.old) (control (trees unit.now.code) result activation.now) (below unit.now stack.new) }
     ensures kept { room stack.new ≡ room stack.old }
 {
+    if let Some(value) = value_at_once(&unit.code, activation, number, MOST_DEPTH) {
+        return Point::Valued(value);
+    }
     match expression_at(&unit.code, number) {
         ExpressionNode::Value(value) => Point::Valued(Ok(value)),
         ExpressionNode::Variable(slot) => Point::Valued(Ok(activation.variable(slot))),
@@ -85,8 +90,13 @@ pub fn argue(
     match expressions_at(&unit.code, arguments) {
         None => Point::Listed(Ok(values)),
         Some(argument) => {
-            stack.push_argument(values, argument.rest);
-            Point::Evaluates(argument.first)
+            match value_at_once(&unit.code, activation, argument.first, MOST_DEPTH) {
+                Some(value) => argument_comes(unit, activation, values, argument.rest, value),
+                None => {
+                    stack.push_argument(values, argument.rest);
+                    Point::Evaluates(argument.first)
+                }
+            }
         }
     }
 }

@@ -55,7 +55,7 @@ impl Machine {
         self.point = run(
             unit,
             &mut self.stack,
-            &self.activation,
+            &mut self.activation,
             &self.setting,
             number,
         );
@@ -63,11 +63,17 @@ impl Machine {
 
     // Statements (5.1).
     fn at_statements(&mut self, unit: &FlatUnit, statements: usize)
-        requires { HasRoom 1 self.old.stack }
+        requires { HasRoom 3 self.old.stack }
         ensures moves { MovesTo unit.now (control (trees unit.now.code) (Point.RunsAll statements) self.old.activation) (below unit.now self.old.stack) self.old.setting self.new }
         ensures kept { room self.new.stack ≡ room self.old.stack }
     {
-        self.point = run_all(unit, &mut self.stack, &mut self.activation, statements);
+        self.point = run_all(
+            unit,
+            &mut self.stack,
+            &mut self.activation,
+            &self.setting,
+            statements,
+        );
     }
 
     // Branches, before the statements behind `else` (5.3).
@@ -76,7 +82,13 @@ impl Machine {
         ensures moves { MovesTo unit.now (control (trees unit.now.code) (Point.Tries branches otherwise) self.old.activation) (below unit.now self.old.stack) self.old.setting self.new }
         ensures kept { room self.new.stack ≡ room self.old.stack }
     {
-        self.point = try_branches(unit, &mut self.stack, &self.activation, branches, otherwise);
+        self.point = try_branches(
+            unit,
+            &mut self.stack,
+            &mut self.activation,
+            branches,
+            otherwise,
+        );
     }
 
     // The alternatives for a value (5.4).
@@ -96,7 +108,7 @@ impl Machine {
         self.point = turn(
             unit,
             &mut self.stack,
-            &self.activation,
+            &mut self.activation,
             turns,
             condition,
             statements,
@@ -124,7 +136,7 @@ impl Machine {
         ensures moves { MovesTo unit.now (control (trees unit.now.code) (Point.Declares declarations) self.old.activation) (below unit.now self.old.stack) self.old.setting self.new }
         ensures kept { room self.new.stack ≡ room self.old.stack }
     {
-        self.point = declare(unit, &mut self.stack, &self.activation, declarations);
+        self.point = declare(unit, &mut self.stack, &mut self.activation, declarations);
     }
 
     // The end of a body that isn't asked, since its actor is left waiting, or in a body that it called (9.5.1).
@@ -148,16 +160,17 @@ impl Machine {
         self.point = Point::Quitted(exit_of(&outcome));
     }
 
-    // One move at a point where nothing is asked.
-    fn move_at(&mut self, unit: &FlatUnit, point: Point)
+    /// One move, where nothing is asked and the run isn't over: the run turns to a part of an expression, of a statement or of a
+    /// body, or what comes is taken by the frame on top.
+    pub(crate) fn advance(&mut self, unit: &FlatUnit)
         requires room { HasRoom 3 self.old.stack }
         requires space { HasSpace self.old.stack }
-        requires unasked { question point ≡ None }
-        requires waits { is_coming point ≡ true → waiting self.old.stack ≡ [] → set_aside self.old.stack ≡ [] → ⊥ }
-        ensures moves { MovesTo unit.now (control (trees unit.now.code) point self.old.activation) (below unit.now self.old.stack) self.old.setting self.new }
+        requires unasked { question self.old.point ≡ None }
+        requires waits { is_coming self.old.point ≡ true → waiting self.old.stack ≡ [] → set_aside self.old.stack ≡ [] → ⊥ }
+        ensures moves { MovesTo unit.now (control (trees unit.now.code) self.old.point self.old.activation) (below unit.now self.old.stack) self.old.setting self.new }
         ensures kept { room self.new.stack ≡ room self.old.stack }
     {
-        match point {
+        match self.point {
             Point::Evaluates(number) => self.at_expression(unit, number),
             Point::Links(links, value) => self.at_links(unit, links, value),
             Point::Argues(arguments, values) => self.at_arguments(unit, arguments, values),
@@ -181,22 +194,8 @@ impl Machine {
             }
             Point::Reaches(asked) => self.request_comes(unit, asked),
             Point::Outside(outcome) => self.call_comes(unit, outcome),
-            Point::Exited(_, _) | Point::Quitted(_) => self.over_comes(unit, point),
+            Point::Exited(_, _) | Point::Quitted(_) => self.over_comes(unit),
             Point::Asks(_, _) | Point::Waits(_) | Point::Fires(_, _) => {}
         }
-    }
-
-    /// One move, where nothing is asked and the run isn't over: the run turns to a part of an expression, of a statement or of a
-    /// body, or what comes is taken by the frame on top.
-    pub(crate) fn advance(&mut self, unit: &FlatUnit)
-        requires room { HasRoom 3 self.old.stack }
-        requires space { HasSpace self.old.stack }
-        requires unasked { question self.old.point ≡ None }
-        requires waits { is_coming self.old.point ≡ true → waiting self.old.stack ≡ [] → set_aside self.old.stack ≡ [] → ⊥ }
-        ensures moves { MovesTo unit.now (control (trees unit.now.code) self.old.point self.old.activation) (below unit.now self.old.stack) self.old.setting self.new }
-        ensures kept { room self.new.stack ≡ room self.old.stack }
-    {
-        let point = self.point;
-        self.move_at(unit, point);
     }
 }

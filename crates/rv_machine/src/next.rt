@@ -61,6 +61,30 @@ impl Machine {
         }
     }
 
+    // Whether nothing is asked where the machine stands.
+    fn is_unasked(&self) -> bool
+        ensures yes { IsTrue result → question self.now.point ≡ None }
+        ensures no { IsFalse result → question self.now.point ≡ None → ⊥ }
+    {
+        match self.point {
+            Point::Asks(_, _) | Point::Waits(_) | Point::Fires(_, _) => false,
+            Point::Ends(_, outcome) => is_stuck(&outcome),
+            Point::Quits(outcome) => is_stuck(&outcome),
+            _ => true,
+        }
+    }
+
+    // Whether it asks, or its run is over.
+    fn rests(&self) -> bool
+        ensures moves { IsFalse result → question self.now.point ≡ None }
+        ensures waits { IsFalse result → is_coming self.now.point ≡ true → waiting self.now.stack ≡ [] → set_aside self.now.stack ≡ [] → ⊥ }
+        ensures over { IsTrue result → question self.now.point ≡ None → is_coming self.now.point ≡ true }
+        ensures empty { IsTrue result → question self.now.point ≡ None → waiting self.now.stack ≡ [] }
+        ensures alone { IsTrue result → question self.now.point ≡ None → set_aside self.now.stack ≡ [] }
+    {
+        !self.is_unasked() || self.is_over()
+    }
+
     // Whether something comes to the frame on top.
     fn is_coming(&self) -> bool
         ensures { result ≡ is_coming self.now.point }
@@ -111,14 +135,12 @@ impl Machine {
         ensures left { left unit.now self.new ≤ left unit.now self.old }
         ensures fits { Fits unit.now self.new }
     {
-        'moves: loop {
-            if let Some(request) = self.question() {
-                return Next::Asks(request);
-            }
-            if self.is_over() {
-                return Next::Ended(self.end());
-            }
+        'moves: while !self.rests() {
             self.advance(unit);
+        }
+        match self.question() {
+            Some(request) => Next::Asks(request),
+            None => Next::Ended(self.end()),
         }
     }
 }

@@ -4,4 +4,4 @@ use Rattle.rv_machine.specs.declared.point.Point.TheVariants as point
 use Rattle.rv_machine.proofs.machine.Machine.at_statement.Goals as goal
 
 pub returns-clause-moves : goal.returns-clause-moves
-returns-clause-moves c = moved c.args.unit.now c.args.self.now (record c.args.self.now { point = c.run-self.result; stack = c.run-self.new.stack }) (point.Runs c.args.number) refl c.run-self.ensures.leads
+returns-clause-moves c = moved c.args.unit.now c.args.self.now (record c.args.self.now { point = c.run-self.result; stack = c.run-self.new.stack; activation = c.run-self.new.activation }) (point.Runs c.args.number) refl c.run-self.ensures.leads

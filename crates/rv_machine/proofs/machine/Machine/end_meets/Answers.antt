@@ -1,16 +1,16 @@
 use Rattle.std.proofs.Common.{ap, refl}
 use Rattle.rv_exec.specs.declared.activation.Activation.{Activation}
 use Rattle.rv_frames.specs.Frames.{done}
-use Rattle.rv_machine.specs.Stacks.{below}
 use Rattle.rv_machine.specs.declared.point.Point.TheVariants as point
+use Rattle.rv_machine.proofs.Composing.{across_in}
 use Rattle.rv_machine.proofs.Meetings.{across, met_end, met_count, met_handling, passed, takes_no_end}
 use Rattle.rv_machine.proofs.machine.Machine.end_meets.Goals as goal
 
 pub returns-in-End-clause-moves : goal.returns-in-End-clause-moves
-returns-in-End-clause-moves c = met_end c.args.unit.now c.args.self.now.stack (record c.args.self.now { point = c.take_end-self.result; stack = c.take_end-self.new.stack }) (done c.args.end c.args.self.now.activation) c.args.self.now.setting _ _ c.in-End.is (across _ _ _ _ _ c.take_end-self.ensures.leads)
+returns-in-End-clause-moves c = met_end c.args.unit.now c.args.self.now.stack (record c.args.self.now { point = c.take_end-self.result; stack = c.take_end-self.new.stack; activation = c.take_end-self.new.activation }) (done c.args.end c.args.self.now.activation) c.args.self.now.setting _ _ c.in-End.is (across_in _ _ _ _ _ c.take_end-self.ensures.leads)
 
 pub returns-in-Counting-clause-moves : goal.returns-in-Counting-clause-moves
-returns-in-Counting-clause-moves c = met_count c.args.unit.now c.args.self.now.stack (record c.args.self.now { point = c.take_count_end-self.result }) (done c.args.end c.args.self.now.activation) c.args.self.now.setting _ _ _ c.in-Counting.is (across _ _ _ _ _ (c.take_count_end-self.ensures (below c.args.unit.now c.args.self.now.stack)))
+returns-in-Counting-clause-moves c = met_count c.args.unit.now c.args.self.now.stack (record c.args.self.now { point = c.take_count_end-self.result; stack = c.take_count_end-self.new.stack; activation = c.take_count_end-self.new.activation }) (done c.args.end c.args.self.now.activation) c.args.self.now.setting _ _ _ c.in-Counting.is (across _ _ _ _ _ c.take_count_end-self.ensures.leads)
 
 pub returns-in-Handling-clause-moves : goal.returns-in-Handling-clause-moves
 returns-in-Handling-clause-moves c = met_handling c.args.unit.now c.args.self.now.stack (record c.args.self.now { point = c.handle-self.result; setting = c.handle-self.new.setting; stack = c.handle-self.new.stack }) (done c.args.end c.args.self.now.activation) c.args.self.now.setting _ _ c.in-Handling.is c.handle-self.ensures.leads

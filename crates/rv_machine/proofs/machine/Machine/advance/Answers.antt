@@ -5,7 +5,7 @@ use Rattle.rv_machine.specs.Points.{control}
 use Rattle.rv_machine.specs.Stacks.{below}
 use Rattle.rv_machine.specs.declared.point.Point.TheVariants as point
 use Rattle.rv_machine.proofs.Meetings.{at_point}
-use Rattle.rv_machine.proofs.machine.Machine.move_at.Goals as goal
+use Rattle.rv_machine.proofs.machine.Machine.advance.Goals as goal
 
 pub returns-in-Evaluates-clause-moves : goal.returns-in-Evaluates-clause-moves
 returns-in-Evaluates-clause-moves c = at_point c.args.unit.now _ _ _ _ _ c.at_expression.new.self c.in-Evaluates.is c.at_expression.ensures.moves

@@ -1,0 +1,226 @@
+-- What comes to its value, or to its end, at once.
+use Rattle.std.proofs.Common.{◌≡◌, ◌≤◌, ◌<◌, ◌+◌, refl, sym, ap, arith, ◌∙◌, ℕ, ℤ, pos, List, ◌∷◌, Bool, true, false, cond, Some, None, Result, Ok, Err, slice_index_or}
+use Rattle.rv_shape.specs.declared.kind.Range.{Range}
+use Rattle.rv_event.specs.declared.entry.Exception.{Exception}
+use Rattle.rv_code.specs.declared.expression.Operator.{Operator}
+use Rattle.rv_code.specs.declared.expression.Prefix.{Prefix}
+use Rattle.rv_code.specs.declared.statement.Target.{Target}
+use Rattle.rv_code.specs.Expressions as code
+use Rattle.rv_code.specs.Expressions.{Expression, Links, links_size}
+use Rattle.rv_code.specs.Statements as stat
+use Rattle.rv_code.specs.Statements.{Statement, Statements, statements_size}
+use Rattle.rv_exec.specs.declared.activation.Activation.{Activation}
+use Rattle.rv_exec.specs.declared.end.Cause.{Cause}
+use Rattle.rv_exec.specs.declared.end.Cause.TheVariants as cause
+use Rattle.rv_exec.specs.declared.end.End.{End}
+use Rattle.rv_exec.specs.declared.end.End.TheVariants as ends
+use Rattle.rv_exec.specs.Activations.{assigned, stepped}
+use Rattle.rv_exec.specs.Asking.{Asking, ended, and_then}
+use Rattle.rv_exec.specs.Blocks.{world}
+use Rattle.rv_exec.specs.Expressions.{value, linked, on_value, fails}
+use Rattle.rv_exec.specs.Operators.{decides, prefix_of, result_of, within}
+use Rattle.rv_exec.specs.Statements.{meaning, abandons, exit_where}
+use Rattle.rv_exec.specs.World.{World, Run, Got}
+use Rattle.rv_frames.specs.Rests.{is_next}
+use Rattle.rv_frames.specs.Frames.{Frame, sequencing, evaluates, runs, runs_all, comes, valued, done, got, end, denoted, meant}
+use Rattle.rv_machine.specs.AtOnce.{HasValue, LinkTo, EndsSo}
+use Rattle.rv_machine.specs.Moves.{expression_moves, statement_moves, called_moves, level}
+use Rattle.rv_machine.specs.Points.{Leads}
+use Rattle.rv_machine.proofs.Composing.{behind}
+use Rattle.rv_machine.proofs.EndSteps.{sequence_goes, sequence_stops}
+use Rattle.rv_machine.proofs.StatementSteps.{next_statement}
+
+-- expressions
+pub literal_at : (e : Expression) (n m : ℤ) (a : Activation) → e ≡ code.literal n → m ≡ n → HasValue e a (Ok m)
+unfolding value
+literal_at e n m a is same = λ w. ap (λ (x : Expression). value w x a) is ∙ ap (λ (z : ℤ). the (Asking Got) (ended (Ok z, a))) (sym same)
+
+pub variable_at : (e : Expression) (slot : ℕ) (v : ℤ) (a : Activation) → e ≡ code.variable slot → v ≡ slice_index_or a.slots slot (pos 0) → HasValue e a (Ok v)
+unfolding value
+variable_at e slot v a is same = λ w. ap (λ (x : Expression). value w x a) is ∙ ap (λ (z : ℤ). the (Asking Got) (ended (Ok z, a))) (sym same)
+
+pub component_at : (e : Expression) (index : ℕ) (v : ℤ) (a : Activation) → e ≡ code.component index → v ≡ slice_index_or a.components index (pos 0) → HasValue e a (Ok v)
+unfolding value
+component_at e index v a is same = λ w. ap (λ (x : Expression). value w x a) is ∙ ap (λ (z : ℤ). the (Asking Got) (ended (Ok z, a))) (sym same)
+
+pub prefixed_at : (e first : Expression) (op : Prefix) (v : ℤ) (r : Result ℤ Cause) (a : Activation)
+    → e ≡ code.prefixed op first → HasValue first a (Ok v) → r ≡ prefix_of op v → HasValue e a r
+unfolding value
+prefixed_at e first op v r a is operand gives = λ w. ap (λ (x : Expression). value w x a) is
+    ∙ (ap (λ (x : Asking Got). and_then x (on_value fails (λ u b. ended (prefix_of op u, b)))) (operand w) ∙ ap (λ (z : Result ℤ Cause). the (Asking Got) (ended (z, a))) (sym gives))
+
+pub prefixed_fails : (e first : Expression) (op : Prefix) (why : Cause) (a : Activation)
+    → e ≡ code.prefixed op first → HasValue first a (Err why) → HasValue e a (Err why)
+unfolding value
+prefixed_fails e first op why a is operand = λ w. ap (λ (x : Expression). value w x a) is
+    ∙ ap (λ (x : Asking Got). and_then x (on_value fails (λ u b. ended (prefix_of op u, b)))) (operand w)
+
+pub within_at : (e first : Expression) (range : Range) (v : ℤ) (r : Result ℤ Cause) (a : Activation)
+    → e ≡ code.within range first → HasValue first a (Ok v) → r ≡ within range v → HasValue e a r
+unfolding value
+within_at e first range v r a is operand gives = λ w. ap (λ (x : Expression). value w x a) is
+    ∙ (ap (λ (x : Asking Got). and_then x (on_value fails (λ u b. ended (within range u, b)))) (operand w) ∙ ap (λ (z : Result ℤ Cause). the (Asking Got) (ended (z, a))) (sym gives))
+
+pub within_fails : (e first : Expression) (range : Range) (why : Cause) (a : Activation)
+    → e ≡ code.within range first → HasValue first a (Err why) → HasValue e a (Err why)
+unfolding value
+within_fails e first range why a is operand = λ w. ap (λ (x : Expression). value w x a) is
+    ∙ ap (λ (x : Asking Got). and_then x (on_value fails (λ u b. ended (within range u, b)))) (operand w)
+
+pub chain_at : (e first : Expression) (ls : Links) (v u : ℤ) (r : Result ℤ Cause) (a : Activation)
+    → e ≡ code.chain first ls → HasValue first a (Ok v) → u ≡ v → LinkTo ls u a r → HasValue e a r
+unfolding value
+chain_at e first ls v u r a is operand same rest = λ w. ap (λ (x : Expression). value w x a) is
+    ∙ (ap (λ (x : Asking Got). and_then x (on_value fails (linked w ls))) (operand w) ∙ (ap (λ (z : ℤ). linked w ls z a) (sym same) ∙ rest w))
+
+pub chain_fails : (e first : Expression) (ls : Links) (why : Cause) (a : Activation)
+    → e ≡ code.chain first ls → HasValue first a (Err why) → HasValue e a (Err why)
+unfolding value
+chain_fails e first ls why a is operand = λ w. ap (λ (x : Expression). value w x a) is
+    ∙ ap (λ (x : Asking Got). and_then x (on_value fails (linked w ls))) (operand w)
+
+-- links
+pub no_link_at : (ls : Links) (v : ℤ) (a : Activation) (w : World) → ls ≡ code.no_links → linked w ls v a ≡ ended (Ok v, a)
+unfolding linked
+no_link_at ls v a w is = ap (λ (x : Links). linked w x v a) is
+
+linked_by : World → Operator → Expression → Links → ℤ → Activation → Bool → Asking Got
+linked_by w op e more v a b = if b then linked w more v a else and_then (value w e a) (on_value fails (λ u d. on_value fails (linked w more) (result_of op v u, d)))
+
+pub skipped_at : (ls more : Links) (op : Operator) (e : Expression) (v : ℤ) (a : Activation) (w : World)
+    → ls ≡ code.and_link op e more → decides op v ≡ true → linked w ls v a ≡ linked w more v a
+unfolding linked
+skipped_at ls more op e v a w is does = ap (λ (x : Links). linked w x v a) is ∙ ap (λ (b : Bool). linked_by w op e more v a b) does
+
+operand_at : (ls more : Links) (op : Operator) (e : Expression) (v : ℤ) (r : Result ℤ Cause) (a : Activation) (w : World)
+    → ls ≡ code.and_link op e more → decides op v ≡ false → HasValue e a r
+    → linked w ls v a ≡ on_value fails (λ u d. on_value fails (linked w more) (result_of op v u, d)) (r, a)
+unfolding linked
+operand_at ls more op e v r a w is fails_to operand = ap (λ (x : Links). linked w x v a) is
+    ∙ (ap (λ (b : Bool). linked_by w op e more v a b) fails_to
+    ∙ ap (λ (x : Asking Got). and_then x (on_value fails (λ u d. on_value fails (linked w more) (result_of op v u, d)))) (operand w))
+
+pub next_at : (ls more : Links) (op : Operator) (e : Expression) (v u z : ℤ) (a : Activation) (w : World)
+    → ls ≡ code.and_link op e more → decides op v ≡ false → HasValue e a (Ok u) → result_of op v u ≡ Ok z → linked w ls v a ≡ linked w more z a
+next_at ls more op e v u z a w is fails_to operand gives = operand_at ls more op e v (Ok u) a w is fails_to operand
+    ∙ ap (λ (x : Result ℤ Cause). on_value fails (linked w more) (x, a)) gives
+
+pub raised_at : (ls more : Links) (op : Operator) (e : Expression) (v u : ℤ) (why : Cause) (a : Activation) (w : World)
+    → ls ≡ code.and_link op e more → decides op v ≡ false → HasValue e a (Ok u) → result_of op v u ≡ Err why → linked w ls v a ≡ ended (Err why, a)
+raised_at ls more op e v u why a w is fails_to operand gives = operand_at ls more op e v (Ok u) a w is fails_to operand
+    ∙ ap (λ (x : Result ℤ Cause). on_value fails (linked w more) (x, a)) gives
+
+pub failed_at : (ls more : Links) (op : Operator) (e : Expression) (v : ℤ) (why : Cause) (a : Activation) (w : World)
+    → ls ≡ code.and_link op e more → decides op v ≡ false → HasValue e a (Err why) → linked w ls v a ≡ ended (Err why, a)
+failed_at ls more op e v why a w is fails_to operand = operand_at ls more op e v (Err why) a w is fails_to operand
+
+-- statements
+pub null_at : (x : Statement) (a : Activation) → x ≡ stat.null_statement → EndsSo x a ends.Next a
+unfolding meaning
+null_at x a is = λ w. ap (λ (y : Statement). meaning w y a) is
+
+pub assigned_at : (x : Statement) (target : Target) (e : Expression) (v : ℤ) (a : Activation) (how : End) (b : Activation)
+    → x ≡ stat.assign target e → HasValue e a (Ok v) → (how, b) ≡ assigned target v a → EndsSo x a how b
+unfolding meaning
+assigned_at x target e v a how b is operand gives = λ w. ap (λ (y : Statement). meaning w y a) is
+    ∙ (ap (λ (y : Asking Got). and_then y (on_value abandons (λ u d. ended (assigned target u d)))) (operand w) ∙ ap (λ (p : End × Activation). the Run (ended p)) (sym gives))
+
+pub assign_fails : (x : Statement) (target : Target) (e : Expression) (why : Cause) (a : Activation)
+    → x ≡ stat.assign target e → HasValue e a (Err why) → EndsSo x a (ends.Abandoned why) a
+unfolding meaning
+assign_fails x target e why a is operand = λ w. ap (λ (y : Statement). meaning w y a) is
+    ∙ ap (λ (y : Asking Got). and_then y (on_value abandons (λ u d. ended (assigned target u d)))) (operand w)
+
+pub exit_at : (x : Statement) (e : Expression) (v : ℤ) (a : Activation) (how : End)
+    → x ≡ stat.exit_when e → HasValue e a (Ok v) → how ≡ exit_where v → EndsSo x a how a
+unfolding meaning
+exit_at x e v a how is operand gives = λ w. ap (λ (y : Statement). meaning w y a) is
+    ∙ (ap (λ (y : Asking Got). and_then y (on_value abandons (λ u d. ended (exit_where u, d)))) (operand w) ∙ ap (λ (z : End). the Run (ended (z, a))) (sym gives))
+
+pub exit_fails : (x : Statement) (e : Expression) (why : Cause) (a : Activation)
+    → x ≡ stat.exit_when e → HasValue e a (Err why) → EndsSo x a (ends.Abandoned why) a
+unfolding meaning
+exit_fails x e why a is operand = λ w. ap (λ (y : Statement). meaning w y a) is
+    ∙ ap (λ (y : Asking Got). and_then y (on_value abandons (λ u d. ended (exit_where u, d)))) (operand w)
+
+pub return_at : (x : Statement) (a : Activation) → x ≡ stat.returns → EndsSo x a (ends.Return None) a
+unfolding meaning
+return_at x a is = λ w. ap (λ (y : Statement). meaning w y a) is
+
+pub value_returned_at : (x : Statement) (e : Expression) (v u : ℤ) (a : Activation)
+    → x ≡ stat.returns_value e → HasValue e a (Ok v) → u ≡ v → EndsSo x a (ends.Return (Some u)) a
+unfolding meaning
+value_returned_at x e v u a is operand same = λ w. ap (λ (y : Statement). meaning w y a) is
+    ∙ (ap (λ (y : Asking Got). and_then y (on_value abandons (λ z d. ended (ends.Return (Some z), d)))) (operand w) ∙ ap (λ (z : ℤ). the Run (ended (ends.Return (Some z), a))) (sym same))
+
+pub return_fails : (x : Statement) (e : Expression) (why : Cause) (a : Activation)
+    → x ≡ stat.returns_value e → HasValue e a (Err why) → EndsSo x a (ends.Abandoned why) a
+unfolding meaning
+return_fails x e why a is operand = λ w. ap (λ (y : Statement). meaning w y a) is
+    ∙ ap (λ (y : Asking Got). and_then y (on_value abandons (λ z d. ended (ends.Return (Some z), d)))) (operand w)
+
+pub raise_at : (x : Statement) (exception : Exception) (a : Activation) → x ≡ stat.raises exception → EndsSo x a (ends.Abandoned (cause.Raised exception)) a
+unfolding meaning
+raise_at x exception a is = λ w. ap (λ (y : Statement). meaning w y a) is
+
+-- each has a move
+expression_least : (call : ℕ) (e : Expression) → 1 ≤ expression_moves call e
+unfolding expression_moves
+expression_least call (code.literal n) = omega arith
+expression_least call (code.variable slot) = omega arith
+expression_least call (code.component index) = omega arith
+expression_least call (code.prefixed op x) = omega arith
+expression_least call (code.chain x ls) = omega arith
+expression_least call (code.within range x) = omega arith
+expression_least call (code.call callee es) = omega arith
+
+statement_least : (call : ℕ) (x : Statement) → 1 ≤ statement_moves call x
+unfolding statement_moves
+statement_least call stat.null_statement = omega arith
+statement_least call (stat.assign target e) = omega arith
+statement_least call (stat.choice bs otherwise) = omega arith
+statement_least call (stat.selection e more) = omega arith
+statement_least call (stat.while_loop e ss) = omega arith
+statement_least call (stat.for_loop slot is_reverse range low high ss) = omega arith
+statement_least call (stat.exit_when e) = omega arith
+statement_least call stat.returns = omega arith
+statement_least call (stat.returns_value e) = omega arith
+statement_least call (stat.raises exception) = omega arith
+statement_least call stat.reraises = omega arith
+statement_least call (stat.calls callee es targets) = omega arith
+
+-- so the value or the end comes to the frame on top
+pub evaluated : (e : Expression) (v : Result ℤ Cause) (a : Activation) (fs : List Frame) → HasValue e a v → Leads (evaluates e a) fs (comes (valued v a)) fs
+unfolding meant
+evaluated e v a fs has = record {
+  same = λ bodies s. ap (λ (x : Asking Got). and_then x (got (denoted bodies fs s))) (has (world bodies s));
+  less = λ bodies s. let some = expression_least (called_moves bodies (level s)) e in omega (arith, some);
+  low = λ bodies s one. omega arith;
+}
+
+pub over : (x : Statement) (e : End) (a b : Activation) (fs : List Frame) → EndsSo x a e b → Leads (runs x a) fs (comes (done e b)) fs
+unfolding meant
+over x e a b fs has = record {
+  same = λ bodies s. ap (λ (y : Run). and_then y (end (denoted bodies fs s))) (has (world bodies s));
+  less = λ bodies s. let some = statement_least (called_moves bodies (level s)) x in omega (arith, some);
+  low = λ bodies s one. omega arith;
+}
+
+-- a statement that ends at once, among those behind it
+pub next_ends : (ss rest : Statements) (x : Statement) (a b d : Activation) (e : End) (fs : List Frame)
+    → ss ≡ stat.and_statement x rest → stepped a ≡ Some b → EndsSo x b e d → is_next e ≡ true → Leads (runs_all ss a) fs (runs_all rest d) fs
+next_ends ss rest x a b d e fs is took has next =
+    behind _ _ _ _ _ _ (next_statement ss rest x a b fs (sequencing rest ∷ fs) is took refl) (behind _ _ _ _ _ _ (over x e b d (sequencing rest ∷ fs) has) (sequence_goes rest e d fs next))
+
+pub next_stops : (ss rest : Statements) (x : Statement) (a b d : Activation) (e : End) (fs : List Frame)
+    → ss ≡ stat.and_statement x rest → stepped a ≡ Some b → EndsSo x b e d → is_next e ≡ false → Leads (runs_all ss a) fs (comes (done e d)) fs
+next_stops ss rest x a b d e fs is took has other =
+    behind _ _ _ _ _ _ (next_statement ss rest x a b fs (sequencing rest ∷ fs) is took refl) (behind _ _ _ _ _ _ (over x e b d (sequencing rest ∷ fs) has) (sequence_stops rest e d fs other))
+
+pub fewer_statements : (ss rest : Statements) (x : Statement) → ss ≡ stat.and_statement x rest → statements_size rest < statements_size ss
+unfolding statements_size
+fewer_statements ss rest x is = let e : statements_size ss ≡ statements_size (stat.and_statement x rest) = ap (λ (y : Statements). statements_size y) is in omega (arith, e)
+
+pub fewer_links : (ls more : Links) (op : Operator) (x : Expression) → ls ≡ code.and_link op x more → links_size more < links_size ls
+unfolding links_size
+fewer_links ls more op x is = let e : links_size ls ≡ links_size (code.and_link op x more) = ap (λ (y : Links). links_size y) is in omega (arith, e)
