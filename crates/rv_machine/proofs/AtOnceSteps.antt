@@ -1,5 +1,6 @@
 -- What comes to its value, or to its end, at once.
-use Rattle.std.proofs.Common.{◌≡◌, ◌≤◌, ◌<◌, ◌+◌, refl, sym, ap, arith, ◌∙◌, ℕ, ℤ, pos, List, ◌∷◌, Bool, true, false, cond, Some, None, Result, Ok, Err, slice_index_or}
+use Rattle.std.proofs.Common.{◌≡◌, ◌≤◌, ◌<◌, ◌+◌, refl, sym, ap, arith, ◌∙◌, ℕ, ℤ, pos, List, ◌∷◌, Bool, true, false, cond, Some, None, Result, Ok, Err}
+use Rattle.std.specs.Prelude.{slice_index_or}
 use Rattle.rv_shape.specs.declared.kind.Range.{Range}
 use Rattle.rv_event.specs.declared.entry.Exception.{Exception}
 use Rattle.rv_code.specs.declared.expression.Operator.{Operator}
@@ -30,89 +31,119 @@ use Rattle.rv_machine.proofs.Composing.{behind}
 use Rattle.rv_machine.proofs.EndSteps.{sequence_goes, sequence_stops}
 use Rattle.rv_machine.proofs.StatementSteps.{next_statement}
 
+-- what is made of the value of a part
+abbrev gives : Result ℤ Cause → Activation → Asking Got
+gives r a = ended (r, a)
+
+abbrev prefixed_by : Prefix → Asking Got → Asking Got
+prefixed_by op x = and_then x (on_value fails (λ v b. ended (prefix_of op v, b)))
+
+abbrev within_by : Range → Asking Got → Asking Got
+within_by range x = and_then x (on_value fails (λ v b. ended (within range v, b)))
+
+abbrev chained_by : World → Links → Asking Got → Asking Got
+chained_by w ls x = and_then x (on_value fails (linked w ls))
+
+abbrev resulting : World → Links → Result ℤ Cause → Activation → Asking Got
+resulting w more r a = on_value fails (linked w more) (r, a)
+
+abbrev operated_by : World → Operator → Links → ℤ → Asking Got → Asking Got
+operated_by w op more v x = and_then x (on_value fails (λ u b. on_value fails (linked w more) (result_of op v u, b)))
+
+abbrev linked_by : World → Operator → Expression → Links → ℤ → Activation → Bool → Asking Got
+linked_by w op e more v a b = cond b (linked w more v a) (operated_by w op more v (value w e a))
+
+abbrev ending : End × Activation → Run
+ending p = ended p
+
+abbrev assigned_by : Target → Asking Got → Run
+assigned_by target x = and_then x (on_value abandons (λ v b. ended (assigned target v b)))
+
+abbrev exited_by : Asking Got → Run
+exited_by x = and_then x (on_value abandons (λ v b. ended (exit_where v, b)))
+
+abbrev returned_by : Asking Got → Run
+returned_by x = and_then x (on_value abandons (λ v b. ended (ends.Return (Some v), b)))
+
 -- expressions
 pub literal_at : (e : Expression) (n m : ℤ) (a : Activation) → e ≡ code.literal n → m ≡ n → HasValue e a (Ok m)
 unfolding value
-literal_at e n m a is same = λ w. ap (λ (x : Expression). value w x a) is ∙ ap (λ (z : ℤ). the (Asking Got) (ended (Ok z, a))) (sym same)
+literal_at e n m a is same = λ w. ap (λ (x : Expression). value w x a) is ∙ ap (λ (z : ℤ). gives (Ok z) a) (sym same)
 
 pub variable_at : (e : Expression) (slot : ℕ) (v : ℤ) (a : Activation) → e ≡ code.variable slot → v ≡ slice_index_or a.slots slot (pos 0) → HasValue e a (Ok v)
 unfolding value
-variable_at e slot v a is same = λ w. ap (λ (x : Expression). value w x a) is ∙ ap (λ (z : ℤ). the (Asking Got) (ended (Ok z, a))) (sym same)
+variable_at e slot v a is same = λ w. ap (λ (x : Expression). value w x a) is ∙ ap (λ (z : ℤ). gives (Ok z) a) (sym same)
 
 pub component_at : (e : Expression) (index : ℕ) (v : ℤ) (a : Activation) → e ≡ code.component index → v ≡ slice_index_or a.components index (pos 0) → HasValue e a (Ok v)
 unfolding value
-component_at e index v a is same = λ w. ap (λ (x : Expression). value w x a) is ∙ ap (λ (z : ℤ). the (Asking Got) (ended (Ok z, a))) (sym same)
+component_at e index v a is same = λ w. ap (λ (x : Expression). value w x a) is ∙ ap (λ (z : ℤ). gives (Ok z) a) (sym same)
 
 pub prefixed_at : (e first : Expression) (op : Prefix) (v : ℤ) (r : Result ℤ Cause) (a : Activation)
     → e ≡ code.prefixed op first → HasValue first a (Ok v) → r ≡ prefix_of op v → HasValue e a r
 unfolding value
-prefixed_at e first op v r a is operand gives = λ w. ap (λ (x : Expression). value w x a) is
-    ∙ (ap (λ (x : Asking Got). and_then x (on_value fails (λ u b. ended (prefix_of op u, b)))) (operand w) ∙ ap (λ (z : Result ℤ Cause). the (Asking Got) (ended (z, a))) (sym gives))
+prefixed_at e first op v r a is operand result = λ w. ap (λ (x : Expression). value w x a) is
+    ∙ (ap (λ (x : Asking Got). prefixed_by op x) (operand w) ∙ ap (λ (z : Result ℤ Cause). gives z a) (sym result))
 
 pub prefixed_fails : (e first : Expression) (op : Prefix) (why : Cause) (a : Activation)
     → e ≡ code.prefixed op first → HasValue first a (Err why) → HasValue e a (Err why)
 unfolding value
-prefixed_fails e first op why a is operand = λ w. ap (λ (x : Expression). value w x a) is
-    ∙ ap (λ (x : Asking Got). and_then x (on_value fails (λ u b. ended (prefix_of op u, b)))) (operand w)
+prefixed_fails e first op why a is operand = λ w. ap (λ (x : Expression). value w x a) is ∙ ap (λ (x : Asking Got). prefixed_by op x) (operand w)
 
 pub within_at : (e first : Expression) (range : Range) (v : ℤ) (r : Result ℤ Cause) (a : Activation)
     → e ≡ code.within range first → HasValue first a (Ok v) → r ≡ within range v → HasValue e a r
 unfolding value
-within_at e first range v r a is operand gives = λ w. ap (λ (x : Expression). value w x a) is
-    ∙ (ap (λ (x : Asking Got). and_then x (on_value fails (λ u b. ended (within range u, b)))) (operand w) ∙ ap (λ (z : Result ℤ Cause). the (Asking Got) (ended (z, a))) (sym gives))
+within_at e first range v r a is operand result = λ w. ap (λ (x : Expression). value w x a) is
+    ∙ (ap (λ (x : Asking Got). within_by range x) (operand w) ∙ ap (λ (z : Result ℤ Cause). gives z a) (sym result))
 
 pub within_fails : (e first : Expression) (range : Range) (why : Cause) (a : Activation)
     → e ≡ code.within range first → HasValue first a (Err why) → HasValue e a (Err why)
 unfolding value
-within_fails e first range why a is operand = λ w. ap (λ (x : Expression). value w x a) is
-    ∙ ap (λ (x : Asking Got). and_then x (on_value fails (λ u b. ended (within range u, b)))) (operand w)
+within_fails e first range why a is operand = λ w. ap (λ (x : Expression). value w x a) is ∙ ap (λ (x : Asking Got). within_by range x) (operand w)
 
 pub chain_at : (e first : Expression) (ls : Links) (v u : ℤ) (r : Result ℤ Cause) (a : Activation)
     → e ≡ code.chain first ls → HasValue first a (Ok v) → u ≡ v → LinkTo ls u a r → HasValue e a r
 unfolding value
 chain_at e first ls v u r a is operand same rest = λ w. ap (λ (x : Expression). value w x a) is
-    ∙ (ap (λ (x : Asking Got). and_then x (on_value fails (linked w ls))) (operand w) ∙ (ap (λ (z : ℤ). linked w ls z a) (sym same) ∙ rest w))
+    ∙ (ap (λ (x : Asking Got). chained_by w ls x) (operand w) ∙ (ap (λ (z : ℤ). linked w ls z a) (sym same) ∙ rest w))
 
 pub chain_fails : (e first : Expression) (ls : Links) (why : Cause) (a : Activation)
     → e ≡ code.chain first ls → HasValue first a (Err why) → HasValue e a (Err why)
 unfolding value
-chain_fails e first ls why a is operand = λ w. ap (λ (x : Expression). value w x a) is
-    ∙ ap (λ (x : Asking Got). and_then x (on_value fails (linked w ls))) (operand w)
+chain_fails e first ls why a is operand = λ w. ap (λ (x : Expression). value w x a) is ∙ ap (λ (x : Asking Got). chained_by w ls x) (operand w)
 
--- links
-pub no_link_at : (ls : Links) (v : ℤ) (a : Activation) (w : World) → ls ≡ code.no_links → linked w ls v a ≡ ended (Ok v, a)
+-- links, which lead to the value that those before them lead to
+pub no_link_at : (l0 ls : Links) (v0 v : ℤ) (u : ℤ) (a : Activation)
+    → ((w : World) → linked w ls v a ≡ linked w l0 v0 a) → ls ≡ code.no_links → u ≡ v → LinkTo l0 v0 a (Ok u)
 unfolding linked
-no_link_at ls v a w is = ap (λ (x : Links). linked w x v a) is
+no_link_at l0 ls v0 v u a before is same = λ w. sym (before w) ∙ (ap (λ (x : Links). linked w x v a) is ∙ ap (λ (z : ℤ). gives (Ok z) a) (sym same))
 
-linked_by : World → Operator → Expression → Links → ℤ → Activation → Bool → Asking Got
-linked_by w op e more v a b = if b then linked w more v a else and_then (value w e a) (on_value fails (λ u d. on_value fails (linked w more) (result_of op v u, d)))
-
-pub skipped_at : (ls more : Links) (op : Operator) (e : Expression) (v : ℤ) (a : Activation) (w : World)
-    → ls ≡ code.and_link op e more → decides op v ≡ true → linked w ls v a ≡ linked w more v a
+pub skipped_at : (l0 ls more : Links) (op : Operator) (e : Expression) (v0 v : ℤ) (a : Activation)
+    → ((w : World) → linked w ls v a ≡ linked w l0 v0 a) → ls ≡ code.and_link op e more → decides op v ≡ true
+    → (w : World) → linked w more v a ≡ linked w l0 v0 a
 unfolding linked
-skipped_at ls more op e v a w is does = ap (λ (x : Links). linked w x v a) is ∙ ap (λ (b : Bool). linked_by w op e more v a b) does
+skipped_at l0 ls more op e v0 v a before is does w = sym (ap (λ (x : Links). linked w x v a) is ∙ ap (λ (b : Bool). linked_by w op e more v a b) does) ∙ before w
 
 operand_at : (ls more : Links) (op : Operator) (e : Expression) (v : ℤ) (r : Result ℤ Cause) (a : Activation) (w : World)
-    → ls ≡ code.and_link op e more → decides op v ≡ false → HasValue e a r
-    → linked w ls v a ≡ on_value fails (λ u d. on_value fails (linked w more) (result_of op v u, d)) (r, a)
+    → ls ≡ code.and_link op e more → decides op v ≡ false → HasValue e a r → linked w ls v a ≡ operated_by w op more v (ended (r, a))
 unfolding linked
-operand_at ls more op e v r a w is fails_to operand = ap (λ (x : Links). linked w x v a) is
-    ∙ (ap (λ (b : Bool). linked_by w op e more v a b) fails_to
-    ∙ ap (λ (x : Asking Got). and_then x (on_value fails (λ u d. on_value fails (linked w more) (result_of op v u, d)))) (operand w))
+operand_at ls more op e v r a w is not operand = ap (λ (x : Links). linked w x v a) is
+    ∙ (ap (λ (b : Bool). linked_by w op e more v a b) not ∙ ap (λ (x : Asking Got). operated_by w op more v x) (operand w))
 
-pub next_at : (ls more : Links) (op : Operator) (e : Expression) (v u z : ℤ) (a : Activation) (w : World)
-    → ls ≡ code.and_link op e more → decides op v ≡ false → HasValue e a (Ok u) → result_of op v u ≡ Ok z → linked w ls v a ≡ linked w more z a
-next_at ls more op e v u z a w is fails_to operand gives = operand_at ls more op e v (Ok u) a w is fails_to operand
-    ∙ ap (λ (x : Result ℤ Cause). on_value fails (linked w more) (x, a)) gives
+pub next_at : (l0 ls more : Links) (op : Operator) (e : Expression) (v0 v u z : ℤ) (a : Activation)
+    → ((w : World) → linked w ls v a ≡ linked w l0 v0 a) → ls ≡ code.and_link op e more → decides op v ≡ false → HasValue e a (Ok u) → result_of op v u ≡ Ok z
+    → (w : World) → linked w more z a ≡ linked w l0 v0 a
+next_at l0 ls more op e v0 v u z a before is not operand result w =
+    sym (operand_at ls more op e v (Ok u) a w is not operand ∙ ap (λ (x : Result ℤ Cause). resulting w more x a) result) ∙ before w
 
-pub raised_at : (ls more : Links) (op : Operator) (e : Expression) (v u : ℤ) (why : Cause) (a : Activation) (w : World)
-    → ls ≡ code.and_link op e more → decides op v ≡ false → HasValue e a (Ok u) → result_of op v u ≡ Err why → linked w ls v a ≡ ended (Err why, a)
-raised_at ls more op e v u why a w is fails_to operand gives = operand_at ls more op e v (Ok u) a w is fails_to operand
-    ∙ ap (λ (x : Result ℤ Cause). on_value fails (linked w more) (x, a)) gives
+pub raised_at : (l0 ls more : Links) (op : Operator) (e : Expression) (v0 v u : ℤ) (why : Cause) (a : Activation)
+    → ((w : World) → linked w ls v a ≡ linked w l0 v0 a) → ls ≡ code.and_link op e more → decides op v ≡ false → HasValue e a (Ok u) → result_of op v u ≡ Err why
+    → LinkTo l0 v0 a (Err why)
+raised_at l0 ls more op e v0 v u why a before is not operand result = λ w.
+    sym (before w) ∙ (operand_at ls more op e v (Ok u) a w is not operand ∙ ap (λ (x : Result ℤ Cause). resulting w more x a) result)
 
-pub failed_at : (ls more : Links) (op : Operator) (e : Expression) (v : ℤ) (why : Cause) (a : Activation) (w : World)
-    → ls ≡ code.and_link op e more → decides op v ≡ false → HasValue e a (Err why) → linked w ls v a ≡ ended (Err why, a)
-failed_at ls more op e v why a w is fails_to operand = operand_at ls more op e v (Err why) a w is fails_to operand
+pub failed_at : (l0 ls more : Links) (op : Operator) (e : Expression) (v0 v : ℤ) (why : Cause) (a : Activation)
+    → ((w : World) → linked w ls v a ≡ linked w l0 v0 a) → ls ≡ code.and_link op e more → decides op v ≡ false → HasValue e a (Err why) → LinkTo l0 v0 a (Err why)
+failed_at l0 ls more op e v0 v why a before is not operand = λ w. sym (before w) ∙ operand_at ls more op e v (Err why) a w is not operand
 
 -- statements
 pub null_at : (x : Statement) (a : Activation) → x ≡ stat.null_statement → EndsSo x a ends.Next a
@@ -122,26 +153,24 @@ null_at x a is = λ w. ap (λ (y : Statement). meaning w y a) is
 pub assigned_at : (x : Statement) (target : Target) (e : Expression) (v : ℤ) (a : Activation) (how : End) (b : Activation)
     → x ≡ stat.assign target e → HasValue e a (Ok v) → (how, b) ≡ assigned target v a → EndsSo x a how b
 unfolding meaning
-assigned_at x target e v a how b is operand gives = λ w. ap (λ (y : Statement). meaning w y a) is
-    ∙ (ap (λ (y : Asking Got). and_then y (on_value abandons (λ u d. ended (assigned target u d)))) (operand w) ∙ ap (λ (p : End × Activation). the Run (ended p)) (sym gives))
+assigned_at x target e v a how b is operand result = λ w. ap (λ (y : Statement). meaning w y a) is
+    ∙ (ap (λ (y : Asking Got). assigned_by target y) (operand w) ∙ ap (λ (p : End × Activation). ending p) (sym result))
 
 pub assign_fails : (x : Statement) (target : Target) (e : Expression) (why : Cause) (a : Activation)
     → x ≡ stat.assign target e → HasValue e a (Err why) → EndsSo x a (ends.Abandoned why) a
 unfolding meaning
-assign_fails x target e why a is operand = λ w. ap (λ (y : Statement). meaning w y a) is
-    ∙ ap (λ (y : Asking Got). and_then y (on_value abandons (λ u d. ended (assigned target u d)))) (operand w)
+assign_fails x target e why a is operand = λ w. ap (λ (y : Statement). meaning w y a) is ∙ ap (λ (y : Asking Got). assigned_by target y) (operand w)
 
 pub exit_at : (x : Statement) (e : Expression) (v : ℤ) (a : Activation) (how : End)
     → x ≡ stat.exit_when e → HasValue e a (Ok v) → how ≡ exit_where v → EndsSo x a how a
 unfolding meaning
-exit_at x e v a how is operand gives = λ w. ap (λ (y : Statement). meaning w y a) is
-    ∙ (ap (λ (y : Asking Got). and_then y (on_value abandons (λ u d. ended (exit_where u, d)))) (operand w) ∙ ap (λ (z : End). the Run (ended (z, a))) (sym gives))
+exit_at x e v a how is operand result = λ w. ap (λ (y : Statement). meaning w y a) is
+    ∙ (ap (λ (y : Asking Got). exited_by y) (operand w) ∙ ap (λ (z : End). ending (z, a)) (sym result))
 
 pub exit_fails : (x : Statement) (e : Expression) (why : Cause) (a : Activation)
     → x ≡ stat.exit_when e → HasValue e a (Err why) → EndsSo x a (ends.Abandoned why) a
 unfolding meaning
-exit_fails x e why a is operand = λ w. ap (λ (y : Statement). meaning w y a) is
-    ∙ ap (λ (y : Asking Got). and_then y (on_value abandons (λ u d. ended (exit_where u, d)))) (operand w)
+exit_fails x e why a is operand = λ w. ap (λ (y : Statement). meaning w y a) is ∙ ap (λ (y : Asking Got). exited_by y) (operand w)
 
 pub return_at : (x : Statement) (a : Activation) → x ≡ stat.returns → EndsSo x a (ends.Return None) a
 unfolding meaning
@@ -151,13 +180,12 @@ pub value_returned_at : (x : Statement) (e : Expression) (v u : ℤ) (a : Activa
     → x ≡ stat.returns_value e → HasValue e a (Ok v) → u ≡ v → EndsSo x a (ends.Return (Some u)) a
 unfolding meaning
 value_returned_at x e v u a is operand same = λ w. ap (λ (y : Statement). meaning w y a) is
-    ∙ (ap (λ (y : Asking Got). and_then y (on_value abandons (λ z d. ended (ends.Return (Some z), d)))) (operand w) ∙ ap (λ (z : ℤ). the Run (ended (ends.Return (Some z), a))) (sym same))
+    ∙ (ap (λ (y : Asking Got). returned_by y) (operand w) ∙ ap (λ (z : ℤ). ending (ends.Return (Some z), a)) (sym same))
 
 pub return_fails : (x : Statement) (e : Expression) (why : Cause) (a : Activation)
     → x ≡ stat.returns_value e → HasValue e a (Err why) → EndsSo x a (ends.Abandoned why) a
 unfolding meaning
-return_fails x e why a is operand = λ w. ap (λ (y : Statement). meaning w y a) is
-    ∙ ap (λ (y : Asking Got). and_then y (on_value abandons (λ z d. ended (ends.Return (Some z), d)))) (operand w)
+return_fails x e why a is operand = λ w. ap (λ (y : Statement). meaning w y a) is ∙ ap (λ (y : Asking Got). returned_by y) (operand w)
 
 pub raise_at : (x : Statement) (exception : Exception) (a : Activation) → x ≡ stat.raises exception → EndsSo x a (ends.Abandoned (cause.Raised exception)) a
 unfolding meaning

@@ -28,6 +28,7 @@ use Rattle.rv_machine.specs.declared.machine.Machine.{Machine}
 use Rattle.rv_machine.specs.declared.next.Final.{Final}
 use Rattle.rv_machine.specs.declared.point.Point.{Point}
 use Rattle.rv_machine.specs.declared.point.Point.TheVariants as point
+use Rattle.rv_machine.specs.declared.point.Step.TheVariants as step
 use Rattle.rv_machine.specs.Machines.{stands, left, MovesTo, question, is_coming, answered, final_at, final_of, AsksNow, EndsNow, IsAnswered}
 use Rattle.rv_machine.specs.Moves.{moves_left}
 use Rattle.rv_machine.specs.Points.{control, MovesOn, Apart}
@@ -98,9 +99,9 @@ ends_so u now fs s none = (now, ap (λ (gs : List Frame). meant (flat_view u) (c
 
 pub ends_at : (u : FlatUnit) (p : Point) (a : Activation) (fs : List Frame) (s : Setting)
     → is_coming p ≡ true → fs ≡ [] → EndsNow (meant (flat_view u) (control (trees u.code) p a) fs s) (final_at p)
-ends_at u (point.Valued v) a fs s is none = ends_so u (f.valued v a) fs s none
-ends_at u (point.Listed outcome) a fs s is none = ends_so u (f.listed outcome a) fs s none
-ends_at u (point.Done e) a fs s is none = ends_so u (f.done e a) fs s none
+ends_at u (point.At (step.Valued v)) a fs s is none = ends_so u (f.valued v a) fs s none
+ends_at u (point.At (step.Listed outcome)) a fs s is none = ends_so u (f.listed outcome a) fs s none
+ends_at u (point.At (step.Done e)) a fs s is none = ends_so u (f.done e a) fs s none
 ends_at u (point.Closes outcome components steps) a fs s is none = ends_so u (f.closes outcome components steps) fs s none
 ends_at u (point.Reaches what) a fs s is none = ends_so u (f.reaches what) fs s none
 ends_at u (point.Outside outcome) a fs s is none = ends_so u (f.outside outcome) fs s none

@@ -22,6 +22,8 @@ use Rattle.rv_machine.specs.declared.next.Next.{Next}
 use Rattle.rv_machine.specs.declared.next.Next.TheVariants as next
 use Rattle.rv_machine.specs.declared.point.Point.{Point}
 use Rattle.rv_machine.specs.declared.point.Point.TheVariants as point
+use Rattle.rv_machine.specs.declared.point.Step.{Step}
+use Rattle.rv_machine.specs.declared.point.Step.TheVariants as step
 use Rattle.rv_machine.specs.Heights.{any_height, highest}
 use Rattle.rv_machine.specs.Moves.{moves_left}
 use Rattle.rv_machine.specs.Points.{control, MovesOn}
@@ -82,10 +84,14 @@ question (point.Fires object operation) = Some request.Fire
 question other = None
 
 -- whether something comes to the frame on top
+abbrev pub comes_in : Step → Bool
+comes_in (step.Valued v) = true
+comes_in (step.Listed outcome) = true
+comes_in (step.Done e) = true
+comes_in other = false
+
 abbrev pub is_coming : Point → Bool
-is_coming (point.Valued v) = true
-is_coming (point.Listed outcome) = true
-is_coming (point.Done e) = true
+is_coming (point.At x) = comes_in x
 is_coming (point.Closes outcome components steps) = true
 is_coming (point.Reaches what) = true
 is_coming (point.Outside outcome) = true

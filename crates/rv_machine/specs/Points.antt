@@ -12,29 +12,34 @@ use Rattle.rv_machine.specs.Heights.{highest, waiting_height}
 use Rattle.rv_machine.specs.Moves.{moves_left, waiting_moves}
 use Rattle.rv_machine.specs.declared.point.Point.{Point}
 use Rattle.rv_machine.specs.declared.point.Point.TheVariants as point
+use Rattle.rv_machine.specs.declared.point.Step.{Step}
+use Rattle.rv_machine.specs.declared.point.Step.TheVariants as step
 
--- what the run is at, where the parts stand in a table, with this activation
-abbrev pub control : List Tree → Point → Activation → Control
-control ts (point.Evaluates e) a = f.evaluates (as_expression (tree_at ts e)) a
-control ts (point.Links ls v) a = f.links (as_links (tree_at ts ls)) v a
-control ts (point.Argues es values) a = f.argues (as_expressions (tree_at ts es)) values a
-control ts (point.Calls callee values) a = f.calls callee values a
-control ts (point.Runs x) a = f.runs (as_statement (tree_at ts x)) a
-control ts (point.RunsAll ss) a = f.runs_all (as_statements (tree_at ts ss)) a
-control ts (point.Tries bs ss) a = f.tries (as_branches (tree_at ts bs)) (as_statements (tree_at ts ss)) a
-control ts (point.Selects more v) a = f.selects_of (as_alternatives (tree_at ts more)) v a
-control ts (point.Turns n e ss) a = f.turns_of n (as_expression (tree_at ts e)) (as_statements (tree_at ts ss)) a
-control ts (point.Counts count ss) a =
+-- what the run is at within a body, where the parts stand in a table, with this activation
+abbrev pub control_in : List Tree → Step → Activation → Control
+control_in ts (step.Links ls v) a = f.links (as_links (tree_at ts ls)) v a
+control_in ts (step.Argues es values) a = f.argues (as_expressions (tree_at ts es)) values a
+control_in ts (step.Calls callee values) a = f.calls callee values a
+control_in ts (step.Runs x) a = f.runs (as_statement (tree_at ts x)) a
+control_in ts (step.RunsAll ss) a = f.runs_all (as_statements (tree_at ts ss)) a
+control_in ts (step.Tries bs ss) a = f.tries (as_branches (tree_at ts bs)) (as_statements (tree_at ts ss)) a
+control_in ts (step.Selects more v) a = f.selects_of (as_alternatives (tree_at ts more)) v a
+control_in ts (step.Turns n e ss) a = f.turns_of n (as_expression (tree_at ts e)) (as_statements (tree_at ts ss)) a
+control_in ts (step.Counts count ss) a =
     f.counts count.left count.values.is_reverse count.values.low count.values.high count.values.slot (as_statements (tree_at ts ss)) a
-control ts (point.Declares ds) a = f.declares (as_declarations (tree_at ts ds)) a
+control_in ts (step.Declares ds) a = f.declares (as_declarations (tree_at ts ds)) a
+control_in ts (step.Valued v) a = f.comes (f.valued v a)
+control_in ts (step.Listed outcome) a = f.comes (f.listed outcome a)
+control_in ts (step.Done e) a = f.comes (f.done e a)
+
+-- what it is at
+abbrev pub control : List Tree → Point → Activation → Control
+control ts (point.At x) a = control_in ts x a
 control ts (point.Asks callee values) a = f.asks_of callee values
 control ts (point.Waits callee) a = f.waits callee
 control ts (point.Ends request outcome) a = f.ends_of request outcome
 control ts (point.Quits outcome) a = f.quits_of outcome
 control ts (point.Fires object operation) a = f.fires object operation
-control ts (point.Valued v) a = f.comes (f.valued v a)
-control ts (point.Listed outcome) a = f.comes (f.listed outcome a)
-control ts (point.Done e) a = f.comes (f.done e a)
 control ts (point.Closes outcome components steps) a = f.comes (f.closes outcome components steps)
 control ts (point.Reaches what) a = f.comes (f.reaches what)
 control ts (point.Outside outcome) a = f.comes (f.outside outcome)

@@ -1,11 +1,11 @@
 //! A machine runs up to the next request, or to the end.
 
 ghost use Rattle.std.specs.Prelude.{◌≡◌, ◌≤◌, ◌<◌, [], IsTrue, IsFalse, Some, None, true};
-ghost use Rattle.rv_machine.specs.Machines.{stands, left, question, is_coming, final_at, Fits, OnAsks, OnEnded, AsksNow, EndsNow};
+ghost use Rattle.rv_machine.specs.Machines.{stands, left, question, comes_in, is_coming, final_at, Fits, OnAsks, OnEnded, AsksNow, EndsNow};
 ghost use Rattle.rv_machine.specs.Stacks.{waiting, set_aside};
 
 use crate::machine::Machine;
-use crate::point::Point;
+use crate::point::{Point, Step};
 use rv_event::entry::{Exit, Request};
 use rv_exec::asks::{is_stuck, request_of};
 use rv_exec::end::Cause;
@@ -32,6 +32,16 @@ pub enum Next {
     Asks(Request),
     /// It has ended.
     Ended(Final),
+}
+
+// Whether something comes to the frame on top, within a body.
+fn comes_in(step: Step) -> bool
+    ensures { result ≡ comes_in step }
+{
+    match step {
+        Step::Valued(_) | Step::Listed(_) | Step::Done(_) => true,
+        _ => false,
+    }
 }
 
 impl Machine {
@@ -61,19 +71,6 @@ impl Machine {
         }
     }
 
-    // Whether nothing is asked where the machine stands.
-    fn is_unasked(&self) -> bool
-        ensures yes { IsTrue result → question self.now.point ≡ None }
-        ensures no { IsFalse result → question self.now.point ≡ None → ⊥ }
-    {
-        match self.point {
-            Point::Asks(_, _) | Point::Waits(_) | Point::Fires(_, _) => false,
-            Point::Ends(_, outcome) => is_stuck(&outcome),
-            Point::Quits(outcome) => is_stuck(&outcome),
-            _ => true,
-        }
-    }
-
     // Whether it asks, or its run is over.
     fn rests(&self) -> bool
         ensures moves { IsFalse result → question self.now.point ≡ None }
@@ -82,7 +79,13 @@ impl Machine {
         ensures empty { IsTrue result → question self.now.point ≡ None → waiting self.now.stack ≡ [] }
         ensures alone { IsTrue result → question self.now.point ≡ None → set_aside self.now.stack ≡ [] }
     {
-        !self.is_unasked() || self.is_over()
+        match self.point {
+            Point::At(step) => comes_in(step) && self.stack.is_empty(),
+            _ => match self.question() {
+                Some(_) => true,
+                None => self.is_over(),
+            },
+        }
     }
 
     // Whether something comes to the frame on top.
@@ -90,10 +93,8 @@ impl Machine {
         ensures { result ≡ is_coming self.now.point }
     {
         match self.point {
-            Point::Valued(_)
-            | Point::Listed(_)
-            | Point::Done(_)
-            | Point::Closes(_, _, _)
+            Point::At(step) => comes_in(step),
+            Point::Closes(_, _, _)
             | Point::Reaches(_)
             | Point::Outside(_)
             | Point::Exited(_, _)
@@ -135,12 +136,14 @@ impl Machine {
         ensures left { left unit.now self.new ≤ left unit.now self.old }
         ensures fits { Fits unit.now self.new }
     {
-        'moves: while !self.rests() {
+        'moves: loop {
+            if self.rests() {
+                return match self.question() {
+                    Some(request) => Next::Asks(request),
+                    None => Next::Ended(self.end()),
+                };
+            }
             self.advance(unit);
-        }
-        match self.question() {
-            Some(request) => Next::Asks(request),
-            None => Next::Ended(self.end()),
         }
     }
 }

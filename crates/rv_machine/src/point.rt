@@ -1,4 +1,5 @@
-//! Where a run is: what it turns to next, or what comes to the frame on top.
+//! Where a run is: what it turns to next, or what comes to the frame on top. What runs within a body has few bytes, for it is written
+//! at each move.
 
 use crate::frame::Count;
 use rv_code::Callee;
@@ -6,9 +7,9 @@ use rv_event::entry::{Exit, Request};
 use rv_exec::end::{Asked, Cause, End};
 use rv_value::{Args, Scalars};
 
-/// Where a run is. Expressions, statements and lists of them stand by their numbers in the unit's table.
+/// Where a run is within a body. Expressions, statements and lists of them stand by their numbers in the unit's table.
 #[derive(Clone, Copy)]
-pub enum Point {
+pub enum Step {
     /// An expression (4.4).
     Evaluates(usize),
     /// The links behind this value (4.5).
@@ -31,6 +32,19 @@ pub enum Point {
     Counts(Count, usize),
     /// Declarations (3.11).
     Declares(usize),
+    /// The value of an expression comes.
+    Valued(Result<i64, Cause>),
+    /// The values of arguments come, or those that a call gives.
+    Listed(Result<Args, Cause>),
+    /// The end of a statement comes.
+    Done(End),
+}
+
+/// Where a run is.
+#[derive(Clone, Copy)]
+pub enum Point {
+    /// Within a body.
+    At(Step),
     /// The first request of a call of another object, and the resume of one that waits (9.5).
     Asks(Callee, Args),
     Waits(Callee),
@@ -40,12 +54,6 @@ pub enum Point {
     Quits(Result<Args, Cause>),
     /// A line that fires, whose handler is this operation of this object (C.3).
     Fires(usize, usize),
-    /// The value of an expression comes.
-    Valued(Result<i64, Cause>),
-    /// The values of arguments come, or those that a call gives.
-    Listed(Result<Args, Cause>),
-    /// The end of a statement comes.
-    Done(End),
     /// What a body comes to, the components and the steps left.
     Closes(Result<Args, Cause>, Scalars, u32),
     /// What a request comes to.

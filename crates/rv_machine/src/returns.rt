@@ -7,7 +7,7 @@ ghost use Rattle.rv_machine.specs.Stacks.{below, frames_with, waiting, set_aside
 
 use crate::frame::Frame;
 use crate::machine::Machine;
-use crate::point::Point;
+use crate::point::{Point, Step};
 use rv_event::entry::Exception;
 use rv_exec::activation::{Activation, MOST_STEPS};
 use rv_exec::asks::{end_of, exit_of};
@@ -60,7 +60,7 @@ impl Machine {
                 let caller = self.stack.take_up();
                 self.activation = resumed(&caller, components, steps);
                 self.setting = setting;
-                self.point = Point::Listed(outcome);
+                self.point = Point::At(Step::Listed(outcome));
             }
             Frame::Completing(is_function, setting) => {
                 self.setting = setting;
@@ -174,7 +174,7 @@ impl Machine {
             Frame::Answering => {
                 self.activation = self.stack.take_up();
                 self.activation.refill(self.setting.is_task);
-                self.point = Point::Listed(outcome);
+                self.point = Point::At(Step::Listed(outcome));
             }
             _ => {
                 self.pass(unit, frame);

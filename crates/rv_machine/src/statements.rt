@@ -6,7 +6,7 @@ ghost use Rattle.rv_exec.specs.Choices.{covered};
 ghost use Rattle.rv_flat.specs.Tables.{trees};
 ghost use Rattle.rv_flat.specs.Trees.{tree_at, as_expression, as_statement, as_statements, as_branches, as_alternatives, as_choices, as_declarations};
 ghost use Rattle.rv_frames.specs.Frames.{evaluates, runs, runs_all, tries, selects_of, turns_of, counts, declares};
-ghost use Rattle.rv_machine.specs.Points.{control, Keeps, Leads, LeadsIn};
+ghost use Rattle.rv_machine.specs.Points.{control_in, Keeps, Leads, LeadsIn};
 ghost use Rattle.rv_machine.specs.Stacks.{below, value_frame, HasRoom, room};
 
 use crate::at_once::{MOST_DEPTH, end_at_once, value_at_once};
@@ -15,7 +15,7 @@ use crate::frame::{Count, EndFrame, ValueFrame, ValuesFrame};
 use crate::nodes::{
     StatementNode, alternatives_at, branches_at, declarations_at, statement_at, statements_at,
 };
-use crate::point::Point;
+use crate::point::Step;
 use crate::stack::Stack;
 use crate::values::part_comes;
 use rv_event::entry::Exception;
@@ -41,16 +41,16 @@ fn await_value(
     activation: &mut Activation,
     frame: ValueFrame,
     number: usize,
-) -> Point
+) -> Step
     requires { HasRoom 1 stack.old }
-    ensures keeps { Keeps (evaluates (as_expression (tree_at (trees unit.now.code) number)) activation.old) (value_frame (trees unit.now.code) frame ∷ below unit.now stack.old) (control (trees unit.now.code) result activation.new) (below unit.now stack.new) }
+    ensures keeps { Keeps (evaluates (as_expression (tree_at (trees unit.now.code) number)) activation.old) (value_frame (trees unit.now.code) frame ∷ below unit.now stack.old) (control_in (trees unit.now.code) result activation.new) (below unit.now stack.new) }
     ensures kept { room stack.new ≡ room stack.old }
 {
     match value_at_once(&unit.code, activation, number, MOST_DEPTH) {
         Some(value) => part_comes(unit, stack, activation, frame, value),
         None => {
             stack.push_value(frame);
-            Point::Evaluates(number)
+            Step::Evaluates(number)
         }
     }
 }
@@ -62,16 +62,16 @@ pub fn run(
     activation: &mut Activation,
     setting: &Setting,
     number: usize,
-) -> Point
+) -> Step
     requires { HasRoom 2 stack.old }
-    ensures leads { LeadsIn setting.now (runs (as_statement (tree_at (trees unit.now.code) number)) activation.old) (below unit.now stack.old) (control (trees unit.now.code) result activation.new) (below unit.now stack.new) }
+    ensures leads { LeadsIn setting.now (runs (as_statement (tree_at (trees unit.now.code) number)) activation.old) (below unit.now stack.old) (control_in (trees unit.now.code) result activation.new) (below unit.now stack.new) }
     ensures kept { room stack.new ≡ room stack.old }
 {
     match statement_at(&unit.code, number) {
-        StatementNode::Null => Point::Done(End::Next),
+        StatementNode::Null => Step::Done(End::Next),
         StatementNode::Assign(target, value) => {
             stack.push_value(ValueFrame::Assigning(target));
-            Point::Evaluates(value)
+            Step::Evaluates(value)
         }
         StatementNode::If(branches, otherwise) => {
             try_branches(unit, stack, activation, branches, otherwise)
@@ -90,19 +90,19 @@ pub fn run(
         }
         StatementNode::ExitWhen(condition) => {
             stack.push_value(ValueFrame::Leaving);
-            Point::Evaluates(condition)
+            Step::Evaluates(condition)
         }
-        StatementNode::Return => Point::Done(End::Return(None)),
+        StatementNode::Return => Step::Done(End::Return(None)),
         StatementNode::ReturnValue(value) => {
             stack.push_value(ValueFrame::Returning);
-            Point::Evaluates(value)
+            Step::Evaluates(value)
         }
-        StatementNode::Raise(exception) => { Point::Done(End::Abandoned(Cause::Raised(exception))) }
-        StatementNode::Reraise => Point::Done(End::Abandoned(raised_again(setting.handling))),
+        StatementNode::Raise(exception) => { Step::Done(End::Abandoned(Cause::Raised(exception))) }
+        StatementNode::Reraise => Step::Done(End::Abandoned(raised_again(setting.handling))),
         StatementNode::Call(callee, given, targets) => {
             stack.push_values(ValuesFrame::Copying(targets));
             stack.push_values(ValuesFrame::Passing(callee));
-            Point::Argues(given, Args::new())
+            Step::Argues(given, Args::new())
         }
     }
 }
@@ -114,21 +114,21 @@ pub fn run_all(
     activation: &mut Activation,
     setting: &Setting,
     statements: usize,
-) -> Point
+) -> Step
     requires { HasRoom 3 stack.old }
-    ensures leads { LeadsIn setting.now (runs_all (as_statements (tree_at (trees unit.now.code) statements)) activation.old) (below unit.now stack.old) (control (trees unit.now.code) result activation.new) (below unit.now stack.new) }
+    ensures leads { LeadsIn setting.now (runs_all (as_statements (tree_at (trees unit.now.code) statements)) activation.old) (below unit.now stack.old) (control_in (trees unit.now.code) result activation.new) (below unit.now stack.new) }
     ensures kept { room stack.new ≡ room stack.old }
 {
     let mut rest = statements;
     'statements: while let Some(statement) = statements_at(&unit.code, rest) {
         if !activation.step() {
-            return Point::Done(End::Abandoned(Cause::Overrun));
+            return Step::Done(End::Abandoned(Cause::Overrun));
         }
         rest = statement.rest;
         match end_at_once(&unit.code, activation, statement.first) {
             Some(end) => {
                 if !is_next(end) {
-                    return Point::Done(end);
+                    return Step::Done(end);
                 }
             }
             None => {
@@ -137,7 +137,7 @@ pub fn run_all(
             }
         }
     }
-    Point::Done(End::Next)
+    Step::Done(End::Next)
 }
 
 /// The next branch, behind its condition, or the statements behind `else` (5.3).
@@ -147,13 +147,13 @@ pub fn try_branches(
     activation: &mut Activation,
     branches: usize,
     otherwise: usize,
-) -> Point
+) -> Step
     requires { HasRoom 1 stack.old }
-    ensures leads { Leads (tries (as_branches (tree_at (trees unit.now.code) branches)) (as_statements (tree_at (trees unit.now.code) otherwise)) activation.old) (below unit.now stack.old) (control (trees unit.now.code) result activation.new) (below unit.now stack.new) }
+    ensures leads { Leads (tries (as_branches (tree_at (trees unit.now.code) branches)) (as_statements (tree_at (trees unit.now.code) otherwise)) activation.old) (below unit.now stack.old) (control_in (trees unit.now.code) result activation.new) (below unit.now stack.new) }
     ensures kept { room stack.new ≡ room stack.old }
 {
     match branches_at(&unit.code, branches) {
-        None => Point::RunsAll(otherwise),
+        None => Step::RunsAll(otherwise),
         Some(branch) => {
             let frame = ValueFrame::Branching(branch.statements, branch.rest, otherwise);
             await_value(unit, stack, activation, frame, branch.condition)
@@ -169,13 +169,13 @@ pub fn turn(
     turns: u64,
     condition: usize,
     statements: usize,
-) -> Point
+) -> Step
     requires { HasRoom 1 stack.old }
-    ensures leads { Leads (turns_of turns (as_expression (tree_at (trees unit.now.code) condition)) (as_statements (tree_at (trees unit.now.code) statements)) activation.old) (below unit.now stack.old) (control (trees unit.now.code) result activation.new) (below unit.now stack.new) }
+    ensures leads { Leads (turns_of turns (as_expression (tree_at (trees unit.now.code) condition)) (as_statements (tree_at (trees unit.now.code) statements)) activation.old) (below unit.now stack.old) (control_in (trees unit.now.code) result activation.new) (below unit.now stack.new) }
     ensures kept { room stack.new ≡ room stack.old }
 {
     if turns == 0 {
-        return Point::Done(End::Abandoned(Cause::Overrun));
+        return Step::Done(End::Abandoned(Cause::Overrun));
     }
     let frame = ValueFrame::Testing(turns - 1, condition, statements);
     await_value(unit, stack, activation, frame, condition)
@@ -188,16 +188,16 @@ pub fn count(
     activation: &mut Activation,
     count: Count,
     statements: usize,
-) -> Point
+) -> Step
     requires { HasRoom 1 stack.old }
-    ensures leads { Leads (counts count.left count.values.is_reverse count.values.low count.values.high count.values.slot (as_statements (tree_at (trees unit.now.code) statements)) activation.old) (below unit.now stack.old) (control (trees unit.now.code) result activation.new) (below unit.now stack.new) }
+    ensures leads { Leads (counts count.left count.values.is_reverse count.values.low count.values.high count.values.slot (as_statements (tree_at (trees unit.now.code) statements)) activation.old) (below unit.now stack.old) (control_in (trees unit.now.code) result activation.new) (below unit.now stack.new) }
     ensures kept { room stack.new ≡ room stack.old }
 {
     if count.left == 0 {
-        return Point::Done(End::Next);
+        return Step::Done(End::Next);
     }
     if !activation.step() {
-        return Point::Done(End::Abandoned(Cause::Overrun));
+        return Step::Done(End::Abandoned(Cause::Overrun));
     }
     let left = count.left - 1;
     activation.put_slot(count.values.slot, value_before(count.values, left));
@@ -206,7 +206,7 @@ pub fn count(
         left,
     };
     stack.push_count(rest, statements);
-    Point::RunsAll(statements)
+    Step::RunsAll(statements)
 }
 
 /// The next declaration (3.11).
@@ -215,13 +215,13 @@ pub fn declare(
     stack: &mut Stack,
     activation: &mut Activation,
     declarations: usize,
-) -> Point
+) -> Step
     requires { HasRoom 1 stack.old }
-    ensures leads { Leads (declares (as_declarations (tree_at (trees unit.now.code) declarations)) activation.old) (below unit.now stack.old) (control (trees unit.now.code) result activation.new) (below unit.now stack.new) }
+    ensures leads { Leads (declares (as_declarations (tree_at (trees unit.now.code) declarations)) activation.old) (below unit.now stack.old) (control_in (trees unit.now.code) result activation.new) (below unit.now stack.new) }
     ensures kept { room stack.new ≡ room stack.old }
 {
     match declarations_at(&unit.code, declarations) {
-        None => Point::Done(End::Next),
+        None => Step::Done(End::Next),
         Some(declaration) => {
             let frame = ValueFrame::Declaring(declaration.target, declaration.rest);
             await_value(unit, stack, activation, frame, declaration.initial)

@@ -30,4 +30,4 @@ returns-in-Some-clause-asks c = asks_at c.args.unit.now c.moves.self.point c.mov
 pub returns-in-None-clause-ended : goal.returns-in-None-clause-ended
 returns-in-None-clause-ended c =
     let unasked = sym c.question.ensures ∙ c.in-None.is in
-    ended_at c.args.unit.now c.moves.self.point c.moves.self.activation (below c.args.unit.now c.moves.self.stack) _ _ (c.rests.ensures.over refl unasked) (nothing_waits c.args.unit.now c.moves.self.stack (c.rests.ensures.empty refl unasked) (c.rests.ensures.alone refl unasked)) c.end.ensures
+    ended_at c.args.unit.now c.moves.self.point c.moves.self.activation (below c.args.unit.now c.moves.self.stack) _ _ (c.if-rests.ensures.over refl unasked) (nothing_waits c.args.unit.now c.moves.self.stack (c.if-rests.ensures.empty refl unasked) (c.if-rests.ensures.alone refl unasked)) c.end.ensures
