@@ -354,11 +354,12 @@ takes_no_over other = refl
 
 -- how a run ends passes a frame
 pub over_passed : (u : FlatUnit) (a : Activation) (old : Stack) (s : Setting) (g : m.Frame) (p : Point) (new : Machine)
-    → new.point ≡ p → is_over p ≡ true
+    → new.point ≡ p → new.activation ≡ a → is_over p ≡ true
     → ((now : Now) → is_kind (kind_taken g) (comes_as now) ≡ false → MovesOn (flat_view u) (comes now) (frames_with u (g ∷ waiting old) (set_aside old)) s (comes now) (below u new.stack) new.setting)
     → MovesTo u (control (trees u.code) p a) (frames_with u (g ∷ waiting old) (set_aside old)) s new
-over_passed u a old s g (point.Exited e components) new at is pass =
-    subst (λ (x : Point). MovesOn (flat_view u) (comes (f.exited e components)) (frames_with u (g ∷ waiting old) (set_aside old)) s (control (trees u.code) x new.activation) (below u new.stack) new.setting) (sym at) (pass (f.exited e components) (takes_no_over g))
-over_passed u a old s g (point.Quitted e) new at is pass =
+over_passed u a old s g (point.Exited e) new at same is pass =
+    subst (λ (x : Point). MovesOn (flat_view u) (comes (f.exited e a.components)) (frames_with u (g ∷ waiting old) (set_aside old)) s (control (trees u.code) x new.activation) (below u new.stack) new.setting) (sym at)
+    (subst (λ (b : Activation). MovesOn (flat_view u) (comes (f.exited e a.components)) (frames_with u (g ∷ waiting old) (set_aside old)) s (comes (f.exited e b.components)) (below u new.stack) new.setting) (sym same) (pass (f.exited e a.components) (takes_no_over g)))
+over_passed u a old s g (point.Quitted e) new at same is pass =
     subst (λ (x : Point). MovesOn (flat_view u) (comes (f.quitted e)) (frames_with u (g ∷ waiting old) (set_aside old)) s (control (trees u.code) x new.activation) (below u new.stack) new.setting) (sym at) (pass (f.quitted e) (takes_no_over g))
-over_passed u a old s g other new at is pass = absurd (cc is)
+over_passed u a old s g other new at same is pass = absurd (cc is)

@@ -1,10 +1,13 @@
 -- Where a machine is, and what it still does (own).
-use Rattle.std.specs.Prelude.{◌≡◌, ◌<◌, ◌≤◌, ℕ, List}
+use Rattle.std.specs.Prelude.{◌≡◌, ◌<◌, ◌≤◌, ℕ, List, Ok, Err}
 use Rattle.rv_code.specs.Bodies.{UnitBodies}
 use Rattle.rv_exec.specs.declared.activation.Activation.{Activation}
 use Rattle.rv_exec.specs.declared.setting.Setting.{Setting}
+use Rattle.rv_exec.specs.declared.end.Asked.{Asked}
+use Rattle.rv_exec.specs.declared.end.Asked.TheVariants as asked
 use Rattle.rv_exec.specs.declared.end.End.{End}
 use Rattle.rv_exec.specs.declared.end.End.TheVariants as ends
+use Rattle.rv_exec.specs.Calls.{Outcome, end_of}
 use Rattle.rv_flat.specs.Trees.{Tree, tree_at, as_expression, as_expressions, as_links, as_statement, as_statements, as_branches, as_alternatives, as_declarations}
 use Rattle.rv_frames.specs.Frames as f
 use Rattle.rv_frames.specs.Frames.{Frame, Control, Now, denoted, meant}
@@ -32,18 +35,24 @@ control_in ts (step.Valued v) a = f.comes (f.valued v a)
 control_in ts (step.Listed outcome) a = f.comes (f.listed outcome a)
 control_in ts (step.Done e) a = f.comes (f.done e a)
 
--- what it is at
+-- what a request comes to that starts no body
+abbrev pub given_by : Outcome → Asked
+given_by (Ok given) = asked.Given given
+given_by (Err why) = asked.Abandoned why
+
+-- what it is at: what comes of a body or of a request comes with the components of the activation
 abbrev pub control : List Tree → Point → Activation → Control
 control ts (point.At x) a = control_in ts x a
 control ts (point.Asks callee values) a = f.asks_of callee values
 control ts (point.Waits callee) a = f.waits callee
-control ts (point.Ends request outcome) a = f.ends_of request outcome
+control ts (point.Ends is_function outcome) a = f.ends_of (end_of is_function outcome a.components) outcome
 control ts (point.Quits outcome) a = f.quits_of outcome
 control ts (point.Fires object operation) a = f.fires object operation
-control ts (point.Closes outcome components steps) a = f.comes (f.closes outcome components steps)
-control ts (point.Reaches what) a = f.comes (f.reaches what)
+control ts (point.Closes outcome) a = f.comes (f.closes outcome a.components a.steps)
+control ts (point.Reaches outcome) a = f.comes (f.reaches (given_by outcome))
+control ts (point.Starts object operation is_function) a = f.comes (f.reaches (asked.Started object operation is_function a.components))
 control ts (point.Outside outcome) a = f.comes (f.outside outcome)
-control ts (point.Exited e components) a = f.comes (f.exited e components)
+control ts (point.Exited e) a = f.comes (f.exited e a.components)
 control ts (point.Quitted e) a = f.comes (f.quitted e)
 
 -- from one point, with these frames and in this setting, to another: the run still does the same, less of it is left, and its stack

@@ -50,16 +50,17 @@ impl Machine {
                     stack: frames,
                 }
             }
-            None => Machine {
-                point: Point::Closes(
-                    Err(Cause::Raised(Exception::ProgramError)),
-                    components,
-                    MOST_STEPS,
-                ),
-                activation: no_activation(),
-                setting,
-                stack: frames,
-            },
+            None => {
+                let mut activation = no_activation();
+                activation.components = components;
+                activation.steps = MOST_STEPS;
+                Machine {
+                    point: Point::Closes(Err(Cause::Raised(Exception::ProgramError))),
+                    activation,
+                    setting,
+                    stack: frames,
+                }
+            }
         }
     }
 }

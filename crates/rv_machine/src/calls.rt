@@ -94,13 +94,17 @@ impl Machine {
     {
         self.setting = setting;
         if setting.nested == 0 {
-            self.point = Point::Closes(Err(Cause::Overrun), components, steps);
+            self.activation.components = components;
+            self.activation.steps = steps;
+            self.point = Point::Closes(Err(Cause::Overrun));
             return;
         }
         match operation(unit, setting.object, number) {
             None => {
                 let outcome = Err(Cause::Raised(Exception::ProgramError));
-                self.point = Point::Closes(outcome, components, steps);
+                self.activation.components = components;
+                self.activation.steps = steps;
+                self.point = Point::Closes(outcome);
             }
             Some(body) => {
                 self.stack

@@ -129,8 +129,7 @@ impl Machine {
             }
             EndFrame::Closing(object, number) => {
                 let outcome = operation_outcome(unit, object, number, end, &self.activation);
-                let components = self.activation.components;
-                self.point = Point::Closes(outcome, components, self.activation.steps);
+                self.point = Point::Closes(outcome);
             }
             EndFrame::Quitting(actor) => {
                 let outcome = task_outcome(unit, actor, end, &self.activation);

@@ -12,7 +12,6 @@ use crate::machine::Machine;
 use crate::point::{Point, Step};
 use crate::select::select;
 use crate::statements::{count, declare, run, run_all, try_branches, turn};
-use rv_event::entry::Request;
 use rv_exec::asks::exit_of;
 use rv_exec::end::Cause;
 use rv_flat::unit::FlatUnit;
@@ -150,19 +149,19 @@ impl Machine {
     }
 
     // The end of a body that isn't asked, since its actor is left waiting, or in a body that it called (9.5.1).
-    fn at_end(&mut self, unit: &FlatUnit, request: Request, outcome: Result<Args, Cause>)
-        requires { question (Point.Ends request outcome) ≡ None }
-        ensures moves { MovesTo unit.now (control (trees unit.now.code) (Point.Ends request outcome) self.old.activation) (below unit.now self.old.stack) self.old.setting self.new }
+    fn at_end(&mut self, unit: &FlatUnit, is_function: bool, outcome: Result<Args, Cause>)
+        requires { question (Point.Ends is_function outcome) self.old.activation ≡ None }
+        ensures moves { MovesTo unit.now (control (trees unit.now.code) (Point.Ends is_function outcome) self.old.activation) (below unit.now self.old.stack) self.old.setting self.new }
         ensures kept { room self.new.stack ≡ room self.old.stack }
     {
         let _ = unit;
-        let _ = request;
+        let _ = is_function;
         self.point = Point::Outside(outcome);
     }
 
     // The end of a task that can't quit (9.3).
     fn at_task_end(&mut self, unit: &FlatUnit, outcome: Result<Args, Cause>)
-        requires { question (Point.Quits outcome) ≡ None }
+        requires { question (Point.Quits outcome) self.old.activation ≡ None }
         ensures moves { MovesTo unit.now (control (trees unit.now.code) (Point.Quits outcome) self.old.activation) (below unit.now self.old.stack) self.old.setting self.new }
         ensures kept { room self.new.stack ≡ room self.old.stack }
     {
@@ -203,21 +202,22 @@ impl Machine {
     pub(crate) fn advance(&mut self, unit: &FlatUnit)
         requires room { HasRoom 3 self.old.stack }
         requires space { HasSpace self.old.stack }
-        requires unasked { question self.old.point ≡ None }
+        requires unasked { question self.old.point self.old.activation ≡ None }
         requires waits { is_coming self.old.point ≡ true → waiting self.old.stack ≡ [] → set_aside self.old.stack ≡ [] → ⊥ }
         ensures moves { MovesTo unit.now (control (trees unit.now.code) self.old.point self.old.activation) (below unit.now self.old.stack) self.old.setting self.new }
         ensures kept { room self.new.stack ≡ room self.old.stack }
     {
         match self.point {
             Point::At(step) => self.at_step(unit, step),
-            Point::Ends(request, outcome) => self.at_end(unit, request, outcome),
+            Point::Ends(is_function, outcome) => self.at_end(unit, is_function, outcome),
             Point::Quits(outcome) => self.at_task_end(unit, outcome),
-            Point::Closes(outcome, components, steps) => {
-                self.body_comes(unit, outcome, components, steps)
+            Point::Closes(outcome) => self.body_comes(unit, outcome),
+            Point::Reaches(outcome) => self.request_comes(unit, outcome),
+            Point::Starts(object, number, is_function) => {
+                self.start_comes(unit, object, number, is_function)
             }
-            Point::Reaches(asked) => self.request_comes(unit, asked),
             Point::Outside(outcome) => self.call_comes(unit, outcome),
-            Point::Exited(_, _) | Point::Quitted(_) => self.over_comes(unit),
+            Point::Exited(_) | Point::Quitted(_) => self.over_comes(unit),
             Point::Asks(_, _) | Point::Waits(_) | Point::Fires(_, _) => {}
         }
     }

@@ -3,9 +3,9 @@
 
 use crate::frame::Count;
 use rv_code::Callee;
-use rv_event::entry::{Exit, Request};
-use rv_exec::end::{Asked, Cause, End};
-use rv_value::{Args, Scalars};
+use rv_event::entry::Exit;
+use rv_exec::end::{Cause, End};
+use rv_value::Args;
 
 /// Where a run is within a body. Expressions, statements and lists of them stand by their numbers in the unit's table.
 #[derive(Clone, Copy)]
@@ -48,20 +48,22 @@ pub enum Point {
     /// The first request of a call of another object, and the resume of one that waits (9.5).
     Asks(Callee, Args),
     Waits(Callee),
-    /// The end of a body that has come to this, by this request (9.5.1).
-    Ends(Request, Result<Args, Cause>),
+    /// The end of a body, a function's or not, that has come to this with the components of the activation (9.5.1).
+    Ends(bool, Result<Args, Cause>),
     /// The end of a task that has come to this (9.3).
     Quits(Result<Args, Cause>),
     /// A line that fires, whose handler is this operation of this object (C.3).
     Fires(usize, usize),
-    /// What a body comes to, the components and the steps left.
-    Closes(Result<Args, Cause>, Scalars, u32),
-    /// What a request comes to.
-    Reaches(Asked),
+    /// What a body comes to, with the components and the steps of the activation.
+    Closes(Result<Args, Cause>),
+    /// What a request comes to that starts no body.
+    Reaches(Result<Args, Cause>),
+    /// A request has started the body of this operation of this object, a function's or not, with the components of the activation.
+    Starts(usize, usize, bool),
     /// What a call of another object comes to.
     Outside(Result<Args, Cause>),
-    /// How the body of an operation exits, and the components then.
-    Exited(Exit, Scalars),
+    /// How the body of an operation exits, with the components of the activation.
+    Exited(Exit),
     /// How a task ends.
     Quitted(Exit),
 }

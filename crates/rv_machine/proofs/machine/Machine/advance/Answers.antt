@@ -18,3 +18,6 @@ returns-in-Reaches-clause-moves c = at_point c.args.unit.now _ _ _ _ _ c.request
 
 pub returns-in-Outside-clause-moves : goal.returns-in-Outside-clause-moves
 returns-in-Outside-clause-moves c = at_point c.args.unit.now _ _ _ _ _ c.call_comes.new.self c.in-Outside.is c.call_comes.ensures.moves
+
+pub returns-in-Starts-clause-moves : goal.returns-in-Starts-clause-moves
+returns-in-Starts-clause-moves c = at_point c.args.unit.now _ _ _ _ _ c.start_comes.new.self c.in-Starts.is c.start_comes.ensures.moves

@@ -59,7 +59,7 @@ returns-in-Some-clause-fits c =
 
 pub returns-in-None-clause-fits : goal.returns-in-None-clause-fits
 returns-in-None-clause-fits c =
-    fits_from c.args.unit.now c.args.stack (record { point = point.Closes (Err (cause.Raised ProgramError)) c.args.components 100000; activation = c.no_activation.result; setting = c.of_operation-setting.result; stack = c.push_exiting.new.self }) c.requires c.push_exiting.ensures.kept
+    fits_from c.args.unit.now c.args.stack (record { point = point.Closes (Err (cause.Raised ProgramError)); activation = record c.no_activation-activation.result { components = c.args.components; steps = 100000 }; setting = c.of_operation-setting.result; stack = c.push_exiting.new.self }) c.requires c.push_exiting.ensures.kept
     (body_missing_low c.args.unit.now c.of_operation-setting.result (closes (Err (cause.Raised ProgramError)) c.args.components 100000) (below c.args.unit.now c.args.stack) (below c.args.unit.now c.push_exiting.new.self)
     (nothing_waits c.args.unit.now c.args.stack c.requires.empty c.requires.alone)
     (exiting_on c.args.unit.now c.args.stack c.push_exiting.new.self c.push_exiting.ensures.frames c.push_exiting.ensures.activations))

@@ -18,7 +18,7 @@ returns-in-Opening-clause-moves c = led c.args.unit.now c.args.self.now (record 
     (at_end_in c.args.self.now.setting c.args.unit.now _ _ _ _ _ _ c.in-Opening.is (in_each _ _ _ _ _ c.take_declarations_end-step.ensures.leads))
 
 pub returns-in-Closing-clause-moves : goal.returns-in-Closing-clause-moves
-returns-in-Closing-clause-moves c = led c.args.unit.now c.args.self.now (record c.args.self.now { point = point.Closes c.operation_outcome-outcome.result c.args.self.now.activation.components c.args.self.now.activation.steps }) _ _ refl
+returns-in-Closing-clause-moves c = led c.args.unit.now c.args.self.now (record c.args.self.now { point = point.Closes c.operation_outcome-outcome.result }) _ _ refl
     (at_end_in c.args.self.now.setting c.args.unit.now _ _ _ _ _ _ c.in-Closing.is (in_each _ _ _ _ _ (body_closes _ _ _ _ _ c.operation_outcome-outcome.ensures)))
 
 pub returns-in-Quitting-clause-moves : goal.returns-in-Quitting-clause-moves
