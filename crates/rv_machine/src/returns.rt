@@ -46,19 +46,18 @@ pub(crate) fn of_body(object: usize, held: u32) -> Setting
 impl Machine {
     /// What a body comes to comes to this frame, which was on top: to the call inside the object that waits for it, or to the
     /// end of an operation (6.4, 9.5.1).
-    fn body_meets(
-        &mut self,
-        unit: &FlatUnit,
-        frame: Frame,
-        outcome: Result<Args, Cause>,
-    )
+    fn body_meets(&mut self, unit: &FlatUnit, frame: Frame, outcome: Result<Args, Cause>)
         ensures moves { MovesTo unit.now (comes (closes outcome self.old.activation.components self.old.activation.steps)) (frames_with unit.now (frame ∷ waiting self.old.stack) (set_aside self.old.stack)) self.old.setting self.new }
         ensures kept { room self.new.stack ≡ room self.old.stack }
     {
         match frame {
             Frame::Resuming(setting) => {
                 let caller = self.stack.take_up();
-                self.activation = resumed(&caller, self.activation.components, self.activation.steps);
+                self.activation = resumed(
+                    &caller,
+                    self.activation.components,
+                    self.activation.steps,
+                );
                 self.setting = setting;
                 self.point = Point::At(Step::Listed(outcome));
             }
@@ -77,11 +76,7 @@ impl Machine {
     }
 
     /// What a body comes to comes to the frame on top.
-    pub(crate) fn body_comes(
-        &mut self,
-        unit: &FlatUnit,
-        outcome: Result<Args, Cause>,
-    )
+    pub(crate) fn body_comes(&mut self, unit: &FlatUnit, outcome: Result<Args, Cause>)
         requires { waiting self.old.stack ≡ [] → set_aside self.old.stack ≡ [] → ⊥ }
         ensures moves { MovesTo unit.now (comes (closes outcome self.old.activation.components self.old.activation.steps)) (below unit.now self.old.stack) self.old.setting self.new }
         ensures kept { room self.new.stack ≡ room self.old.stack }

@@ -172,12 +172,7 @@ pub fn take_value(
 }
 
 /// The value that a statement or a declaration waits for fails: so does the statement (11.4).
-pub fn fail_value(
-    unit: &FlatUnit,
-    activation: &Activation,
-    frame: ValueFrame,
-    cause: Cause,
-) -> Step
+pub fn fail_value(unit: &FlatUnit, activation: &Activation, frame: ValueFrame, cause: Cause) -> Step
     ensures { (fs : List Waiting) → Leads (comes (valued (Err cause) activation.now)) (value_frame (trees unit.now.code) frame ∷ fs) (control_in (trees unit.now.code) result activation.now) fs }
 {
     let _ = unit;
