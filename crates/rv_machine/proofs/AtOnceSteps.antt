@@ -24,7 +24,7 @@ use Rattle.rv_exec.specs.Statements.{meaning, abandons, exit_where}
 use Rattle.rv_exec.specs.World.{World, Run, Got}
 use Rattle.rv_frames.specs.Rests.{is_next}
 use Rattle.rv_frames.specs.Frames.{Frame, sequencing, evaluates, runs, runs_all, comes, valued, done, got, end, denoted, meant}
-use Rattle.rv_machine.specs.AtOnce.{HasValue, LinkTo, EndsSo}
+use Rattle.rv_machine.specs.AtOnce.{HasValue, LinkGives, LinkTo, EndsSo, after_prefix, after_range, after_operator, assigned_after, exit_after, return_after}
 use Rattle.rv_machine.specs.Moves.{expression_moves, statement_moves, called_moves, level}
 use Rattle.rv_machine.specs.Points.{Leads}
 use Rattle.rv_machine.proofs.Composing.{behind}
@@ -78,114 +78,113 @@ pub component_at : (e : Expression) (index : ℕ) (v : ℤ) (a : Activation) →
 unfolding value
 component_at e index v a is same = λ w. ap (λ (x : Expression). value w x a) is ∙ ap (λ (z : ℤ). gives (Ok z) a) (sym same)
 
-pub prefixed_at : (e first : Expression) (op : Prefix) (v : ℤ) (r : Result ℤ Cause) (a : Activation)
-    → e ≡ code.prefixed op first → HasValue first a (Ok v) → r ≡ prefix_of op v → HasValue e a r
+after_prefixed : (op : Prefix) (r : Result ℤ Cause) (a : Activation) → prefixed_by op (ended (r, a)) ≡ ended (after_prefix op r, a)
+after_prefixed op (Ok v) a = refl
+after_prefixed op (Err why) a = refl
+
+pub prefixed_at : (e first : Expression) (op : Prefix) (v r : Result ℤ Cause) (a : Activation)
+    → e ≡ code.prefixed op first → HasValue first a v → r ≡ after_prefix op v → HasValue e a r
 unfolding value
 prefixed_at e first op v r a is operand result = λ w. ap (λ (x : Expression). value w x a) is
-    ∙ (ap (λ (x : Asking Got). prefixed_by op x) (operand w) ∙ ap (λ (z : Result ℤ Cause). gives z a) (sym result))
+    ∙ (ap (λ (x : Asking Got). prefixed_by op x) (operand w) ∙ (after_prefixed op v a ∙ ap (λ (z : Result ℤ Cause). gives z a) (sym result)))
 
-pub prefixed_fails : (e first : Expression) (op : Prefix) (why : Cause) (a : Activation)
-    → e ≡ code.prefixed op first → HasValue first a (Err why) → HasValue e a (Err why)
-unfolding value
-prefixed_fails e first op why a is operand = λ w. ap (λ (x : Expression). value w x a) is ∙ ap (λ (x : Asking Got). prefixed_by op x) (operand w)
+after_bounded : (range : Range) (r : Result ℤ Cause) (a : Activation) → within_by range (ended (r, a)) ≡ ended (after_range range r, a)
+after_bounded range (Ok v) a = refl
+after_bounded range (Err why) a = refl
 
-pub within_at : (e first : Expression) (range : Range) (v : ℤ) (r : Result ℤ Cause) (a : Activation)
-    → e ≡ code.within range first → HasValue first a (Ok v) → r ≡ within range v → HasValue e a r
+pub within_at : (e first : Expression) (range : Range) (v r : Result ℤ Cause) (a : Activation)
+    → e ≡ code.within range first → HasValue first a v → r ≡ after_range range v → HasValue e a r
 unfolding value
 within_at e first range v r a is operand result = λ w. ap (λ (x : Expression). value w x a) is
-    ∙ (ap (λ (x : Asking Got). within_by range x) (operand w) ∙ ap (λ (z : Result ℤ Cause). gives z a) (sym result))
+    ∙ (ap (λ (x : Asking Got). within_by range x) (operand w) ∙ (after_bounded range v a ∙ ap (λ (z : Result ℤ Cause). gives z a) (sym result)))
 
-pub within_fails : (e first : Expression) (range : Range) (why : Cause) (a : Activation)
-    → e ≡ code.within range first → HasValue first a (Err why) → HasValue e a (Err why)
+pub chain_at : (e first : Expression) (ls : Links) (x : Result ℤ Cause) (v u : ℤ) (r : Result ℤ Cause) (a : Activation)
+    → e ≡ code.chain first ls → HasValue first a x → x ≡ Ok v → u ≡ v → LinkTo ls u a r → HasValue e a r
 unfolding value
-within_fails e first range why a is operand = λ w. ap (λ (x : Expression). value w x a) is ∙ ap (λ (x : Asking Got). within_by range x) (operand w)
+chain_at e first ls x v u r a is operand ok same rest = λ w. ap (λ (y : Expression). value w y a) is
+    ∙ (ap (λ (y : Asking Got). chained_by w ls y) (operand w ∙ ap (λ (z : Result ℤ Cause). gives z a) ok) ∙ (ap (λ (z : ℤ). linked w ls z a) (sym same) ∙ rest w))
 
-pub chain_at : (e first : Expression) (ls : Links) (v u : ℤ) (r : Result ℤ Cause) (a : Activation)
-    → e ≡ code.chain first ls → HasValue first a (Ok v) → u ≡ v → LinkTo ls u a r → HasValue e a r
+pub chain_fails : (e first : Expression) (ls : Links) (x : Result ℤ Cause) (why : Cause) (a : Activation)
+    → e ≡ code.chain first ls → HasValue first a x → x ≡ Err why → HasValue e a (Err why)
 unfolding value
-chain_at e first ls v u r a is operand same rest = λ w. ap (λ (x : Expression). value w x a) is
-    ∙ (ap (λ (x : Asking Got). chained_by w ls x) (operand w) ∙ (ap (λ (z : ℤ). linked w ls z a) (sym same) ∙ rest w))
+chain_fails e first ls x why a is operand fail = λ w. ap (λ (y : Expression). value w y a) is
+    ∙ ap (λ (y : Asking Got). chained_by w ls y) (operand w ∙ ap (λ (z : Result ℤ Cause). gives z a) fail)
 
-pub chain_fails : (e first : Expression) (ls : Links) (why : Cause) (a : Activation)
-    → e ≡ code.chain first ls → HasValue first a (Err why) → HasValue e a (Err why)
-unfolding value
-chain_fails e first ls why a is operand = λ w. ap (λ (x : Expression). value w x a) is ∙ ap (λ (x : Asking Got). chained_by w ls x) (operand w)
+-- a link
+pub skipped_at : (op : Operator) (e : Expression) (v u : ℤ) (a : Activation) → decides op v ≡ true → u ≡ v → LinkGives op e v a (Ok u)
+unfolding linked
+skipped_at op e v u a does same = λ w more. ap (λ (b : Bool). linked_by w op e more v a b) does ∙ ap (λ (z : ℤ). resulting w more (Ok z) a) (sym same)
 
--- links, which lead to the value that those before them lead to
-pub no_link_at : (l0 ls : Links) (v0 v : ℤ) (u : ℤ) (a : Activation)
+after_operated : (w : World) (op : Operator) (more : Links) (v : ℤ) (r : Result ℤ Cause) (a : Activation)
+    → operated_by w op more v (ended (r, a)) ≡ resulting w more (after_operator op v r) a
+after_operated w op more v (Ok u) a = refl
+after_operated w op more v (Err why) a = refl
+
+pub operated_at : (op : Operator) (e : Expression) (v : ℤ) (x r : Result ℤ Cause) (a : Activation)
+    → decides op v ≡ false → HasValue e a x → r ≡ after_operator op v x → LinkGives op e v a r
+unfolding linked
+operated_at op e v x r a not operand result = λ w more. ap (λ (b : Bool). linked_by w op e more v a b) not
+    ∙ (ap (λ (y : Asking Got). operated_by w op more v y) (operand w) ∙ (after_operated w op more v x a ∙ ap (λ (z : Result ℤ Cause). resulting w more z a) (sym result)))
+
+-- links, where those before them lead from a value to another
+link_at : (ls more : Links) (op : Operator) (e : Expression) (v : ℤ) (r x : Result ℤ Cause) (a : Activation) (w : World)
+    → ls ≡ code.and_link op e more → LinkGives op e v a r → r ≡ x → linked w ls v a ≡ resulting w more x a
+link_at ls more op e v r x a w is link known =
+    ap (λ (y : Links). linked w y v a) is ∙ (link w more ∙ ap (λ (z : Result ℤ Cause). resulting w more z a) known)
+
+pub next_at : (l0 ls more : Links) (op : Operator) (e : Expression) (v0 v u z : ℤ) (r : Result ℤ Cause) (a : Activation)
+    → ((w : World) → linked w ls v a ≡ linked w l0 v0 a) → ls ≡ code.and_link op e more → LinkGives op e v a r → r ≡ Ok u → z ≡ u
+    → (w : World) → linked w more z a ≡ linked w l0 v0 a
+next_at l0 ls more op e v0 v u z r a before is link known same w =
+    ap (λ (k : ℤ). linked w more k a) same ∙ (sym (link_at ls more op e v r (Ok u) a w is link known) ∙ before w)
+
+pub failed_at : (l0 ls more : Links) (op : Operator) (e : Expression) (v0 v : ℤ) (why : Cause) (r : Result ℤ Cause) (a : Activation)
+    → ((w : World) → linked w ls v a ≡ linked w l0 v0 a) → ls ≡ code.and_link op e more → LinkGives op e v a r → r ≡ Err why → LinkTo l0 v0 a (Err why)
+failed_at l0 ls more op e v0 v why r a before is link known = λ w. sym (before w) ∙ link_at ls more op e v r (Err why) a w is link known
+
+pub no_link_at : (l0 ls : Links) (v0 v u : ℤ) (a : Activation)
     → ((w : World) → linked w ls v a ≡ linked w l0 v0 a) → ls ≡ code.no_links → u ≡ v → LinkTo l0 v0 a (Ok u)
 unfolding linked
 no_link_at l0 ls v0 v u a before is same = λ w. sym (before w) ∙ (ap (λ (x : Links). linked w x v a) is ∙ ap (λ (z : ℤ). gives (Ok z) a) (sym same))
-
-pub skipped_at : (l0 ls more : Links) (op : Operator) (e : Expression) (v0 v : ℤ) (a : Activation)
-    → ((w : World) → linked w ls v a ≡ linked w l0 v0 a) → ls ≡ code.and_link op e more → decides op v ≡ true
-    → (w : World) → linked w more v a ≡ linked w l0 v0 a
-unfolding linked
-skipped_at l0 ls more op e v0 v a before is does w = sym (ap (λ (x : Links). linked w x v a) is ∙ ap (λ (b : Bool). linked_by w op e more v a b) does) ∙ before w
-
-operand_at : (ls more : Links) (op : Operator) (e : Expression) (v : ℤ) (r : Result ℤ Cause) (a : Activation) (w : World)
-    → ls ≡ code.and_link op e more → decides op v ≡ false → HasValue e a r → linked w ls v a ≡ operated_by w op more v (ended (r, a))
-unfolding linked
-operand_at ls more op e v r a w is not operand = ap (λ (x : Links). linked w x v a) is
-    ∙ (ap (λ (b : Bool). linked_by w op e more v a b) not ∙ ap (λ (x : Asking Got). operated_by w op more v x) (operand w))
-
-pub next_at : (l0 ls more : Links) (op : Operator) (e : Expression) (v0 v u z : ℤ) (a : Activation)
-    → ((w : World) → linked w ls v a ≡ linked w l0 v0 a) → ls ≡ code.and_link op e more → decides op v ≡ false → HasValue e a (Ok u) → result_of op v u ≡ Ok z
-    → (w : World) → linked w more z a ≡ linked w l0 v0 a
-next_at l0 ls more op e v0 v u z a before is not operand result w =
-    sym (operand_at ls more op e v (Ok u) a w is not operand ∙ ap (λ (x : Result ℤ Cause). resulting w more x a) result) ∙ before w
-
-pub raised_at : (l0 ls more : Links) (op : Operator) (e : Expression) (v0 v u : ℤ) (why : Cause) (a : Activation)
-    → ((w : World) → linked w ls v a ≡ linked w l0 v0 a) → ls ≡ code.and_link op e more → decides op v ≡ false → HasValue e a (Ok u) → result_of op v u ≡ Err why
-    → LinkTo l0 v0 a (Err why)
-raised_at l0 ls more op e v0 v u why a before is not operand result = λ w.
-    sym (before w) ∙ (operand_at ls more op e v (Ok u) a w is not operand ∙ ap (λ (x : Result ℤ Cause). resulting w more x a) result)
-
-pub failed_at : (l0 ls more : Links) (op : Operator) (e : Expression) (v0 v : ℤ) (why : Cause) (a : Activation)
-    → ((w : World) → linked w ls v a ≡ linked w l0 v0 a) → ls ≡ code.and_link op e more → decides op v ≡ false → HasValue e a (Err why) → LinkTo l0 v0 a (Err why)
-failed_at l0 ls more op e v0 v why a before is not operand = λ w. sym (before w) ∙ operand_at ls more op e v (Err why) a w is not operand
 
 -- statements
 pub null_at : (x : Statement) (a : Activation) → x ≡ stat.null_statement → EndsSo x a ends.Next a
 unfolding meaning
 null_at x a is = λ w. ap (λ (y : Statement). meaning w y a) is
 
-pub assigned_at : (x : Statement) (target : Target) (e : Expression) (v : ℤ) (a : Activation) (how : End) (b : Activation)
-    → x ≡ stat.assign target e → HasValue e a (Ok v) → (how, b) ≡ assigned target v a → EndsSo x a how b
+after_assigned : (target : Target) (r : Result ℤ Cause) (a : Activation) → assigned_by target (ended (r, a)) ≡ ending (assigned_after target r a)
+after_assigned target (Ok v) a = refl
+after_assigned target (Err why) a = refl
+
+pub assigned_at : (x : Statement) (target : Target) (e : Expression) (v : Result ℤ Cause) (a : Activation) (how : End) (b : Activation)
+    → x ≡ stat.assign target e → HasValue e a v → (how, b) ≡ assigned_after target v a → EndsSo x a how b
 unfolding meaning
 assigned_at x target e v a how b is operand result = λ w. ap (λ (y : Statement). meaning w y a) is
-    ∙ (ap (λ (y : Asking Got). assigned_by target y) (operand w) ∙ ap (λ (p : End × Activation). ending p) (sym result))
+    ∙ (ap (λ (y : Asking Got). assigned_by target y) (operand w) ∙ (after_assigned target v a ∙ ap (λ (p : End × Activation). ending p) (sym result)))
 
-pub assign_fails : (x : Statement) (target : Target) (e : Expression) (why : Cause) (a : Activation)
-    → x ≡ stat.assign target e → HasValue e a (Err why) → EndsSo x a (ends.Abandoned why) a
-unfolding meaning
-assign_fails x target e why a is operand = λ w. ap (λ (y : Statement). meaning w y a) is ∙ ap (λ (y : Asking Got). assigned_by target y) (operand w)
+after_exited : (r : Result ℤ Cause) (a : Activation) → exited_by (ended (r, a)) ≡ ending (exit_after r, a)
+after_exited (Ok v) a = refl
+after_exited (Err why) a = refl
 
-pub exit_at : (x : Statement) (e : Expression) (v : ℤ) (a : Activation) (how : End)
-    → x ≡ stat.exit_when e → HasValue e a (Ok v) → how ≡ exit_where v → EndsSo x a how a
+pub exit_at : (x : Statement) (e : Expression) (v : Result ℤ Cause) (a : Activation) (how : End)
+    → x ≡ stat.exit_when e → HasValue e a v → how ≡ exit_after v → EndsSo x a how a
 unfolding meaning
 exit_at x e v a how is operand result = λ w. ap (λ (y : Statement). meaning w y a) is
-    ∙ (ap (λ (y : Asking Got). exited_by y) (operand w) ∙ ap (λ (z : End). ending (z, a)) (sym result))
-
-pub exit_fails : (x : Statement) (e : Expression) (why : Cause) (a : Activation)
-    → x ≡ stat.exit_when e → HasValue e a (Err why) → EndsSo x a (ends.Abandoned why) a
-unfolding meaning
-exit_fails x e why a is operand = λ w. ap (λ (y : Statement). meaning w y a) is ∙ ap (λ (y : Asking Got). exited_by y) (operand w)
+    ∙ (ap (λ (y : Asking Got). exited_by y) (operand w) ∙ (after_exited v a ∙ ap (λ (z : End). ending (z, a)) (sym result)))
 
 pub return_at : (x : Statement) (a : Activation) → x ≡ stat.returns → EndsSo x a (ends.Return None) a
 unfolding meaning
 return_at x a is = λ w. ap (λ (y : Statement). meaning w y a) is
 
-pub value_returned_at : (x : Statement) (e : Expression) (v u : ℤ) (a : Activation)
-    → x ≡ stat.returns_value e → HasValue e a (Ok v) → u ≡ v → EndsSo x a (ends.Return (Some u)) a
-unfolding meaning
-value_returned_at x e v u a is operand same = λ w. ap (λ (y : Statement). meaning w y a) is
-    ∙ (ap (λ (y : Asking Got). returned_by y) (operand w) ∙ ap (λ (z : ℤ). ending (ends.Return (Some z), a)) (sym same))
+after_returned : (r : Result ℤ Cause) (a : Activation) → returned_by (ended (r, a)) ≡ ending (return_after r, a)
+after_returned (Ok v) a = refl
+after_returned (Err why) a = refl
 
-pub return_fails : (x : Statement) (e : Expression) (why : Cause) (a : Activation)
-    → x ≡ stat.returns_value e → HasValue e a (Err why) → EndsSo x a (ends.Abandoned why) a
+pub value_returned_at : (x : Statement) (e : Expression) (v : Result ℤ Cause) (a : Activation) (how : End)
+    → x ≡ stat.returns_value e → HasValue e a v → how ≡ return_after v → EndsSo x a how a
 unfolding meaning
-return_fails x e why a is operand = λ w. ap (λ (y : Statement). meaning w y a) is ∙ ap (λ (y : Asking Got). returned_by y) (operand w)
+value_returned_at x e v a how is operand result = λ w. ap (λ (y : Statement). meaning w y a) is
+    ∙ (ap (λ (y : Asking Got). returned_by y) (operand w) ∙ (after_returned v a ∙ ap (λ (z : End). ending (z, a)) (sym result)))
 
 pub raise_at : (x : Statement) (exception : Exception) (a : Activation) → x ≡ stat.raises exception → EndsSo x a (ends.Abandoned (cause.Raised exception)) a
 unfolding meaning
