@@ -20,6 +20,7 @@ use Rattle.rv_machine.specs.declared.point.Step.TheVariants as step
 
 -- what the run is at within a body, where the parts stand in a table, with this activation
 abbrev pub control_in : List Tree → Step → Activation → Control
+control_in ts (step.Evaluates e) a = f.evaluates (as_expression (tree_at ts e)) a
 control_in ts (step.Links ls v) a = f.links (as_links (tree_at ts ls)) v a
 control_in ts (step.Argues es values) a = f.argues (as_expressions (tree_at ts es)) values a
 control_in ts (step.Calls callee values) a = f.calls callee values a

@@ -1,6 +1,6 @@
 //! One move in statements (5.1), or in declarations (3.11).
 
-ghost use Rattle.std.specs.Prelude.{◌≡◌, ◌≤◌, suc, pos, IsTrue, IsFalse, true, false, Some, None, length};
+ghost use Rattle.std.specs.Prelude.{◌≡◌, ◌≤◌, ◌∷◌, suc, pos, IsTrue, IsFalse, true, false, Some, None, length};
 ghost use Rattle.rv_exec.specs.Activations.{steps_left};
 ghost use Rattle.rv_exec.specs.Choices.{covered};
 ghost use Rattle.rv_flat.specs.Tables.{trees};
