@@ -41,11 +41,7 @@ fn after_range(range: Range, operand: Result<i64, Cause>) -> Result<i64, Cause>
 }
 
 // What an operator gives of its left operand's value, and of its right operand, which may fail (4.5).
-fn after_operator(
-    operator: Operator,
-    left: i64,
-    operand: Result<i64, Cause>,
-) -> Result<i64, Cause>
+fn after_operator(operator: Operator, left: i64, operand: Result<i64, Cause>) -> Result<i64, Cause>
     ensures { result ≡ after_operator operator left operand }
 {
     match operand {
