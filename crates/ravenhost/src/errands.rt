@@ -1,6 +1,6 @@
 //! The threads that read and write beside a run.
 
-ghost use Rattle.std.specs.Prelude.{◌≡◌, [], IfOk, IfSome, None, Ok};
+ghost use Rattle.std.specs.Prelude.{◌≡◌, [], IfOk};
 ghost use Rattle.rv_feed.specs.Hearing.{heard};
 
 use crate::status::Stop;
@@ -91,10 +91,7 @@ pub fn stop_of<R: Files + Eprint>(
     alloc: Global,
     aides: &Aides,
     name: Option<&str>,
-) -> Result<Option<Feed>, Stop>
-    ensures none { name ≡ None → result ≡ Ok None }
-    ensures heard { IfOk result (λ stop. IfSome stop (λ feed. heard feed ≡ [])) }
-{
+) -> Result<Option<Feed>, Stop> {
     let Some(name) = name else {
         return Ok(None);
     };
