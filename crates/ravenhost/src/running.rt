@@ -97,21 +97,49 @@ fn opened_input(alloc: Global, bytes: &[u8]) -> Result<Input, Stop>
     }
 }
 
-// Hears what stands before the commands of an attended run, where notes are to be told of it, and tells them.
+// Stops where what came of an input has no line `@run`, since it may have been cut off.
+fn unless_cut<R: Eprint>(rt: &R, alloc: Global, input: &Input) -> Result<(), Stop> {
+    let mut ahead = input.ahead();
+    match Input::new(alloc).preamble(&mut ahead) {
+        Ok(before) if before.runs => Ok(()),
+        Ok(_) => {
+            let _ = eprintln!(rt;
+                "ravenhost: the input ended before its line @run, so nothing was started"
+            );
+            Err(Stop::CutOff)
+        }
+        Err(fault) => Err(Stop::Failed(of_input(fault))),
+    }
+}
+
+// Hears what stands before the commands of an attended run, where it has to be whole or notes are to be told of it, and tells them.
 fn told_of<R: Wait + Clock + Eprint>(
     rt: &R,
     alloc: Global,
     telling: Telling,
+    wants_run: bool,
     source: &mut Listening<'_, R>,
     input: &mut Input,
 ) -> Result<Before, Stop> {
-    if needs_sections(telling) {
+    if needs_sections(telling) || wants_run {
         if let Err(fault) = source.hear_sections(input) {
             return Err(Stop::Failed(of_input(fault)));
         }
     }
+    if wants_run {
+        unless_cut(rt, alloc, &*input)?;
+    }
     let mut ahead = input.ahead();
     told_before(rt, alloc, telling, &mut ahead)
+}
+
+// Says to somebody at a terminal what a run with a console waits for, where no file is named.
+fn greet<R: Eprint>(rt: &R, words: &RunWords<'_>, terminals: Terminals, given: &Given) {
+    if words.console && terminals.input && given.goes_on && given.bytes.len() == 0 {
+        let _ = eprintln!(rt;
+            "ravenhost: the script is read from here up to its line @run; run --console FILE takes it from a file"
+        );
+    }
 }
 
 // What is asked of an attended run.
@@ -155,7 +183,15 @@ where
     };
     let mut source = Listening { rt, feed, stop };
     let mut input = opened_input(alloc, given.bytes.as_slice())?;
-    let before = told_of(rt, alloc, telling, &mut source, &mut input)?;
+    greet(rt, &words, means.terminals, given);
+    let before = told_of(
+        rt,
+        alloc,
+        telling,
+        words.wants_run,
+        &mut source,
+        &mut input,
+    )?;
     let mut follower = Follower::new(
         alloc,
         source,
@@ -179,6 +215,7 @@ where
     let done = unless_unkept(rt, done, name)?;
     ended(rt, alloc, telling, before.sections.as_slice(), done)?;
     match flushed {
+        Ok(()) if words.tells_end && follower.has_ended() => Err(Stop::EndedItself),
         Ok(()) => Ok(()),
         Err(e) => Err(Stop::Failed(of_io(e))),
     }

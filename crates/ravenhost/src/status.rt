@@ -25,21 +25,31 @@ pub enum Stop {
     BadFile,
     /// No thread can be started, which was said.
     NoThread,
+    /// The input of a run ended before its line `@run`, which was said.
+    CutOff,
+    /// A run ended by itself, and the status is to say so.
+    EndedItself,
     /// A journal isn't that of a legal history, or an end in it isn't what its text means, which was said.
     NotLegal,
 }
 
-/// The status of the program: 0 done, 1 a refused script, one with notes that are errors or a journal that isn't legal, 2 usage or help, 3 want of memory
-/// or of a thread, 4 a failed read or write.
+/// The status of the program: 0 done, 1 a refused or cut script, one with notes that are errors or a journal that isn't legal, 2 usage or help, 3 want of
+/// memory or of a thread, 4 a failed read or write, 5 a run that ended by itself.
 pub fn status_of(outcome: &Result<(), Stop>) -> u8
     ensures { result ≡ status_of outcome.now }
 {
     match outcome {
         Ok(()) | Err(Stop::Told) => 0,
-        Err(Stop::Failed(Failure::Refused(_)) | Stop::Explained | Stop::Warned | Stop::NotLegal) =>
-            1,
+        Err(
+            Stop::Failed(Failure::Refused(_))
+            | Stop::Explained
+            | Stop::Warned
+            | Stop::CutOff
+            | Stop::NotLegal,
+        ) => 1,
         Err(Stop::Usage) => 2,
         Err(Stop::Failed(Failure::Memory) | Stop::NoThread) => 3,
         Err(Stop::Failed(Failure::Io(_)) | Stop::BadFile) => 4,
+        Err(Stop::EndedItself) => 5,
     }
 }

@@ -11,6 +11,7 @@ use rv_crew::notice::Notice;
 use rv_feed::Listening;
 use rv_keep::Keeper;
 use rv_pace::Pace;
+use rv_run::serving::MOST_COMMANDS;
 use std::alloc::Global;
 
 /// What an attended run has beside its host: whence its input comes, the file, and the clock that is followed.
@@ -33,6 +34,10 @@ pub struct Follower<'a, T, F> {
     pub(crate) notices: Option<Receiver<Notice>>,
     // What the input gave so far, where what is refused is explained.
     pub(crate) given: Given,
+    // How many lines were served that weren't `quit`.
+    pub(crate) served: usize,
+    // Whether it was told that a unit text is waited for.
+    pub(crate) is_hinted: bool,
 }
 
 impl<'a, T, F> Follower<'a, T, F> {
@@ -56,6 +61,18 @@ impl<'a, T, F> Follower<'a, T, F> {
             console: Console::new(alloc, asked.columns),
             notices: None,
             given: Given::new(alloc),
+            served: 0,
+            is_hinted: false,
         }
+    }
+
+    // Whether the run has served as many commands as it may, the last of which didn't end it.
+    pub(crate) fn is_served_out(&self) -> bool {
+        self.served >= MOST_COMMANDS
+    }
+
+    /// Whether the run ended by itself, once it has ended: for want of room in its journal, or behind its last command.
+    pub fn has_ended(&self) -> bool {
+        self.room.has_ended || self.is_served_out()
     }
 }

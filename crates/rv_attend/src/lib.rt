@@ -2,6 +2,7 @@
 //! served at a console.
 #![tactic(auto)]
 
+mod advising;
 mod attention;
 mod beside;
 mod closing;

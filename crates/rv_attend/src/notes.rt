@@ -3,41 +3,57 @@
 ghost use Rattle.std.specs.Prelude.{◌≡◌};
 ghost use Rattle.rv_attend.specs.Chores.{Chores};
 
+use crate::advising::{is_told_over, tell_over, tell_plain};
+use crate::attention::Attention;
 use crate::follower::Follower;
 use crate::viewing::view_of;
 use rv_input::Input;
-use rv_notes::change_text;
 use rv_shell::Order;
-use rv_staff::{Session, Staff, say};
+use rv_staff::{Session, Staff};
 use rv_step::reading::StepError;
 use std::alloc::Global;
 use std::io::Write;
 use std::sync::Wait;
 
-// Tells the notes on a line of the list that a command is to bring, over the list in force and the units loaded; a halted host
-// takes none.
+// Tells of a command over what is shown of the host, behind which these bytes come of the input.
 #[tactic(auto, using(crate::proofs::Chores::no_chores))]
-fn tell_change<T: Wait, E: Write>(
+fn tell_viewed<T: Wait, E: Write>(
     rt: &T,
     alloc: Global,
     staff: &mut Staff,
-    read: &Result<Order, StepError>,
+    order: &Order,
+    behind: &[u8],
     errors: &mut E,
 )
     ensures chores { Chores staff.old.control staff.new.control }
     ensures crew { staff.new.crew ≡ staff.old.crew }
 {
-    let Ok(Order::Change(Ok(change))) = read else {
-        return;
-    };
-    let Some(view) = view_of(rt, staff) else {
-        return;
-    };
-    if view.is_halted() {
-        return;
+    if let Some(view) = view_of(rt, staff) {
+        tell_over(alloc, staff.catalogue(), &view, order, behind, errors);
     }
-    if let Ok(text) = change_text(alloc, staff.catalogue(), view.list(), change) {
-        let _ = say(errors, text.as_str());
+}
+
+// Tells what there is to tell of a command line that was read so.
+#[tactic(auto, using(crate::proofs::Chores::no_chores))]
+fn tell_command<T: Wait, E: Write>(
+    rt: &T,
+    asked: &Attention,
+    session: &mut Session,
+    input: &Input,
+    line: &str,
+    read: &Result<Order, StepError>,
+    errors: &mut E,
+)
+    ensures chores { Chores session.old.staff.control session.new.staff.control }
+    ensures crew { session.new.staff.crew ≡ session.old.staff.crew }
+{
+    tell_plain(session.alloc, line, read, asked.console.is_some(), errors);
+    match read {
+        Ok(order) if is_told_over(order) => {
+            let alloc = session.alloc;
+            tell_viewed(rt, alloc, &mut session.staff, order, input.ahead(), errors);
+        }
+        _ => {}
     }
 }
 
@@ -45,16 +61,18 @@ fn tell_change<T: Wait, E: Write>(
 #[tactic(auto, using(crate::proofs::Chores::no_chores))]
 fn tell_if<T: Wait, E: Write>(
     rt: &T,
-    tells: bool,
+    asked: &Attention,
     session: &mut Session,
+    input: &Input,
+    line: &str,
     read: &Result<Order, StepError>,
     errors: &mut E,
 )
     ensures chores { Chores session.old.staff.control session.new.staff.control }
     ensures crew { session.new.staff.crew ≡ session.old.staff.crew }
 {
-    if tells {
-        tell_change(rt, session.alloc, &mut session.staff, read, errors);
+    if asked.tells {
+        tell_command(rt, asked, session, input, line, read, errors);
     }
 }
 
@@ -105,6 +123,6 @@ pub(crate) fn tell_before<T: Wait, E: Write, F>(
     ensures room { follower.new.room ≡ follower.old.room }
     ensures source { follower.new.source ≡ follower.old.source }
 {
-    tell_if(rt, follower.asked.tells, session, read, errors);
+    tell_if(rt, &follower.asked, session, input, line, read, errors);
     explain_if(follower, input, line, read, errors);
 }

@@ -49,6 +49,8 @@ pub struct Room {
     // How many units there were at the last look.
     units: usize,
     looked: Option<Instant>,
+    // Whether the run ended for want of room.
+    pub(crate) has_ended: bool,
 }
 
 // What comes behind what was due.
@@ -80,6 +82,7 @@ impl Room {
             is_watched: quota.is_some() || halt_below.is_some() || tells,
             units: 0,
             looked: None,
+            has_ended: false,
         }
     }
 
@@ -288,7 +291,10 @@ pub(crate) fn keep_room<T: Wait + Clock, E: Write>(
         match do_due(rt, session, asked, room, due, used, errors) {
             Then::Next => {}
             Then::Rest => return Goes::On,
-            Then::End => return Goes::Out,
+            Then::End => {
+                room.has_ended = true;
+                return Goes::Out;
+            }
         }
     }
     Goes::On

@@ -92,6 +92,20 @@ pub(crate) fn attend<T: Wait + Clock, W: Write, E: Write, F: Write>(
     }
 }
 
+// Counts a line that doesn't end the run; what is told while a command is waited for is told anew behind it.
+fn note_line<T, F>(follower: &mut Follower<'_, T, F>, read: &Result<Order, StepError>)
+    ensures keeper { follower.new.keeper ≡ follower.old.keeper }
+    ensures asked { follower.new.asked ≡ follower.old.asked }
+    ensures room { follower.new.room ≡ follower.old.room }
+    ensures source { follower.new.source ≡ follower.old.source }
+{
+    follower.is_hinted = false;
+    match read {
+        Ok(Order::Quit) => {}
+        _ => follower.served = follower.served.saturating_add(1),
+    }
+}
+
 /// Looks at a line before it is carried out: a word of a console is answered, and of a command is told what there is to tell.
 /// None where it is to be carried out.
 pub(crate) fn heed<T: Wait, W: Write, E: Write, F>(
@@ -112,6 +126,7 @@ pub(crate) fn heed<T: Wait, W: Write, E: Write, F>(
     ensures room { follower.new.room ≡ follower.old.room }
     ensures source { follower.new.source ≡ follower.old.source }
 {
+    note_line(follower, read);
     match answer_word(rt, session, follower, line, read, &mut outputs.writer) {
         Some(answered) => {
             keep_word(follower, line);

@@ -10,6 +10,7 @@ ghost use Rattle.rv_feed.specs.declared.feed.Came.TheVariants.{Over};
 ghost use Rattle.rv_input.specs.Whole.{HasCommand};
 ghost use Rattle.rv_run.specs.declared.command.Goes.TheVariants.{Out};
 
+use crate::attention::Typing;
 use crate::due::{do_chores, do_round};
 use crate::follower::Follower;
 use crate::ticking::until_tick;
@@ -20,7 +21,9 @@ use rv_input::{Input, has_command, has_command_now};
 use rv_pace::Pace;
 use rv_run::command::{Goes, of_input};
 use rv_run::outputs::KeptFailure;
-use rv_staff::Session;
+use rv_shell::{Order, order_of};
+use rv_staff::{Session, say};
+use std::alloc::Global;
 use std::io::Write;
 use std::sync::Wait;
 use std::time::{Clock, Duration};
@@ -29,6 +32,9 @@ use std::time::{Clock, Duration};
 const SHORTEST: u64 = 1;
 
 const LONGEST: u64 = 16;
+
+// What is told of a `load` that is typed.
+const HINT: &str = "note: a unit text follows, and behind it a line @end\n";
 
 // What was found of the input.
 #[derive(Clone, Copy, Drop)]
@@ -135,6 +141,38 @@ fn do_once<T: Wait + Clock, E: Write, F: Write>(
     }
 }
 
+// Whether bytes begin with a command `load`, behind which a unit text comes.
+fn begins_with_load(alloc: Global, bytes: &[u8]) -> bool {
+    let Some(end) = bytes.iter().position(|byte| *byte == b'\n') else {
+        return false;
+    };
+    match str::from_utf8(&bytes[..end]) {
+        Ok(line) => match order_of(alloc, line) {
+            Ok(Order::Load) => true,
+            _ => false,
+        },
+        Err(_) => false,
+    }
+}
+
+// Whether somebody types at a terminal who waits for notes, and wasn't told yet what is waited for.
+fn is_unhinted<T, F>(follower: &Follower<'_, T, F>) -> bool {
+    follower.asked.tells && !follower.is_hinted && follower.asked.console == Some(Typing::Shown)
+}
+
+// Tells somebody who types a `load` that a unit text is waited for, once.
+fn hint<T, E: Write, F>(follower: &mut Follower<'_, T, F>, input: &Input, errors: &mut E)
+    ensures keeper { follower.new.keeper ≡ follower.old.keeper }
+    ensures asked { follower.new.asked ≡ follower.old.asked }
+    ensures room { follower.new.room ≡ follower.old.room }
+    ensures source { follower.new.source ≡ follower.old.source }
+{
+    if is_unhinted(follower) && begins_with_load(follower.alloc, input.ahead()) {
+        follower.is_hinted = true;
+        let _ = say(errors, HINT);
+    }
+}
+
 // Waits once, and then does what is due, also where more entries came than are written at once: so a command is soon heard.
 // Gives whether the run goes on, once that is known.
 fn wait_once<T: Wait + Clock, E: Write, F: Write>(
@@ -155,7 +193,10 @@ fn wait_once<T: Wait + Clock, E: Write, F: Write>(
     let most = next_wait(rt, &follower.pace, *millis);
     match hear(&mut follower.source, input, most) {
         Ok(Heard::Command) => Ok(Some(Goes::On)),
-        Ok(found) => do_once(rt, session, follower, found, errors, millis),
+        Ok(found) => {
+            hint(follower, input, errors);
+            do_once(rt, session, follower, found, errors, millis)
+        }
         Err(failure) => Err(KeptFailure::Run(failure)),
     }
 }

@@ -1,6 +1,6 @@
 -- The command line (own): `play`, which may be given `--all`, `check`, which may be given `--script`, and `run`, which may be
--- given `--journal FILE` and, with it, `--sync HOW`, `--halt-below N`, `--quota N`, `--tick MS`, `--stop-by PIPE` and `--console`,
--- all three with `--notes WHEN` and `--warnings-are-errors`; and `audit`, which
+-- given `--journal FILE` and, with it, `--sync HOW`, `--halt-below N`, `--quota N`, `--tick MS`, `--stop-by PIPE`, `--console`,
+-- `--end-status` and `--sections-end`, all three with `--notes WHEN` and `--warnings-are-errors`; and `audit`, which
 -- may be given `--journal FILE` and, with it, `--torn`. Each may be given `--explain`, `--color WHEN` and the FILE of its script.
 -- Beside them `manual`, which may be given the name of one of them. What words come to is what `clap` says of this command.
 use Rattle.std.specs.Prelude.{◌≡◌, ℕ, Bool, true, false, ◌&&◌, nat_le, nat_lt, if◌then◌else◌, List, [], ◌∷◌, Option, Some, None, is_some, codes, option_map, Result, Ok, Err}
@@ -87,8 +87,12 @@ attending = with_rule (with_rule guarding (value_rule (codes "tick"))) (value_ru
 abbrev pub consoled : App
 consoled = with_rule attending (flag_rule (codes "console"))
 
+-- whose status may say more of how it ended, and whose sections have to be whole
+abbrev pub ending : App
+ending = with_rule (with_rule consoled (flag_rule (codes "end-status"))) (flag_rule (codes "sections-end"))
+
 abbrev pub running : App
-running = with_file (with_color (with_notes consoled))
+running = with_file (with_color (with_notes ending))
 
 -- `audit`, which may be given the name of a file, and two flags
 abbrev pub judging : App
@@ -212,7 +216,8 @@ abbrev pub most_entries : ℕ
 most_entries = 1048576
 
 -- What a run does beside its commands: the file that its journal is kept in, the milliseconds between two ticks, the room of the
--- journal below which it ends, how many entries a unit's tasks may add, the pipe whose end ends it, and whether it has a console.
+-- journal below which it ends, how many entries a unit's tasks may add, the pipe whose end ends it, whether it has a console,
+-- whether its status says that it ended by itself, and whether nothing starts without a line `@run`.
 pub record RunWords : Type 0 where
   pub kept : Option (Text × Sync)
   pub tick : Option ℕ
@@ -220,6 +225,8 @@ pub record RunWords : Type 0 where
   pub quota : Option ℕ
   pub stop : Option Text
   pub console : Bool
+  pub tells_end : Bool
+  pub wants_run : Bool
 
 -- the same, of the program's own
 abbrev pub words_of : GivenWords → RunWords
@@ -230,6 +237,8 @@ words_of run = record {
   quota = run.quota;
   stop = option_map (λ s. s.now) run.stop_by;
   console = run.console;
+  tells_end = run.tells_end;
+  wants_run = run.wants_run;
 }
 
 -- by what `run` is given
@@ -239,10 +248,11 @@ IsRun rows run =
     × (number_of most_entries (first_of (codes "halt-below") rows) ≡ Some run.halt_below)
     × (number_of most_entries (first_of (codes "quota") rows) ≡ Some run.quota) × (run.stop ≡ first_of (codes "stop-by") rows)
     × IsFlag (one_of (codes "console") rows) run.console
+    × IsFlag (one_of (codes "end-status") rows) run.tells_end × IsFlag (one_of (codes "sections-end") rows) run.wants_run
 
 -- nothing of that
 abbrev pub no_run : RunWords
-no_run = record { kept = None; tick = None; halt_below = None; quota = None; stop = None; console = false }
+no_run = record { kept = None; tick = None; halt_below = None; quota = None; stop = None; console = false; tells_end = false; wants_run = false }
 
 -- the same, for `run` alone
 abbrev pub IsRunning : Text × List Row → Choice → RunWords → Type 0

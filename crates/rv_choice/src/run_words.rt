@@ -97,11 +97,11 @@ fn stop_of<'a>(words: &ArgMatches<'a>) -> Option<&'a str>
     words.get_str("stop-by")
 }
 
-// Whether a run has a console, by what it was given.
-fn has_console(words: &ArgMatches<'_>) -> bool
-    ensures { IsFlag (one_of (codes "console") (rows_of (found_of words.now))) result }
+// Whether a run was given a flag.
+fn has_flag(words: &ArgMatches<'_>, name: &str) -> bool
+    ensures { IsFlag (one_of name.now (rows_of (found_of words.now))) result }
 {
-    words.get_flag("console")
+    words.get_flag(name)
 }
 
 /// What a run does beside its commands, by what it was given.
@@ -131,6 +131,8 @@ pub fn run_words<'a>(words: &ArgMatches<'a>) -> Result<RunWords<'a>, Misuse<'a>>
         halt_below,
         quota,
         stop_by: stop_of(words),
-        console: has_console(words),
+        console: has_flag(words, "console"),
+        tells_end: has_flag(words, "end-status"),
+        wants_run: has_flag(words, "sections-end"),
     })
 }

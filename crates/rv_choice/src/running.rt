@@ -3,7 +3,7 @@
 ghost use Rattle.std.specs.Prelude.{◌≡◌, false, IfOk};
 ghost use Rattle.clap.specs.Words.{app_of};
 ghost use Rattle.clap.specs.declared.builder.command.Command.TheViews.{out-Command as fields_of};
-ghost use Rattle.rv_choice.specs.Choices.{attending, consoled, guarding, keeping, running};
+ghost use Rattle.rv_choice.specs.Choices.{attending, consoled, ending, guarding, keeping, running};
 
 use crate::args::{
     FAULT_HELP, coloured, explain_flag, file_arg, flag, noted, sync_arg, with_file, with_value,
@@ -84,12 +84,30 @@ fn consoled_subcommand<'a>(alloc: Global) -> Result<Command<'a>, AllocError>
     command.arg(console)
 }
 
+// The same, whose status may say more of how it ended, and whose sections have to be whole.
+fn ending_subcommand<'a>(alloc: Global) -> Result<Command<'a>, AllocError>
+    ensures app { IfOk result (λ c. app_of c ≡ ending) }
+    ensures local { IfOk result (λ c. (fields_of c).has_globals ≡ false) }
+{
+    let end = flag(
+        alloc,
+        "end-status",
+        "End with status 5 where the run ended by itself, by --halt-below, a full journal or its last command, and with 0 only where it was ended",
+    );
+    let run = flag(
+        alloc,
+        "sections-end",
+        "Start nothing where the input ends before its line @run, since it may have been cut off; status 1",
+    );
+    consoled_subcommand(alloc)?.arg(end)?.arg(run)
+}
+
 /// The same, which may be told of notes.
 pub fn run_subcommand<'a>(alloc: Global) -> Result<Command<'a>, AllocError>
     ensures app { IfOk result (λ c. app_of c ≡ running) }
     ensures local { IfOk result (λ c. (fields_of c).has_globals ≡ false) }
 {
-    let command = consoled_subcommand(alloc)?;
+    let command = ending_subcommand(alloc)?;
     let command = noted(alloc, command)?;
     let command = coloured(alloc, command)?;
     with_file(

@@ -64,13 +64,17 @@ pub struct RunWords<'a> {
     pub stop_by: Option<&'a str>,
     /// Whether a person is served by a console.
     pub console: bool,
+    /// Whether the status says that the run ended by itself.
+    pub tells_end: bool,
+    /// Whether nothing starts where the input ends before its line `@run`.
+    pub wants_run: bool,
 }
 
 impl RunWords<'_> {
     /// Whether there is anything beside its commands.
     pub fn is_attended(&self) -> bool
         ensures { result ≡ (is_some self.now.kept || is_some self.now.tick || is_some self.now.halt_below || is_some self.now.quota
-            || is_some self.now.stop_by || self.now.console) }
+            || is_some self.now.stop_by || self.now.console || self.now.tells_end || self.now.wants_run) }
     {
         self.kept.is_some()
             || self.tick.is_some()
@@ -78,6 +82,8 @@ impl RunWords<'_> {
             || self.quota.is_some()
             || self.stop_by.is_some()
             || self.console
+            || self.tells_end
+            || self.wants_run
     }
 }
 
@@ -112,4 +118,6 @@ pub const NO_RUN: RunWords<'static> = RunWords {
     quota: None,
     stop_by: None,
     console: false,
+    tells_end: false,
+    wants_run: false,
 };

@@ -1,0 +1,151 @@
+//! What is told of a command before it is carried out: what it lacks, and the notes on what it brings.
+
+use rv_access::Change;
+use rv_advice::{change_advice, ticks_advice, word_advice};
+use rv_fault::text_unit;
+use rv_input::Input;
+use rv_notes::change_text;
+use rv_shape::catalogue::Catalogue;
+use rv_shell::Order;
+use rv_staff::say;
+use rv_step::reading::StepError;
+use rv_text::next_word;
+use rv_view::View;
+use std::alloc::{AllocError, Global};
+use std::io::Write;
+
+// Tells a note, where there is one and memory for it.
+fn tell<E: Write>(note: Result<Option<String>, AllocError>, errors: &mut E) {
+    if let Ok(Some(text)) = note {
+        let _ = say(errors, text.as_str());
+    }
+}
+
+// Tells who takes the first word of a line that is no command.
+fn tell_word<E: Write>(alloc: Global, line: &str, has_console: bool, errors: &mut E) {
+    if let Some((word, _)) = next_word(line) {
+        tell(word_advice(alloc, word, has_console), errors);
+    }
+}
+
+/// Tells what a command line that was read so lacks whatever the host is at: how many ticks go by at once, or a console.
+pub(crate) fn tell_plain<E: Write>(
+    alloc: Global,
+    line: &str,
+    read: &Result<Order, StepError>,
+    has_console: bool,
+    errors: &mut E,
+) {
+    match read {
+        Ok(Order::Tick(ticks)) => tell(ticks_advice(alloc, *ticks), errors),
+        Err(StepError::BadStep) => tell_word(alloc, line, has_console, errors),
+        _ => {}
+    }
+}
+
+// Tells which line a change lacks, and the notes on the line that it brings, over the list in force and the units loaded.
+fn tell_change<E: Write>(
+    alloc: Global,
+    catalogue: &Catalogue,
+    view: &View,
+    change: &Change,
+    errors: &mut E,
+) {
+    tell(change_advice(alloc, view.list(), change), errors);
+    if let Ok(text) = change_text(alloc, catalogue, view.list(), change) {
+        let _ = say(errors, text.as_str());
+    }
+}
+
+// How many lines there are, the last of which may lack its line feed.
+fn lines_of(bytes: &[u8]) -> usize {
+    let feeds = bytes.iter().filter(|byte| **byte == b'\n').count();
+    if bytes.len() == 0 || bytes.ends_with(b"\n") {
+        feeds
+    } else {
+        feeds.saturating_add(1)
+    }
+}
+
+// Tells that the unit text behind a `load` lacks its end, so that it is thrown away.
+fn tell_endless<E: Write>(alloc: Global, behind: &[u8], errors: &mut E) {
+    let lines = lines_of(behind);
+    if let Ok(text) = format!(in alloc; "note: no @end: {lines} lines of a unit are thrown away\n")
+    {
+        let _ = say(errors, text.as_str());
+    }
+}
+
+// Tells what can never work of a unit that is to be loaded, by the list in force; nothing of a text that is refused.
+fn tell_unit<E: Write>(
+    alloc: Global,
+    catalogue: &Catalogue,
+    view: &View,
+    text: &str,
+    errors: &mut E,
+) {
+    let Ok(unit) = text_unit(alloc, catalogue, 0, text) else {
+        return;
+    };
+    // TODO N
+}
+
+// Tells of the unit text that these bytes begin with.
+fn tell_load<E: Write>(
+    alloc: Global,
+    catalogue: &Catalogue,
+    view: &View,
+    behind: &[u8],
+    errors: &mut E,
+) {
+    let mut bytes = behind;
+    match Input::new(alloc).unit_text(&mut bytes) {
+        Ok(Some(text)) => tell_unit(alloc, catalogue, view, text.as_str(), errors),
+        Ok(None) => tell_endless(alloc, behind, errors),
+        Err(_) => {}
+    }
+}
+
+// Tells why the fire of a line would be refused now.
+fn tell_raise<E: Write>(
+    alloc: Global,
+    catalogue: &Catalogue,
+    view: &View,
+    line: u8,
+    errors: &mut E,
+) {
+    if view.is_halted() {
+        let _ = say(errors, "note: the host is halted, so no handler starts\n");
+        return;
+    }
+    // TODO N
+}
+
+/// Tells of a command over what is shown of the host, behind which these bytes come of the input: what a change lacks and brings,
+/// why the handler of a line can't start now, and what can never work of a unit that is loaded. Of a halted host only `raise` is
+/// told of.
+pub(crate) fn tell_over<E: Write>(
+    alloc: Global,
+    catalogue: &Catalogue,
+    view: &View,
+    order: &Order,
+    behind: &[u8],
+    errors: &mut E,
+) {
+    match order {
+        Order::Raise(line) => tell_raise(alloc, catalogue, view, *line, errors),
+        Order::Change(Ok(change)) if !view.is_halted() => {
+            tell_change(alloc, catalogue, view, change, errors)
+        }
+        Order::Load if !view.is_halted() => tell_load(alloc, catalogue, view, behind, errors),
+        _ => {}
+    }
+}
+
+/// Whether of such a command something may be told over what is shown of the host.
+pub(crate) fn is_told_over(order: &Order) -> bool {
+    match order {
+        Order::Change(Ok(_)) | Order::Load | Order::Raise(_) => true,
+        _ => false,
+    }
+}
