@@ -133,15 +133,6 @@ fn told_of<R: Wait + Clock + Eprint>(
     told_before(rt, alloc, telling, &mut ahead)
 }
 
-// Says to somebody at a terminal what a run with a console waits for, where no file is named.
-fn greet<R: Eprint>(rt: &R, words: &RunWords<'_>, terminals: Terminals, given: &Given) {
-    if words.console && terminals.input && given.goes_on && given.bytes.len() == 0 {
-        let _ = eprintln!(rt;
-            "ravenhost: the script is read from here up to its line @run; run --console FILE takes it from a file"
-        );
-    }
-}
-
 // What is asked of an attended run.
 fn attention_of(words: &RunWords<'_>, telling: Telling, terminals: Terminals) -> Attention {
     let typing = if terminals.input {
@@ -183,7 +174,6 @@ where
     };
     let mut source = Listening { rt, feed, stop };
     let mut input = opened_input(alloc, given.bytes.as_slice())?;
-    greet(rt, &words, means.terminals, given);
     let before = told_of(
         rt,
         alloc,
