@@ -4,6 +4,7 @@ use rv_access::Change;
 use rv_advice::{change_advice, ticks_advice, word_advice};
 use rv_fault::text_unit;
 use rv_input::Input;
+use rv_never::{firing_text, load_text};
 use rv_notes::change_text;
 use rv_shape::catalogue::Catalogue;
 use rv_shell::Order;
@@ -13,6 +14,9 @@ use rv_text::next_word;
 use rv_view::View;
 use std::alloc::{AllocError, Global};
 use std::io::Write;
+
+// A unit text that a command brings stands at no line of the script.
+const NO_LINE: usize = 0;
 
 // Tells a note, where there is one and memory for it.
 fn tell<E: Write>(note: Result<Option<String>, AllocError>, errors: &mut E) {
@@ -52,7 +56,7 @@ fn tell_change<E: Write>(
     errors: &mut E,
 ) {
     tell(change_advice(alloc, view.list(), change), errors);
-    if let Ok(text) = change_text(alloc, catalogue, view.list(), change) {
+    if let Ok(text) = change_text(alloc, catalogue, view.list(), change, view.clock()) {
         let _ = say(errors, text.as_str());
     }
 }
@@ -84,10 +88,12 @@ fn tell_unit<E: Write>(
     text: &str,
     errors: &mut E,
 ) {
-    let Ok(unit) = text_unit(alloc, catalogue, 0, text) else {
+    let Ok(unit) = text_unit(alloc, catalogue, NO_LINE, text) else {
         return;
     };
-    // TODO N
+    if let Ok(text) = load_text(alloc, catalogue, &unit, view.list(), view.clock()) {
+        let _ = say(errors, text.as_str());
+    }
 }
 
 // Tells of the unit text that these bytes begin with.
@@ -118,7 +124,9 @@ fn tell_raise<E: Write>(
         let _ = say(errors, "note: the host is halted, so no handler starts\n");
         return;
     }
-    // TODO N
+    if let Ok(text) = firing_text(alloc, catalogue, view.list(), view.clock(), line as usize) {
+        let _ = say(errors, text.as_str());
+    }
 }
 
 /// Tells of a command over what is shown of the host, behind which these bytes come of the input: what a change lacks and brings,
