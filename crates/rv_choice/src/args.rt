@@ -48,7 +48,7 @@ fn notes_flag<'a>(alloc: Global) -> Arg<'a>
         alloc,
         "notes",
         "WHEN",
-        "Tell of misspelt names and covered lines in lists, on standard error: auto (at a terminal), always or never",
+        "Tell of lines of lists that can't be meant so and of calls that can never start, on standard error: auto (at a terminal), always or never",
     )
 }
 
