@@ -36,6 +36,8 @@ pub struct Follower<'a, T, F> {
     pub(crate) given: Given,
     // How many lines were served that weren't `quit`.
     pub(crate) served: usize,
+    // Whether the next line is as the end of input.
+    pub(crate) is_cut_off: bool,
     // Whether it was told that a unit text is waited for.
     pub(crate) is_hinted: bool,
 }
@@ -62,6 +64,7 @@ impl<'a, T, F> Follower<'a, T, F> {
             notices: None,
             given: Given::new(alloc),
             served: 0,
+            is_cut_off: false,
             is_hinted: false,
         }
     }
@@ -71,8 +74,9 @@ impl<'a, T, F> Follower<'a, T, F> {
         self.served >= MOST_COMMANDS
     }
 
-    /// Whether the run ended by itself, once it has ended: for want of room in its journal, or behind its last command.
+    /// Whether the run ended by itself, once it has ended: for want of room in its journal, behind its last command, or at a line
+    /// that is none.
     pub fn has_ended(&self) -> bool {
-        self.room.has_ended || self.is_served_out()
+        self.room.has_ended || self.is_cut_off || self.is_served_out()
     }
 }

@@ -8,6 +8,7 @@ mod beside;
 mod closing;
 mod console;
 mod due;
+mod ending;
 mod explaining;
 mod follower;
 mod kept;

@@ -14,6 +14,7 @@ ghost use Rattle.rv_staff.specs.Saying.{Known};
 use crate::attention::Attention;
 use crate::console::{answer_word, leave, prompt};
 use crate::due::do_chores;
+use crate::ending::look_at_line;
 use crate::follower::Follower;
 use crate::notes::{keep_word, tell_before};
 use crate::waiting::wait_caught_up;
@@ -59,7 +60,10 @@ fn wait_prompted<T: Wait + Clock, W: Write, E: Write, F: Write>(
 {
     match wait_caught_up(rt, session, follower, input, &mut outputs.errors) {
         Ok(Goes::Out) => of_run(leave(&follower.asked, &mut outputs.writer)),
-        Ok(Goes::On) => Ok(Goes::On),
+        Ok(Goes::On) => {
+            look_at_line(follower, &*input, &mut outputs.errors);
+            Ok(Goes::On)
+        }
         Err(failure) => Err(failure),
     }
 }

@@ -92,7 +92,7 @@ fn ending_subcommand<'a>(alloc: Global) -> Result<Command<'a>, AllocError>
     let end = flag(
         alloc,
         "end-status",
-        "End with status 5 where the run ended by itself: by --halt-below, for want of room, or behind its last command",
+        "End with status 5 where the run ended by itself: by --halt-below, for want of room, behind its last command, or at a line that is none",
     );
     let run = flag(
         alloc,
