@@ -15,10 +15,10 @@ const NO_TEXT: &str = "note: the run ends, since this line isn't UTF-8\n";
 
 const TOO_LONG: &str = "note: the run ends, since its input is longer than 16777216 bytes\n";
 
-// The first line of bytes, without its line feed.
+// The first line of bytes, with its line feed where it has one.
 fn first_line(bytes: &[u8]) -> &[u8] {
     match bytes.iter().position(|byte| *byte == b'\n') {
-        Some(end) => &bytes[..end],
+        Some(end) => &bytes[..=end],
         None => bytes,
     }
 }
