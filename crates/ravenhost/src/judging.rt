@@ -1,8 +1,12 @@
 //! The subcommand `audit`.
 
 use crate::progress::Progress;
+use crate::reading::read;
 use crate::status::Stop;
+use crate::telling::{Telling, ended};
+use crate::unread::{Noting, note_file, note_journals, note_section};
 use rv_fault::Failure;
+use rv_shown::Shown;
 use rv_verdict::{audit, audit_explained, audit_file, audit_file_explained};
 use std::alloc::Global;
 use std::fs;
@@ -31,22 +35,69 @@ fn unless_legal(is_legal: bool) -> Result<(), Stop> {
     }
 }
 
-/// Judges the journal of a script, and explains its ends where that is asked for.
-pub fn judge<I: Read, W: Write>(
+// How notes of an audit are told.
+fn noting_of(telling: Telling) -> Noting {
+    Noting {
+        is_shown: telling.is_shown,
+        is_coloured: telling.is_coloured,
+    }
+}
+
+// What a script was refused for, explained where that is asked for.
+fn refused<R: Eprint>(
+    rt: &R,
     alloc: Global,
+    telling: Telling,
+    script: &[u8],
+    failure: Failure,
+) -> Result<(), Stop> {
+    ended(rt, alloc, telling, script, Err(failure))
+}
+
+// The script that a reader gives.
+fn script_in<I: Read>(alloc: Global, reader: &mut I) -> Result<Vec<u8>, Stop> {
+    match read(alloc, reader) {
+        Ok(script) => Ok(script),
+        Err(failure) => Err(Stop::Failed(failure)),
+    }
+}
+
+// Judges the journal that a script brings. Gives whether nothing is found against it, and whether it is legal.
+fn judged_section<W: Write>(
+    alloc: Global,
+    explains: bool,
+    script: &[u8],
+    writer: &mut W,
+) -> Result<(bool, bool), Failure> {
+    let mut bytes = script;
+    if explains {
+        let told = audit_explained(alloc, &mut bytes, writer)?;
+        return Ok((told.is_legal && told.is_explained, told.is_legal));
+    }
+    let is_legal = audit(alloc, &mut bytes, writer)?;
+    Ok((is_legal, is_legal))
+}
+
+/// Judges the journal of a script, and explains its ends where that is asked for; notes say why it is unreadable.
+pub fn judge<R: Eprint, I: Read, W: Write>(
+    rt: &R,
+    alloc: Global,
+    telling: Telling,
     explains: bool,
     reader: &mut I,
     writer: &mut W,
 ) -> Result<(), Stop> {
-    if explains {
-        return match audit_explained(alloc, reader, writer) {
-            Ok(told) => unless_legal(told.is_legal && told.is_explained),
-            Err(failure) => Err(Stop::Failed(failure)),
-        };
-    }
-    match audit(alloc, reader, writer) {
-        Ok(is_legal) => unless_legal(is_legal),
-        Err(failure) => Err(Stop::Failed(failure)),
+    let script = script_in(alloc, reader)?;
+    match judged_section(alloc, explains, script.as_slice(), writer) {
+        Ok((is_right, is_legal)) => {
+            let noting = noting_of(telling);
+            if !is_legal {
+                note_section(rt, alloc, noting, script.as_slice());
+            }
+            note_journals(rt, alloc, noting, script.as_slice());
+            unless_legal(is_right)
+        }
+        Err(failure) => refused(rt, alloc, telling, script.as_slice(), failure),
     }
 }
 
@@ -59,45 +110,100 @@ fn tell_torn<R: Eprint>(rt: &R, bytes: usize) {
     }
 }
 
-// Judges what a journal's file holds. Gives whether nothing is found against it, and how many bytes were cut off.
-fn judged<R: Clock + Eprint, I: Read, J: Read, W: Write>(
+// What is found of a journal's file.
+#[derive(Clone, Copy)]
+struct Found {
+    // Whether nothing is found against it, its ends among that where they are explained.
+    is_right: bool,
+    // Whether it is legal.
+    is_legal: bool,
+    // How many bytes were cut off.
+    torn: usize,
+}
+
+// Judges what a journal's file holds.
+fn judged<R: Clock + Eprint, J: Read, W: Write>(
     alloc: Global,
     file: AuditedFile<'_>,
-    reader: &mut I,
+    script: &[u8],
     journal: &mut J,
     progress: &mut Progress<'_, R>,
     writer: &mut W,
-) -> Result<(bool, usize), Failure> {
+) -> Result<Found, Failure> {
+    let mut bytes = script;
     if file.explains {
-        let told = audit_file_explained(alloc, reader, journal, file.takes_torn, progress, writer)?;
-        return Ok((told.is_legal && told.is_explained, told.torn));
+        let told = audit_file_explained(
+            alloc,
+            &mut bytes,
+            journal,
+            file.takes_torn,
+            progress,
+            writer,
+        )?;
+        return Ok(Found {
+            is_right: told.is_legal && told.is_explained,
+            is_legal: told.is_legal,
+            torn: told.torn,
+        });
     }
-    let told = audit_file(alloc, reader, journal, file.takes_torn, progress, writer)?;
-    Ok((told.is_legal, told.torn))
+    let told = audit_file(
+        alloc,
+        &mut bytes,
+        journal,
+        file.takes_torn,
+        progress,
+        writer,
+    )?;
+    Ok(Found {
+        is_right: told.is_legal,
+        is_legal: told.is_legal,
+        torn: told.torn,
+    })
 }
 
-/// Judges a journal in a file of its own over the sections of a script.
+/// Judges a journal in a file of its own over the sections of a script; a note says why it is unreadable.
 pub fn judge_file<R: Files + Clock + Eprint, I: Read, W: Write>(
     rt: &R,
     alloc: Global,
+    telling: Telling,
     file: AuditedFile<'_>,
     reader: &mut I,
     writer: &mut W,
 ) -> Result<(), Stop> {
-    let name = file.name;
-    let mut journal = match fs::open(rt, name) {
+    let name = Shown { text: file.name };
+    let mut journal = match fs::open(rt, file.name) {
         Ok(journal) => journal,
         Err(e) => {
             let _ = eprintln!(rt; "ravenhost: {name}: {e}");
             return Err(Stop::BadFile);
         }
     };
+    let script = script_in(alloc, reader)?;
     let mut progress = Progress::new(rt, file.is_watched);
-    match judged(alloc, file, reader, &mut journal, &mut progress, writer) {
-        Ok((is_right, torn)) => {
-            tell_torn(rt, torn);
-            unless_legal(is_right)
+    let done = judged(
+        alloc,
+        file,
+        script.as_slice(),
+        &mut journal,
+        &mut progress,
+        writer,
+    );
+    match done {
+        Ok(found) => {
+            tell_torn(rt, found.torn);
+            if !found.is_legal {
+                let number = progress.entries.saturating_add(1);
+                note_file(
+                    rt,
+                    alloc,
+                    noting_of(telling),
+                    script.as_slice(),
+                    &mut journal,
+                    number,
+                );
+            }
+            unless_legal(found.is_right)
         }
-        Err(failure) => Err(Stop::Failed(failure)),
+        Err(failure) => refused(rt, alloc, telling, script.as_slice(), failure),
     }
 }

@@ -15,6 +15,8 @@ pub struct Progress<'a, R> {
     rt: &'a R,
     is_shown: bool,
     told: Option<Instant>,
+    /// How many entries were found right so far.
+    pub entries: usize,
 }
 
 impl<'a, R: Clock> Progress<'a, R> {
@@ -24,6 +26,7 @@ impl<'a, R: Clock> Progress<'a, R> {
             rt,
             is_shown,
             told: Instant::now(rt).ok(),
+            entries: 0,
         }
     }
 
@@ -44,6 +47,7 @@ impl<'a, R: Clock> Progress<'a, R> {
 
 impl<'a, R: Clock + Eprint> Watch for Progress<'a, R> {
     fn passed(&mut self, entries: usize) {
+        self.entries = entries;
         if self.is_shown && entries % BETWEEN == 0 && self.is_due() {
             let _ = eprintln!(self.rt; "ravenhost: {entries} entries so far");
         }

@@ -9,6 +9,7 @@ use rv_fault::Failure;
 use rv_input::{Before, Input};
 use rv_run::command::of_input;
 use rv_script::{ReadError, read_script};
+use rv_shown::Shown;
 use std::alloc::Global;
 use std::io::Read;
 use std::rt::Files;
@@ -36,6 +37,7 @@ pub struct Given {
 
 // Tells why a file can't be read.
 fn unreadable<R: Eprint>(rt: &R, name: &str, error: &io::Error) -> Stop {
+    let name = Shown { text: name };
     let _ = eprintln!(rt; "ravenhost: {name}: {error}");
     Stop::BadFile
 }

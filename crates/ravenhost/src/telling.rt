@@ -48,6 +48,18 @@ pub fn telling_of(chosen: &Selection<'_>, is_watched: bool, has_colors: bool) ->
     }
 }
 
+/// What is told of an audit, which has no flag for notes: they are told, and a script's fault is explained, where somebody waits at a
+/// terminal. Its flag `--explain` is for ends.
+pub fn of_audit(telling: Telling, is_watched: bool) -> Telling {
+    Telling {
+        is_shown: is_watched,
+        tells: is_watched,
+        are_errors: false,
+        explains: is_watched,
+        is_coloured: telling.is_coloured,
+    }
+}
+
 // Tells notes on lists: those before the first step, and unless they end the program the others.
 fn show<R: Eprint>(rt: &R, is_coloured: bool, warnings: &Warnings, is_end: bool) {
     let _ = tell(rt, is_coloured, warnings.first.as_str());

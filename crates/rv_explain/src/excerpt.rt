@@ -1,7 +1,7 @@
 //! A line of a script with a caret under a place, as compilers show it.
 
 use crate::spot::Spot;
-use rv_cause::cause::shown;
+use rv_shown::{put_shown, width};
 use std::fmt;
 
 // How many characters of a line are shown before the place, and from it on.
@@ -37,6 +37,14 @@ fn put_blanks<W: fmt::Write>(f: &mut fmt::Formatter<W>, count: usize) -> fmt::Re
     Ok(())
 }
 
+// Puts what stands below a character, which is as wide.
+fn put_below<W: fmt::Write>(f: &mut fmt::Formatter<W>, character: char) -> fmt::Result {
+    if character == '\t' {
+        return f.write_str("\t");
+    }
+    put_blanks(f, width(character))
+}
+
 impl<'a> Excerpt<'a> {
     /// The line of a place.
     pub fn new(spot: Spot<'a>) -> Excerpt<'a> {
@@ -62,7 +70,7 @@ impl<'a> Excerpt<'a> {
                 return f.write_str("...");
             }
             if column >= self.first() {
-                f.write_char(shown(character))?;
+                put_shown(f, character)?;
             }
             column = column.saturating_add(1);
         }
@@ -79,7 +87,7 @@ impl<'a> Excerpt<'a> {
                 return f.write_str("^");
             }
             if column >= self.first() {
-                f.write_str(if character == '\t' { "\t" } else { " " })?;
+                put_below(f, character)?;
             }
             column = column.saturating_add(1);
         }

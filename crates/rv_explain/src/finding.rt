@@ -1,14 +1,17 @@
 //! Finds what is said of a fault.
 
+use crate::bytes::of_bytes;
 use crate::explanation::{Explanation, nothing, of_line, of_part, of_script};
 use crate::parts::{known_before, load_at, opening_before, part_at, texts_before};
+use crate::sections::bad_section;
 use crate::spot::{Spot, line_spot};
+use crate::taken::line_taken_by_shape;
 use crate::units::of_unit;
 use rv_access::ListFault;
 use rv_cause::cause::Cause;
 use rv_cause::known::Known;
 use rv_cause::line::Line;
-use rv_cause::{commands, lists, loaded, sections, settings, shapes, steps};
+use rv_cause::{commands, lists, loaded, settings, shapes, steps};
 use rv_fault::{Part, ScriptFault, What};
 use rv_script::unit_text::unit_text;
 use rv_script::{Opening, TextError, opening_of, text_of};
@@ -122,7 +125,7 @@ fn cause_of_line<'a>(
     what: What,
 ) -> Result<Cause<'a>, AllocError> {
     match what {
-        What::BadSection => sections::bad_section(alloc, text, opening_before(script, line)),
+        What::BadSection => bad_section(alloc, text, opening_before(script, line)),
         What::UnknownName => Ok(Cause::plain(0, UNKNOWN_IN_A_DEVICE)),
         What::TooLong => Ok(Cause::plain(0, TOO_LONG)),
         _ => cause_of_step(alloc, script, line, text),
@@ -217,6 +220,9 @@ fn of_shape<'a>(
     if part.opening == Some(Opening::Settings) {
         return of_part(alloc, part, &Cause::plain(0, NO_ROOM_FOR_A_DEVICE), &known);
     }
+    if fault == ShapeFault::LineTaken {
+        return line_taken_by_shape(alloc, script, part);
+    }
     let text = unit_text(alloc, part.text)?;
     let lines = shapes::lines_of(alloc, text.as_str())?;
     let cause = cause_of_shape(alloc, script, part.line, lines.as_slice(), fault)?;
@@ -264,7 +270,7 @@ fn found(alloc: Global, script: &[u8], fault: ScriptFault) -> Result<Explanation
                 "a script has at most 16777216 bytes; this one has more",
             );
         }
-        Err(TextError::NotText) => return of_script(alloc, "the script isn't UTF-8"),
+        Err(TextError::NotText) => return of_bytes(alloc, script),
     };
     match fault.what {
         What::List(told) => of_list(alloc, text, fault.line, told),
@@ -275,6 +281,35 @@ fn found(alloc: Global, script: &[u8], fault: ScriptFault) -> Result<Explanation
 /// What is said below the line of a fault that was told of a script.
 pub fn explain(alloc: Global, script: &[u8], fault: ScriptFault) -> Explanation<'_> {
     match found(alloc, script, fault) {
+        Ok(explanation) => explanation,
+        Err(_) => nothing(alloc),
+    }
+}
+
+// What is said of a command behind `@run`, by its own line.
+fn of_command<'a>(
+    alloc: Global,
+    number: usize,
+    line: &'a str,
+    what: What,
+) -> Result<Explanation<'a>, AllocError> {
+    let words = Line::of(alloc, line, 0)?;
+    let cause = match what {
+        What::List(fault) => cause_of_list(&words, first_of_step(&words), fault)?,
+        _ => commands::bad_command(&words),
+    };
+    let spot = Spot {
+        number,
+        line,
+        offset: 0,
+    };
+    of_line(alloc, &spot, &cause, &Known::new(alloc))
+}
+
+/// What `explain` says of a fault of a command behind `@run` other than `load`, whose line has this number in the script. No other line is
+/// looked at, so what it takes doesn't grow with the script.
+pub fn explain_command(alloc: Global, number: usize, line: &str, what: What) -> Explanation<'_> {
+    match of_command(alloc, number, line, what) {
         Ok(explanation) => explanation,
         Err(_) => nothing(alloc),
     }

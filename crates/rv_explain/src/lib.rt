@@ -2,15 +2,22 @@
 //! caret under the word at fault, and what is wrong with it (`CAUSES.md` has the closed list).
 #![tactic(auto)]
 
+mod also;
+mod attached;
+mod bytes;
+mod ceilings;
 mod excerpt;
 mod explanation;
 mod finding;
 mod grammar;
+mod members;
 mod parts;
 mod places;
+mod sections;
 pub mod spot;
+mod taken;
 mod units;
 mod wanted;
 
 pub use explanation::Explanation;
-pub use finding::explain;
+pub use finding::{explain, explain_command};

@@ -2,16 +2,19 @@
 
 use rv_cause::known::Known;
 use rv_cause::loaded::add_shape;
-use rv_fault::{Part, Parts};
+use rv_fault::{Failure, Part, Parts, shape_of, unit_of};
 use rv_lex::lexer::tokens;
 use rv_lex::token::Tokens;
 use rv_script::Opening;
+use rv_shape::catalogue::Catalogue;
+use rv_shape::fault::ShapeFault;
+use rv_shape::shape::UnitShape;
 use rv_text::{next_word, open_script, without_return};
 use std::alloc::{AllocError, Global};
 
-// The parts of a script, its settings among them; of one that is too long none.
+/// The parts of a script, its settings among them; of one that is too long none.
 #[tactic(auto, using(rv_script::proofs::Numbered::are_numbered))]
-fn parts_of(script: &str) -> Parts<'_> {
+pub(crate) fn parts_of(script: &str) -> Parts<'_> {
     if script.len() > 16_777_216 {
         let (_, none) = open_script("");
         return Parts::of(none);
@@ -108,8 +111,8 @@ fn loaded_before<'a>(part: &Part<'a>, line: usize) -> Option<&'a str> {
     None
 }
 
-// The unit text that a part has before a line: its own, or that of a `load`, whose end opens nothing.
-fn unit_text_before<'a>(part: &Part<'a>, line: usize) -> Option<&'a str> {
+/// The unit text that a part has before a line: its own, or that of a `load`, whose end opens nothing.
+pub(crate) fn unit_text_before<'a>(part: &Part<'a>, line: usize) -> Option<&'a str> {
     if part.line >= line {
         return None;
     }
@@ -167,4 +170,46 @@ pub(crate) fn known_before<'a>(
     }
     add_shapes(alloc, script, line, &mut known)?;
     Ok(known)
+}
+
+// The unit that a part loads before a line, behind others, if it loads one that is right.
+fn unit_before(
+    alloc: Global,
+    catalogue: &Catalogue,
+    part: &Part<'_>,
+    line: usize,
+) -> Result<Option<UnitShape>, AllocError> {
+    let read = match unit_text_before(part, line) {
+        Some(text) => match unit_of(alloc, catalogue, part.line, text) {
+            Ok(unit) => Ok(unit.shape),
+            Err(failure) => Err(failure),
+        },
+        None if part.line < line && part.opening == Some(Opening::Shape) => {
+            shape_of(alloc, part.line, part.text)
+        }
+        None => return Ok(None),
+    };
+    match read {
+        Ok(shape) => Ok(Some(shape)),
+        Err(Failure::Memory) => Err(AllocError),
+        Err(_) => Ok(None),
+    }
+}
+
+/// The units that the parts before a line load, as far as they fit; those of devices aside.
+pub(crate) fn catalogue_before(
+    alloc: Global,
+    script: &str,
+    line: usize,
+) -> Result<Catalogue, AllocError> {
+    let mut catalogue = Catalogue::new(alloc);
+    let mut parts = parts_of(script);
+    'each: while let Some(part) = parts.next_part() {
+        if let Some(shape) = unit_before(alloc, &catalogue, &part, line)? {
+            if let Err(ShapeFault::NoMemory) = catalogue.add(&shape) {
+                return Err(AllocError);
+            }
+        }
+    }
+    Ok(catalogue)
 }

@@ -1,7 +1,6 @@
 //! Where in a unit text a fault stands.
 
 use rv_lex::fault::LexFault;
-use rv_names::NameFault;
 use rv_parse::ParseFault;
 use rv_static::TypeFault;
 use rv_unit::UnitFault;
@@ -26,18 +25,6 @@ fn place_of_grammar(fault: ParseFault) -> Option<usize> {
     }
 }
 
-// The same of a fault of names.
-fn place_of_names(fault: NameFault) -> Option<usize> {
-    match fault {
-        NameFault::Unknown(at)
-        | NameFault::Duplicate(at)
-        | NameFault::NotVisible(at)
-        | NameFault::WrongKind(at)
-        | NameFault::EndName(at) => Some(at),
-        NameFault::NoMemory => None,
-    }
-}
-
 // The same of a fault of types.
 fn place_of_types(fault: TypeFault) -> Option<usize> {
     match fault {
@@ -57,7 +44,7 @@ pub(crate) fn place_of(fault: UnitFault) -> Option<usize> {
         UnitFault::Lex(fault) => place_of_words(fault),
         UnitFault::Parse(fault) => place_of_grammar(fault),
         UnitFault::Restriction(violation) => Some(violation.place),
-        UnitFault::Names(fault) => place_of_names(fault),
+        UnitFault::Names(fault) => rv_further::place_of(fault),
         UnitFault::Types(fault) => place_of_types(fault),
         UnitFault::Shape(_) | UnitFault::NoMemory => None,
     }

@@ -1,9 +1,14 @@
 //! The cause of a fault of a unit text.
 
+use crate::also::{Also, also_of};
+use crate::attached::attached_in;
+use crate::ceilings::ceiling_too_low;
 use crate::explanation::{Explanation, of_part};
 use crate::grammar::Stop;
-use crate::parts::{known_before, texts_before};
+use crate::members;
+use crate::parts::{catalogue_before, known_before, texts_before};
 use crate::places::place_of;
+use crate::taken::line_taken;
 use crate::wanted::wanted_types;
 use rv_cause::around::Around;
 use rv_cause::cases::told;
@@ -12,6 +17,7 @@ use rv_cause::known::Known;
 use rv_cause::words::Words;
 use rv_cause::{grammar, lexical, names, nulls, restrictions, shapes, types, unknown};
 use rv_fault::Part;
+use rv_further::further;
 use rv_lex::fault::LexFault;
 use rv_lex::lexer::tokens;
 use rv_lex::token::Token;
@@ -143,7 +149,10 @@ fn of_names<'a>(
 ) -> Result<Cause<'a>, AllocError> {
     let words = &seen.words;
     match fault {
-        NameFault::Unknown(_) => unknown::unknown(alloc, words, &seen.around, seen.known),
+        NameFault::Unknown(_) => match members::unknown(words, &seen.around, seen.known) {
+            Some(cause) => Ok(cause),
+            None => unknown::unknown(alloc, words, &seen.around, seen.known),
+        },
         NameFault::Duplicate(_) => Ok(names::duplicate(words, &seen.around, seen.known)),
         NameFault::NotVisible(_) => {
             Ok(names::not_visible(seen.tokens, words, &seen.around, seen.known))
@@ -169,7 +178,10 @@ fn of_types<'a>(
         }
         TypeFault::NotStatic(_) => Ok(types::not_static(words)),
         TypeFault::ConstantWritten(_) => {
-            Ok(types::constant_written(words, &seen.around, seen.known))
+            match members::constant_written(words, &seen.around, seen.known) {
+                Some(cause) => Ok(cause),
+                None => Ok(types::constant_written(words, &seen.around, seen.known)),
+            }
         }
         TypeFault::BadMode(_) => Ok(types::bad_mode(words, &seen.around, seen.known)),
         TypeFault::TooLarge(_) => Ok(types::too_large(words, &seen.around, seen.known)),
@@ -273,6 +285,77 @@ fn without_words(alloc: Global, text: &str, fault: UnitFault) -> Cause<'_> {
     }
 }
 
+// What is said of a fault of procedures that are attached to lines of interrupts, if it is one whose place is found.
+fn of_attached<'a>(
+    alloc: Global,
+    script: &'a str,
+    part: &Part<'a>,
+    tokens: &[Token<'_>],
+    fault: ShapeFault,
+) -> Result<Option<Explanation<'a>>, AllocError> {
+    let attached = attached_in(alloc, tokens)?;
+    match fault {
+        ShapeFault::LineTaken => {
+            let at = Words::at(tokens, package_place(tokens)).place(1);
+            let told = line_taken(alloc, script, part, attached.as_slice(), at)?;
+            Ok(Some(told))
+        }
+        ShapeFault::CeilingTooLow => match ceiling_too_low(tokens, attached.as_slice()) {
+            Some(cause) => Ok(Some(of_part(alloc, part, &cause, &Known::new(alloc))?)),
+            None => Ok(None),
+        },
+        _ => Ok(None),
+    }
+}
+
+// The further faults of names of the text of a part, behind its first.
+fn further_of<'a>(
+    alloc: Global,
+    script: &str,
+    part: &Part<'_>,
+    text: &'a str,
+    tokens: &[Token<'a>],
+    known: &Known<'a>,
+    first: NameFault,
+) -> Result<Vec<Also>, AllocError> {
+    let catalogue = catalogue_before(alloc, script, part.line)?;
+    let found = further(alloc, text, tokens, &catalogue, known, first)?;
+    let mut told = Vec::new(alloc);
+    for fault in found.as_slice() {
+        if let Some(place) = rv_further::place_of(*fault) {
+            let cause = of_names(alloc, &seen_at(tokens, known, place), *fault)?;
+            told.push(also_of(alloc, part, &cause, known)?)?;
+        }
+    }
+    Ok(told)
+}
+
+// What is said of a fault of a text of these words, where this is known.
+fn of_known<'a, 't>(
+    alloc: Global,
+    script: &'a str,
+    part: &Part<'a>,
+    text: &'t str,
+    tokens: &[Token<'t>],
+    known: &Known<'t>,
+    fault: UnitFault,
+) -> Result<Explanation<'a>, AllocError> {
+    if let UnitFault::Shape(fault) = fault {
+        if let Some(told) = of_attached(alloc, script, part, tokens, fault)? {
+            return Ok(told);
+        }
+    }
+    let cause = cause_of(alloc, text, tokens, known, fault)?;
+    let told = of_part(alloc, part, &cause, known)?;
+    match fault {
+        UnitFault::Names(first) => {
+            let also = further_of(alloc, script, part, text, tokens, known, first)?;
+            Ok(told.with_also(also))
+        }
+        _ => Ok(told),
+    }
+}
+
 /// What is said of a fault of the unit text of a part.
 pub(crate) fn of_unit<'a>(
     alloc: Global,
@@ -290,6 +373,13 @@ pub(crate) fn of_unit<'a>(
     if knows_itself(fault) {
         known.add_text(own.as_slice(), true)?;
     }
-    let cause = cause_of(alloc, text.as_str(), own.as_slice(), &known, fault)?;
-    of_part(alloc, part, &cause, &known)
+    of_known(
+        alloc,
+        script,
+        part,
+        text.as_str(),
+        own.as_slice(),
+        &known,
+        fault,
+    )
 }

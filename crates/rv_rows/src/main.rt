@@ -20,6 +20,8 @@
 //! --write` writes it, by a judge of its own). The words are the lines that are said, joined by `; `, and a fault at the end
 //! of the last section's text is `at end`.
 //!
+//! Where there is a `NAME.unread`, it is what notes tell below the verdict: why a journal is unreadable, and which were passed over.
+//!
 //! `NAME.grammar` is a file of unit texts, one a line, and of what the grammar says of each (src/grammars.rt).
 //!
 //! With two numbers on its command line, which of how many shares, it cuts and damages each script instead, at the places of
@@ -32,6 +34,7 @@ mod ends;
 mod fronts;
 mod grammars;
 mod grown;
+mod unread;
 
 use cut::{Ends, Share};
 use deeds::{Deed, carry_out, given};
@@ -46,6 +49,7 @@ use rv_exec::machine::STACK_BYTES;
 use rv_fault::Failure;
 use std::alloc::Global;
 use std::{env, io, thread};
+use unread::told_below;
 
 /// Adds what is told of the lists of a script.
 fn add_notes(warnings: Result<Warnings, Failure>, given: &mut Vec<u8>) -> io::Result<()> {
@@ -323,6 +327,21 @@ fn fronts_told(rt: &HostRuntime, name: &str, due: &[u8]) -> io::Result<String> {
     Ok(format!(in alloc; "{name}: cuts differ at line {line}: {found}")?)
 }
 
+/// Whether what notes tell below the verdict on a journal is what they have to tell, in words.
+fn told_unread(rt: &HostRuntime, name: &str, due: &[u8]) -> io::Result<String> {
+    let alloc = rt.alloc();
+    let script = bytes_of(rt, name, "raven")?.unwrap_or(Vec::new(alloc));
+    let file = bytes_of(rt, name, "file")?;
+    let told = match told_below(alloc, script.as_slice(), &file) {
+        Ok(told) => told,
+        Err(_) => String::from_str(alloc, "nothing")?,
+    };
+    if told.as_bytes() == due {
+        return Ok(format!(in alloc; "{name}: notes ok")?);
+    }
+    Ok(format!(in alloc; "{name}: notes tell {told}")?)
+}
+
 /// Whether what the grammar says of the unit texts of a file is what has to be said, in words.
 fn told_of_grammar(rt: &HostRuntime, name: &str) -> io::Result<String> {
     let alloc = rt.alloc();
@@ -365,6 +384,10 @@ fn tell_all(rt: &HostRuntime) -> io::Result<()> {
         }
         if let Some(due) = bytes_of(rt, name.as_str(), "cuts")? {
             let line = fronts_told(rt, name.as_str(), due.as_slice())?;
+            println!(rt; "{line}")?;
+        }
+        if let Some(due) = bytes_of(rt, name.as_str(), "unread")? {
+            let line = told_unread(rt, name.as_str(), due.as_slice())?;
             println!(rt; "{line}")?;
         }
     }
