@@ -6,6 +6,7 @@ use clap::error::ErrorKind;
 use rv_choice::chosen::{Unchosen, chosen};
 use rv_choice::selection::Selection;
 use rv_fault::Failure;
+use rv_shown::Shown;
 use std::alloc::Global;
 use std::rt::Env;
 use std::{env, io};
@@ -13,16 +14,37 @@ use std::{env, io};
 // What stands below what is wrong with a command line, as clap has it.
 const HINT: &str = "\n\nFor more information, try '--help'.\n";
 
+// Writes lines to standard error, as they are shown: words of the command line stand in them.
+fn tell_shown<R: Eprint>(rt: &R, text: &str) {
+    for line in text.split_inclusive('\n') {
+        let _ = match line.strip_suffix('\n') {
+            Some(front) => {
+                let shown = Shown { text: front };
+                eprintln!(rt; "{shown}")
+            }
+            None => {
+                let shown = Shown { text: line };
+                eprint!(rt; "{shown}")
+            }
+        };
+    }
+}
+
 // What is told of a line that chooses no subcommand: the version on standard output, and usage or help
 // on standard error.
-fn told<R: Print + Eprint>(rt: &R, error: &Error) -> Stop {
+fn told<R: Print + Eprint>(rt: &R, alloc: Global, error: &Error) -> Stop {
     if error.kind() == ErrorKind::DisplayVersion {
         return match print!(rt; "{error}") {
             Ok(()) => Stop::Told,
             Err(e) => Stop::Failed(Failure::Io(e)),
         };
     }
-    let _ = eprint!(rt; "{error}");
+    match format!(in alloc; "{error}") {
+        Ok(text) => tell_shown(rt, text.as_str()),
+        Err(_) => {
+            let _ = eprint!(rt; "{error}");
+        }
+    }
     Stop::Usage
 }
 
@@ -56,22 +78,27 @@ pub fn choice<'a, R: Print + Eprint>(
     match chosen(alloc, words) {
         Ok(chosen) => Ok(chosen),
         Err(Unchosen::NoMemory) => Err(Stop::Failed(Failure::Memory)),
-        Err(Unchosen::Usage(e)) => Err(told(rt, &e)),
+        Err(Unchosen::Usage(e)) => Err(told(rt, alloc, &e)),
         Err(Unchosen::NoCommand) => {
             let _ = eprint!(rt; "error: no such command{HINT}");
             Err(Stop::Usage)
         }
         Err(Unchosen::Misused(misuse)) => {
-            let _ = eprint!(rt; "error: {misuse}{HINT}");
+            match format!(in alloc; "error: {misuse}{HINT}") {
+                Ok(text) => tell_shown(rt, text.as_str()),
+                Err(_) => {
+                    let _ = eprint!(rt; "error: {misuse}{HINT}");
+                }
+            }
             Err(Stop::Usage)
         }
     }
 }
 
 // Prints help on standard output.
-fn printed<R: Print + Eprint>(rt: &R, error: &Error) -> Result<(), Stop> {
+fn printed<R: Print + Eprint>(rt: &R, alloc: Global, error: &Error) -> Result<(), Stop> {
     if error.kind() != ErrorKind::DisplayHelp {
-        return Err(told(rt, error));
+        return Err(told(rt, alloc, error));
     }
     match print!(rt; "{error}") {
         Ok(()) => Ok(()),
@@ -86,7 +113,7 @@ fn print_asked<'a, R: Print + Eprint>(
     words: &'a [&'a str],
 ) -> Result<(), Stop> {
     match chosen(alloc, words) {
-        Err(Unchosen::Usage(e)) => printed(rt, &e),
+        Err(Unchosen::Usage(e)) => printed(rt, alloc, &e),
         Err(Unchosen::NoMemory) => Err(Stop::Failed(Failure::Memory)),
         _ => Err(Stop::Usage),
     }
