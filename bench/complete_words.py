@@ -49,7 +49,7 @@ ROWS = [
     ("{} pl", ONE, "{} play "),
     ("{} play --a", ONE, "{} play --all "),
     ("{} check --e", ONE, "{} check --explain "),
-    ("{} check --s", ONE, "{} check --script "),
+    ("{} check --sc", ONE, "{} check --script "),
     ("{} audit --t", ONE, "{} audit --torn "),
     ("{} audit --torn --j", ONE, "{} audit --torn --journal"),
     ("{} audit --journal x", ONE, "{} audit --journal x-one.journal "),
