@@ -637,9 +637,11 @@ class Typed:
             came = os.read(self.reads, 65536)
         except OSError:
             return False
-        # At a terminal notes stand between the answers, in colour; how the task ended is none of the console's.
+        # At a terminal notes and explanations stand between the answers, in colour; the latter, how the task ended, and what a command
+        # lacks are none of the console's.
         plain = re.sub(r"\x1b\[\d*m", "", (self.seen + came.decode()).replace("\r\n", "\n"))
-        self.seen = re.sub(r"task Post\.Guard ended: .*\n", "", plain)
+        plain = re.sub(r"(?m)^script line \d+: .*\n +--> .*\n(?:[ \d].*\n)*? +=.*\n", "", plain)
+        self.seen = re.sub(r"task Post\.Guard ended: .*\n|note: (?:help|the list) .*\n", "", plain)
         return bool(came)
 
     def prompted(self):
