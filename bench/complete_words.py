@@ -47,12 +47,9 @@ ONE, ALL = "\t", "\x14"
 # What is typed, the key, and the line that is due; the words that ALL inserts are sorted before they are compared.
 ROWS = [
     ("{} pl", ONE, "{} play "),
-    ("{} play --", ALL, "{} play --all --color --explain --help --notes --warnings-are-errors "),
     ("{} play --a", ONE, "{} play --all "),
-    ("{} play --all --", ALL, "{} play --all --color --explain --notes --warnings-are-errors "),
     ("{} check --e", ONE, "{} check --explain "),
-    ("{} check --", ALL, "{} check --color --explain --help --notes --script --warnings-are-errors "),
-    ("{} check --s", ONE, "{} check --script "),
+    ("{} check --sc", ONE, "{} check --script "),
     ("{} audit --t", ONE, "{} audit --torn "),
     ("{} audit --torn --j", ONE, "{} audit --torn --journal"),
     ("{} audit --journal x", ONE, "{} audit --journal x-one.journal "),
@@ -83,6 +80,11 @@ ROWS = [
 ]
 OF_PROGRAM = [
     ("{} ", ALL, "{} audit check help manual play run"),
+    ("{} play --", ALL, "{} play --all --color --explain --help --notes --warnings-are-errors "),
+    ("{} play --all --", ALL, "{} play --all --color --explain --notes --warnings-are-errors "),
+    ("{} check --", ALL, "{} check --color --explain --help --notes --script --warnings-are-errors "),
+    ("{} play --un", ONE, "{} play --un"),
+    ("{} refusals --s", ONE, "{} refusals --s"),
     ("{} send z", ONE, "{} send z"),
     ("{} --", ALL, "{} --help --version"),
     ("{} -", ALL, "{} --help --version -V -h"),
@@ -92,7 +94,19 @@ OF_PROGRAM = [
     ("{} audit --journal x-one.journal --", ALL, "{} audit --journal x-one.journal --color --explain --torn"),
 ]
 OF_LAUNCHER = [
-    ("{} ", ALL, "{} audit check help manual new play refusals run send waits"),
+    ("{} ", ALL, "{} access audit check help manual new play refusals run send waits who"),
+    ("{} play --", ALL, "{} play --all --color --explain --help --host --list --notes --shape --unit --warnings-are-errors "),
+    ("{} play --all --", ALL, "{} play --all --color --explain --host --list --notes --shape --unit --warnings-are-errors "),
+    ("{} check --un", ONE, "{} check --unit "),
+    ("{} check --unit z", ONE, "{} check --unit z.raven "),
+    ("{} check --unit z.raven --un", ONE, "{} check --unit z.raven --unit "),
+    ("{} check --list=z", ONE, "{} check --list=z.raven "),
+    ("{} check --host z.raven z", ONE, "{} check --host z.raven z.raven "),
+    ("{} refusals --s", ALL, "{} refusals --script --shape --since "),
+    ("{} refusals --journal x", ONE, "{} refusals --journal x-one.journal "),
+    ("{} waits --script z", ONE, "{} waits --script z.raven "),
+    ("{} access --b", ONE, "{} access --by "),
+    ("{} who --scr", ONE, "{} who --script "),
     ("{} se", ONE, "{} send "),
     ("{} new y", ONE, "{} new y-folder/"),
     ("{} send z", ONE, "{} send z.raven "),
@@ -101,13 +115,13 @@ OF_LAUNCHER = [
     ("{} send x-one.journal load z", ONE, "{} send x-one.journal load z.raven "),
     ("{} send x-one.journal tick z", ONE, "{} send x-one.journal tick z"),
     ("{} --", ALL, "{} --help --install --prove --version"),
-    ("{} run --", ALL, "{} run --color --console --explain --halt-below --help --journal --notes --quota --stop-by --sync --tick --trial --warnings-are-errors "),
+    ("{} run --", ALL, "{} run --color --console --explain --halt-below --help --host --journal --list --notes --quota --shape --stop-by --sync --tick --trial --unit --warnings-are-errors "),
     ("{} --pr", ONE, "{} --prove "),
     ("{} --install y", ONE, "{} --install y-folder/"),
     ("{} --install x", ONE, "{} --install x"),
     ("{} --prove ", ALL, "{} --prove "),
-    ("{} audit --", ALL, "{} audit --color --explain --help --journal --script --torn"),
-    ("{} audit --journal x-one.journal --", ALL, "{} audit --journal x-one.journal --color --explain --script --torn"),
+    ("{} audit --", ALL, "{} audit --color --explain --help --host --journal --list --script --shape --torn --unit"),
+    ("{} audit --journal x-one.journal --", ALL, "{} audit --journal x-one.journal --color --explain --host --list --script --shape --torn --unit"),
 ]
 
 

@@ -1,16 +1,18 @@
 #!/usr/bin/env python3
 """Does what careless or hostile hands do to `./ravenhost`, and says where it doesn't end as it should; then the status is 1.
 
-    bench/hands.py [LAUNCHER]           the launcher is ./ravenhost of this checkout where none is named
+    bench/hands.py [LAUNCHER [CASE..]]  the launcher is ./ravenhost of this checkout where none is named; only these cases, where any are
 
 Two runs on one journal; a journal that others cut off, remove or replace; standard input, output or error closed before the
 start; a limit on the size of files; a journal's file that a wrong command line would leave behind; texts that are sent to a run, and
-hold commands, are cut short or large, by several senders at once; scripts that are named to the wrong command. It needs flock, and a
-program: the proved one or the trial that is kept.
+hold commands, are cut short or large, by several senders at once; scripts that are named to the wrong command; parts of a script in
+files of their own that hold sections, are cut short or refused. It needs flock, and a program: the proved one or the trial that is kept.
+Where ravenreview isn't there, its questions aren't asked.
 """
 import os
 import pty
 import re
+import signal
 import subprocess
 import sys
 import tempfile
@@ -94,6 +96,11 @@ class Hands:
     def sent(self, *words: str) -> subprocess.CompletedProcess[bytes]:
         """What a start of `send` prints, in the folder."""
         return subprocess.run([self.launcher, "send", *words], cwd=self.folder, stdin=subprocess.DEVNULL, capture_output=True, timeout=SECONDS, check=False)
+
+    def has_review(self) -> bool:
+        """Whether the program that answers questions about a journal is there: its first start would build it."""
+        out = self.launcher.parent / "crates" / "ravenreview" / "out"
+        return (out / "ravenreview").exists() or (out / "trial" / "ravenreview").exists()
 
     def file(self, name: str, text: bytes) -> str:
         (self.folder / name).write_bytes(text)
@@ -268,19 +275,134 @@ def scripts_to_the_wrong_command(hands: Hands) -> None:
         hands.due(f"{words} {name} elsewhere", why not in done.stderr or not why, done.stderr)
 
 
+# What each command that reads a script is given beside the parts of it.
+BESIDE_PARTS = (["check"], ["play"], ["run"], ["audit", "--journal", "empty"], ["refusals", "--journal", "empty"])
+
+
+def of_parts(hands: Hands, words: list[str], given: bytes = b"", terminal: bool = False) -> tuple[int, bytes, bytes]:
+    """What a start in the folder comes to: its status, its output, and what it told, but that a trial answers."""
+    done = subprocess.run([hands.launcher, *words], cwd=hands.folder, input=given, capture_output=True, timeout=SECONDS, check=False)
+    told = b"".join(line for line in done.stderr.splitlines(keepends=True) if b"not proved: a trial answers" not in line)
+    return done.returncode, done.stdout, told
+
+
+def hostile_parts(hands: Hands) -> None:
+    """No text of a part opens or ends a section, by any command."""
+    hands.file("empty", b"")
+    good = hands.file("good.ada", small_unit("Good"))
+    for what, text, why in (("hostile", HOSTILE, b", line 5, begins with @"), ("with a list", small_unit("A") + b"@list\nallow * * *\n", b", line 5, begins with @"),
+                            ("that ends in a list", small_unit("A") + b"@list", b", line 5, begins with @"), ("that is a section", b"@list\nallow * * *\n", b", line 1, begins with @"),
+                            ("of one line that opens one", b"@run", b", line 1, begins with @"), ("with zero bytes", b"\0\n@list\0\n", b", line 2, begins with @"),
+                            ("with a carriage return", b"-- A\r@list\rallow * * *\r", b", line 1, has @ behind"), ("with a form feed", b"-- A\n\f@list\n", b", line 2, has @ behind"),
+                            ("with a mark of byte order", b"\xef\xbb\xbf@list\n", b", line 1, has @ behind"), ("that isn't UTF-8", b"-- A\n-- \xff\n", b"isn't UTF-8")):
+        part = hands.file("part", text)
+        for flag in ("--unit", "--list", "--shape", "--host"):
+            for words in BESIDE_PARTS[:5 if hands.has_review() else 4] if flag == "--unit" else BESIDE_PARTS[:1]:
+                status, out, told = of_parts(hands, [*words, "--unit", good, flag, part], b"quit\n")
+                hands.due(f"{words[0]} {flag} of a text {what} is refused, in a line", (status, out, told.count(b"\n")) == (1, b"", 1), (status, out, told))
+                hands.due(f"and told why ({words[0]} {flag}, {what})", told.startswith(b"ravenhost: part") and why in told, told)
+
+
+def parts_that_are_taken(hands: Hands) -> None:
+    """Sections come in the order of the words; a text without its last line feed swallows nothing behind it."""
+    for name, text in (("a.ada", small_unit("A").removesuffix(b"\n")), ("b.ada", small_unit("B") + b"-- cut short\r"), ("rights", b"allow A * *"), ("host.toml", b"capacity = 100"),
+                       ("steps", b"\n \t\n@steps\noperator tick 1"), ("c.shape", b"unit C\ntask T 5\n"), ("plain", b"allow * * *\n"), ("cut", PLANT.removesuffix(b"@run\n")),
+                       ("whole", PLANT + b"tick 1\n")):
+        hands.file(name, text)
+    loads = b"1 operator load A -> accepted 0\n2 operator load B -> accepted 0\n"
+    units = ["--unit", "a.ada", "--unit=b.ada"]
+    journal = loads + b"3 operator list [allow A * *] -> accepted 0\n4 operator tick 1 -> accepted 0\n"
+    for words, given, due in (
+            (["check", "--host", "host.toml", *units, "--list", "rights", "--shape", "c.shape"], b"", (0, b"unit A: ok\nunit B: ok\nlist: ok 1 lines\nshape C: ok\n")),
+            (["play", *units, "--list", "rights", "steps"], b"", (0, journal)),
+            (["play", "--list", "rights", "--unit", "a.ada"], b"@steps\noperator tick 1\n", (0, b"1 operator list [allow A * *] -> accepted 0\n2 operator load A -> accepted 0\n")),
+            (["play", *units, "--list", "-"], b"allow A * *", (0, journal[:journal.index(b"4 ")])),
+            (["run", *units, "--list", "rights"], b"journal 1\nquit\n", (0, journal[:journal.index(b"4 ")] + b"entries 4\n")),
+            (["run", "--unit", "a.ada", "cut"], b"tick 1\nquit\n", (0, b"accepted 0\n")), (["run", "--unit", "a.ada", "whole"], b"quit\n", (0, b"accepted 0\n")),
+            (["audit", "--journal", "j", *units], b"", (0, b"legal 3 entries\n")), (["refusals", "--journal", "j", *units], b"", (0, b"")),
+            (["audit", "--script", "--journal", "j", "whole", *units, "--list", "plain"], b"", (0, b"legal 3 entries\n")),
+            (["who", "A", "--script", "--journal", "j", "whole", *units], b"", (0, b""))):
+        hands.file("j", loads + b"3 operator tick 1 -> accepted 0\n")
+        if words[0] in ("refusals", "who") and not hands.has_review():
+            continue
+        status, out, told = of_parts(hands, words, given)
+        hands.due(f"{words}", status == due[0] and (out == due[1] or due[1] == b"accepted 0\n" and out.startswith(due[1])) and not told, (status, out, told))
+    for words, status, why in (
+            (["check", "--unit", "a.ada", "plain"], 1, b"plain, line 1, stands before the first section of plain"), (["check", "whole", "--list", "rights"], 2, b"whole has a line @run"),
+            (["run", "--unit", "a.ada", "-"], 2, b"run takes its commands from standard input"), (["check", "--unit", "-", "--list", "-"], 2, b"- is standard input, which is read once"),
+            (["audit", "--unit", "a.ada"], 2, b"there is no journal to judge"), (["check", "--unit", "nowhere"], 4, b"nowhere can't be read"), (["check", "--list", "."], 4, b". is a folder")):
+        seen = of_parts(hands, words)
+        hands.due(f"{words} ends with {status}", seen[:2] == (status, b"") and seen[2].startswith(b"ravenhost: " + why), seen)
+    for words in (["check", "--unit"], ["check", "--unit", "--list", "rights"]):
+        seen = of_parts(hands, words)
+        hands.due(f"{words} is usage", seen[:2] == (2, b"") and b"a value is required for '--unit <FILE>'" in seen[2], seen)
+
+
+def faults_of_parts(hands: Hands) -> None:
+    """What is told of a line of the script leads to the file that has it."""
+    hands.file("empty", b"")
+    hands.file("a.ada", small_unit("A"))
+    hands.file("bad.ada", b"-- B\npackage B is\nend B;\npackage body B is\n   X : Y;\nend B;\n")
+    for name, text in (("rights", b"# who\nallow A * *\nallow A *\n"), ("c.shape", b"unit C\ntask T 50\n"), ("host.toml", b"capacity = 1\n"), ("more.raven", b"\n@list\n@steps\noperator tick 1\nfrob\n"),
+                       ("script", b"@list\n@unit\n" + small_unit("A") + b"@list\nallow A * *\n@unit\npackage B is\nend B;\npackage body B is\n   X : Y;\nend B;\n")):
+        hands.file(name, text)
+    for words, why in (
+            (["check", "--unit", "a.ada", "--unit", "bad.ada"], b"line 11 of the script is bad.ada, line 5"), (["check", "--unit", "a.ada", "--list", "rights"], b"line 9 of the script is rights, line 3"),
+            (["check", "--host", "host.toml"], b"line 2 of the script is host.toml, line 1"), (["check", "--unit", "a.ada", "--host", "host.toml"], b"line 6 of the script opens host.toml"),
+            (["play", "--unit", "a.ada", "more.raven"], b"line 9 of the script is more.raven, line 5"), (["run", "--unit", "bad.ada"], b"line 6 of the script is bad.ada, line 5"),
+            (["audit", "--journal", "empty", "--unit", "a.ada", "--unit", "bad.ada"], b"line 11 of the script is bad.ada, line 5"),
+            (["audit", "--journal", "empty", "--list", "rights"], b"line 1 of the script opens rights"), (["refusals", "--journal", "empty", "--unit", "bad.ada"], b"line 6 of the script is bad.ada, line 5"),
+            (["audit", "--journal", "empty", "--script", "script"], b"line 10 of the script is script, line 13")):
+        if words[0] == "refusals" and not hands.has_review():
+            continue
+        status, _, told = of_parts(hands, words, b"quit\n")
+        hands.due(f"{words} leads to the file", status == 1 and told.startswith(b"script line ") and told.splitlines()[-1] == b"ravenhost: " + why, (status, told))
+        said = at_terminal(hands, words)
+        hands.due(f"{words} at a terminal", b"ravenhost: " + why in said and (words[0] not in ("check", "play", "run") or b" --> " in said), said)
+    hands.file("plain.journal", b"1 operator tick 1 -> accepted 7\n")
+    seen = of_parts(hands, ["audit", "--journal", "plain.journal", "--unit", "a.ada"])
+    hands.due("an audit of parts that finds a journal not legal", seen == (1, b"entry 1: due accepted 0\n", b""), seen)
+
+
+def runs_of_parts(hands: Hands) -> None:
+    """A run of parts has its commands from a pipe, its journal, and its end by a signal; nothing is left of the script, also where the launcher is killed."""
+    hands.file("plant.ada", PLANT.split(b"@list")[0].removeprefix(b"@unit\n"))
+    hands.file("rights", b"allow * * *\n")
+    pipe, scratch = hands.folder / "of-parts", hands.folder / "scratch"
+    os.mkfifo(pipe)
+    scratch.mkdir()
+    for how in (signal.SIGTERM, signal.SIGKILL):
+        journal = hands.folder / f"of-parts.{how}"
+        line = 'exec "$0" run --journal "$1" --unit plant.ada --list rights <>"$2"'
+        with subprocess.Popen(["bash", "-c", line, hands.launcher, journal, pipe], cwd=hands.folder, env=os.environ | {"TMPDIR": str(scratch)}, stdout=subprocess.PIPE, stderr=subprocess.PIPE) as run:
+            assert run.stdout
+            hands.sent("of-parts", "tick", "1")
+            hands.due("a run of parts answers", run.stdout.readline() == b"accepted 0\n", "")
+            left = [name for name in scratch.rglob("*") if name.is_file()]
+            hands.due("no file has its script", not left, left)
+            run.send_signal(how)
+            out, _ = run.communicate(timeout=SECONDS)
+        hands.due(f"it is ended by {how!r}", how == signal.SIGKILL or run.returncode == 0 and b"entries " in out, (run.returncode, out))
+        time.sleep(1)
+        hands.due(f"its journal is whole behind {how!r}", hands.judged(journal) == 0, journal.read_bytes()[-200:])
+        left = [name for name in scratch.rglob("*") if name.is_file()]
+        hands.due(f"no file is left behind {how!r}", not left, left)
+
+
 CASES: tuple[Callable[[Hands], None], ...] = (
     two_runs_on_one_file, journals_that_others_change, streams_that_are_closed, limits_on_files, wrong_command_lines, texts_that_are_sent,
-    senders_at_once, wrong_sends, scripts_to_the_wrong_command)
+    senders_at_once, wrong_sends, scripts_to_the_wrong_command, hostile_parts, parts_that_are_taken, faults_of_parts, runs_of_parts)
 
 
 def main(words: list[str]) -> int:
-    if len(words) > 1 or words[:1] and words[0].startswith("-"):
+    named = [case for case in CASES if case.__name__ in words[1:]]
+    if len(named) != len(words[1:]) or words[:1] and words[0].startswith("-"):
         print(__doc__, file=sys.stderr)
         return 2
     launcher = Path(words[0] if words else TOP / "ravenhost").resolve()
     with tempfile.TemporaryDirectory() as folder:
         hands = Hands(launcher, Path(folder))
-        for case in CASES:
+        for case in named or CASES:
             begun = time.monotonic()
             case(hands)
             print(f"{case.__name__.replace('_', ' ')}: {time.monotonic() - begun:.1f} s")

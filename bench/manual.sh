@@ -47,7 +47,7 @@ flags_named() {
     while read -r word; do
         count=$((count + 1))
         grep -qE -e "(^|[^-a-z])$word([^-a-z]|\$)" "$folder/page" || { echo "$word isn't in the page"; missing=1; }
-    done < <(sed -n '/^ /p' crates/ravenhost/usage/help* crates/ravenhost/usage/launcher | grep -oE -e '(^| )--?[a-zA-Z][-a-zA-Z]*' | sort -u)
+    done < <(sed -n '/^ /p' crates/ravenhost/usage/help* crates/ravenhost/usage/launcher* | grep -oE -e '(^| )--?[a-zA-Z][-a-zA-Z]*' | sort -u)
     # The words of the launcher that are no flags.
     while read -r word; do
         count=$((count + 1))

@@ -2,7 +2,8 @@
 """Drives the built `ravenhost run` over an open pipe as a person would: commands one by one, each answer read before the
 next is written. Says what it saw that the documents don't allow, and ends with 1 then. Needs nothing but Python.
 
-    bench/run_pipe.py [PROGRAM]            the program is crates/ravenhost/out/ravenhost where none is named
+    bench/run_pipe.py [PROGRAM [PART..]]   the program is crates/ravenhost/out/ravenhost where none is named; only these parts, as
+                                           `advised`, where any are named
     bench/run_pipe.py --signals [LAUNCHER] signals and a terminal's width alone, through the script ./ravenhost, which asks for
                                            the proved program
 """
@@ -636,9 +637,11 @@ class Typed:
             came = os.read(self.reads, 65536)
         except OSError:
             return False
-        # At a terminal notes stand between the answers, in colour; how the task ended is none of the console's.
+        # At a terminal notes and explanations stand between the answers, in colour; the latter, how the task ended, and what a command
+        # lacks are none of the console's.
         plain = re.sub(r"\x1b\[\d*m", "", (self.seen + came.decode()).replace("\r\n", "\n"))
-        self.seen = re.sub(r"task Post\.Guard ended: .*\n", "", plain)
+        plain = re.sub(r"(?m)^script line \d+: .*\n +--> .*\n(?:[ \d].*\n)*? +=.*\n", "", plain)
+        self.seen = re.sub(r"task Post\.Guard ended: .*\n|note: (?:help|the list) .*\n", "", plain)
         return bool(came)
 
     def prompted(self):
@@ -811,6 +814,145 @@ def notes_at_commands(program):
         expect_that(f"notes at commands with {words}", seen == told and status == 0 and (err == "" or told), err)
 
 
+# A command, its answer, and what a note says of it before that: what it lacks, or nothing.
+ADVISED = (
+    ("tick 0", "misuse", "tick takes 1 to 1000000 ticks"), ("tick -3", "misuse", "tick takes 1 to 1000000 ticks"),
+    ("tick 1000001", "misuse", "tick takes 1 to 1000000 ticks"), ("tick 1000000", "accepted 0", ""), ("tick", "bad command", ""),
+    ("remove 2", "badline", "the list has 1 lines"), ("replace 7 allow a a.b c", "badline", "the list has 1 lines"),
+    ("remove 0", "badline", "the list has 1 lines"), ("append allow x", "list BadWord at line 1", ""),
+    ("raise 10", "bad command", "raise takes the number of a line, 0 to 9"), ("raise", "bad command", "raise takes the number of a line, 0 to 9"),
+    ("raise 3", "unattached", ""), ("journal 0", "bad command", "journal takes the number of an entry, from 1 on"),
+    ("journal", "bad command", "journal takes the number of an entry, from 1 on"),
+    ("status", "bad command", "only run --console takes status"), ("list", "bad command", "only run --console takes list"),
+    ("help me", "bad command", "only run --console takes help"), ("frob", "bad command", ""), ("", "bad command", ""), ("Status", "bad command", ""),
+)
+
+
+def told_now(run):
+    """What stands on standard error by now: a note comes before its answer."""
+    errors = run.process.stderr.fileno()
+    return os.read(errors, 65536).decode() if select.select([errors], [], [], 0)[0] else ""
+
+
+def advised(program):
+    """Of a command that is refused for what it says itself a note says what it lacks, where notes are told."""
+    script = "@list\nallow * * *\n@run\n"
+    run = Run(program, script, ("--notes", "always"))
+    for command, answer, note in ADVISED:
+        expect(command, run.ask(command), answer)
+        expect(f"what is told of {command!r}", told_now(run), f"note: {note}\n" if note else "")
+    run.end()
+    for words in ((), ("--tick", "3600000"), ("--tick", "3600000", "--notes", "never")):
+        run = Run(program, script, words)
+        for command, answer, _ in ADVISED:
+            expect(f"{command} with {words}", run.ask(command), answer)
+        expect(f"what is told with {words}", run.end()[1:], ("", 0))
+    full = "@list\n" + "".join(f"allow U{number} U{number}.O P\n" for number in range(512)) + "@run\n"
+    run = Run(program, full, ("--notes", "always"))
+    for command in ("append allow a a.b c", "remove 513"):
+        expect(f"{command} on a full list", (run.ask(command), told_now(run)), ("badline", "note: the list has 512 lines\n"))
+    run.end()
+    run = Run(program, unit(LATE_LINE) + script, ("--notes", "always"))
+    run.ask("halt")
+    expect("a raise on a halted host", (run.ask("raise 5"), told_now(run)), ("raised", "note: the host is halted, so no handler starts\n"))
+    expect("a line without a handler there", run.ask("raise 6"), "unattached")
+    run.end()
+    run = Run(program, script, ("--console", "--notes", "always"))
+    out, err, status = run.end("help me\nlist 1\nstatus now\njournal x\nlist\nhelp\nquit\n")
+    expect("words behind those of a console", err.splitlines(), ["note: help takes no word behind it", "note: list takes no word behind it",
+           "note: status takes no word behind it", "note: journal takes the number of an entry, from 1 on"])
+    expect_that("the answers to them", out.count("bad command\n") == 4 and status == 0, (out, status))
+
+
+def unended_loads(program):
+    """A unit text without its line @end is told of at the end of input; who types `load` at a terminal is told what follows."""
+    for text, lines in (("package A is\nend A;\n", 2), ("package A is\nend A;\ntick 1", 3), ("", 0)):
+        run = Run(program, "@list\n@run\nload\n" + text, ("--notes", "always"))
+        expect(f"an end of input behind {lines} lines of a unit", run.end(""), ("entries 2\n", f"note: no @end: {lines} lines of a unit are thrown away\n", 0))
+    hint = "note: a unit text follows, and behind it a line @end\n"
+    process, end = pty.fork()
+    if process == 0:
+        os.execv(program, [program, "run", "--console"])
+    typed = Typed(end, end)
+    typed.send("@list\n@run\n")
+    typed.prompted()
+    for name in ("A", "B"):
+        typed.send("load\n")
+        while hint not in typed.seen and typed.more():
+            pass
+        expect_that(f"what is told of a load of {name} that is typed", typed.seen.count(hint) == 1, typed.seen)
+        typed.seen = ""
+        typed.send(f"package {name} is\nend {name};\npackage body {name} is\nend {name};\n@end\n")
+        said = typed.prompted()
+        expect_that(f"its answer, without another note, for {name}", said.endswith("accepted 0\n") and hint not in said, said)
+    typed.send("quit\n")
+    typed.rest()
+    os.waitpid(process, 0)
+    os.close(end)
+
+
+# The end of a run by itself: flags, what it is given, its last line, and what is told where notes are.
+SERVED_NOTE = "note: the run ends behind 100000 commands, the most that it serves\n"
+BY_ITSELF = (
+    ((), b"@list\n@run\n" + 100_005 * b"frob\n", SERVED_NOTE),
+    ((), b"@list\n@run\njournal 1\n\xff\ntick 1\n", "note: the run ends, since this line isn't UTF-8\n"),
+    ((), b"@list\n@run\n" + b"#" * 16_777_216 + b"\ntick 1\n", "note: the run ends, since its input is longer than 16777216 bytes\n"),
+)
+
+
+def end_status(program):
+    """With --end-status a run that ended by itself has status 5, and one that was ended 0; without it both have 0."""
+    for words, given, note in BY_ITSELF:
+        for more, status, told in ((("--end-status",), 5, ""), (("--end-status", "--notes", "always"), 5, note), (("--notes", "always"), 0, note), ((), 0, "")):
+            done = subprocess.run([program, "run", *words, *more], input=given, capture_output=True, timeout=10 * LIMIT)
+            expect_that(f"{note.strip()} with {more}", done.stdout.endswith(b"entries 2\n") and done.stderr.decode() == told and done.returncode == status,
+                        (done.stdout[-80:], done.stderr, done.returncode))
+    busy = unit(PLANT) + unit(free("Bad")) + "@list\nallow * * *\n@run\n"
+    for words, settings in ((("--halt-below", "2000"), "budget = 1000000\n"), (("--quota", "30"), "capacity = 60\nbudget = 1000000\n")):
+        for more, due in ((("--end-status",), 5), ((), 0)):
+            run = Run(program, "@host.toml\n" + settings + busy, (*words, *more))
+            out = run.process.stdout.read().decode()
+            status = run.process.wait(timeout=LIMIT)
+            run.process.stdin.close()
+            run.process.stderr.close()
+            expect_that(f"the status of an end by {words} with {more}", re.fullmatch(r"entries \d+\n", out) and status == due, (out, status))
+    for given in ("quit\n", "", "halt\nquit\n", "load\npackage A is\n"):
+        run = Run(program, "@list\n@run\ntick 1\n", ("--end-status", "--tick", "3600000"))
+        expect(f"the status of a run that {given!r} ended", run.end(given)[1:], ("", 0))
+    with tempfile.TemporaryDirectory() as folder:
+        pipe = os.path.join(folder, "stop")
+        os.mkfifo(pipe)
+        held = os.open(pipe, os.O_RDWR)
+        run = Run(program, "@list\n@run\n", ("--end-status", "--stop-by", pipe))
+        expect("a command before the stop", run.ask("tick 1"), "accepted 0")
+        os.write(held, b"\n")
+        expect("the status of a run that a pipe stopped", (run.process.stdout.read(), run.process.wait(timeout=LIMIT)), (b"entries 3\n", 0))
+        os.close(held)
+        run.process.stdin.close()
+        run.process.stderr.close()
+
+
+def sections_end(program):
+    """With --sections-end nothing starts of an input that ends before its line @run."""
+    told = b"ravenhost: the input ended before its line @run, so nothing was started\n"
+    for given in (b"", b"\n", b"@list\nallow * * *\n", b"@list\nallow * * *\n@ru", (unit(PLANT) + unit(looper("Nav")) + "@list\nallow * * *\n").encode()):
+        done = subprocess.run([program, "run", "--sections-end"], input=given, capture_output=True, timeout=LIMIT)
+        expect(f"an input of {len(given)} bytes that is cut off", (done.stdout, done.stderr, done.returncode), (b"", told, 1))
+        with tempfile.NamedTemporaryFile() as file:
+            file.write(given)
+            file.flush()
+            done = subprocess.run([program, "run", "--sections-end", file.name], input=b"@run\ntick 1\n", capture_output=True, timeout=LIMIT)
+            expect(f"a file of {len(given)} bytes that is cut off", (done.stdout, done.stderr, done.returncode), (b"", told, 1))
+    for given in (b"@list\n@run\n", b"@list\n@run", b"@list\r\n@run\r\n"):
+        done = subprocess.run([program, "run", "--sections-end"], input=given, capture_output=True, timeout=LIMIT)
+        expect(f"an input that is whole: {given!r}", (done.stdout, done.stderr, done.returncode), (b"entries 2\n", b"", 0))
+    run = Run(program, "@list\n@run\n", ("--sections-end",))
+    expect("a command behind whole sections", run.ask("tick 1"), "accepted 0")
+    expect("their end", run.end(), ("entries 3\n", "", 0))
+    done = subprocess.run([program, "run", "--sections-end"], input=b"@list\nallow\n@run\n", capture_output=True, timeout=LIMIT)
+    expect("whole sections with a fault", (done.stdout, done.stderr, done.returncode), (b"", b"script line 1: list BadWord at line 1\n", 1))
+
+
 def children(process):
     return [int(word) for word in subprocess.run(["pgrep", "-P", str(process)], stdout=subprocess.PIPE).stdout.split()]
 
@@ -894,15 +1036,19 @@ def main():
         print(f"{len(faults)} faults")
         return 1 if faults else 0
     program = os.path.abspath(sys.argv[1]) if sys.argv[1:] else os.path.join(TOP, "crates/ravenhost/out/ravenhost")
+    named = sys.argv[2:]
     for part in (commands, row, device, two_devices, deepest, deepest_of_all, live, no_thread, refused, closed, edges, ticks, usage, prompt,
-                 stops, all_flags, quota, halt_below, unread, come, reasons, console, told_at_console, columns, notes_at_commands, explains):
+                 stops, all_flags, quota, halt_below, unread, come, reasons, console, told_at_console, columns, notes_at_commands, explains,
+                 advised, unended_loads, end_status, sections_end):
+        if named and part.__name__ not in named:
+            continue
         try:
             part(program)
         except BrokenPipeError:
             expect_that(part.__name__, False, "the program ended before its input did")
-    midst(program, "quit\n", r"entries \d+\n")
-    midst(program, "", r"entries \d+\n")
-    midst(program, "journal 1\nquit\n", r"(\d+ .* -> .*\n)+entries \d+\n")
+    for how, due in (("quit\n", r"entries \d+\n"), ("", r"entries \d+\n"), ("journal 1\nquit\n", r"(\d+ .* -> .*\n)+entries \d+\n")):
+        if not named or midst.__name__ in named:
+            midst(program, how, due)
     print(f"{len(faults)} faults")
     return 1 if faults else 0
 

@@ -12,15 +12,21 @@ import sys
 TOP = os.path.dirname(os.path.dirname(os.path.abspath(__file__)))
 PAGES = "crates/ravenhost/usage"
 
-# The flags that stand alone; the launcher's do too, but for those that a word of the program may stand beside.
+# The flags that stand alone; the launcher's do too, but for those that a word of the program may stand beside. Some of these may be
+# given more than once.
 HELP, VERSION = ("-h", "--help"), ("-V", "--version")
-BESIDE = ("--script",)
+REPEATED = ("--host", "--shape", "--unit", "--list")
+BESIDE = ("--script", *REPEATED)
+
+# The commands that take parts of a script, and the questions about a journal, which have the flags beside them.
+COMPOSING = ("play", "check", "run", "audit")
+QUESTIONS = {"refusals": ("since", "by", "of"), "waits": ("since", "by", "of"), "access": ("by", "of"), "who": ()}
 
 # Commands that a run is sent.
 SENT = "append remove replace tick halt journal raise load quit"
 
 # What completes a value of no listed words, or a word that is no flag, by the name that the help gives it.
-FILES, FOLDERS, COMMANDS = "files", "folders", "commands"
+FILES, FOLDERS, COMMANDS, NOTHING = "files", "folders", "commands", "nothing"
 WORDS = {"FILE": FILES, "COMMAND": COMMANDS}
 # Of numbers, some that are usual.
 VALUES = {"FILE": FILES, "PIPE": FILES, "PREFIX": FOLDERS, "WHEN": ("auto", "always", "never"), "HOW": ("each", "second", "never"),
@@ -42,10 +48,10 @@ class Flag:
 
 class Command:
     """A subcommand, or the program itself: its flags, those that the launcher adds, and the name of its word that is no flag.
-    Of the program also the launcher's own subcommands, each with what it is for."""
+    Of the program also the launcher's own subcommands, each with what it is for, and the flags of its questions."""
 
     def __init__(self, about):
-        self.about, self.flags, self.launcher, self.word, self.own = about, [], [], None, {}
+        self.about, self.flags, self.launcher, self.word, self.own, self.asked = about, [], [], None, {}, {}
 
 
 def page(name):
@@ -111,7 +117,34 @@ def described():
         if not row or (row[1] or "") not in commands:
             sys.exit(f"manual/completions.py: a flag of the launcher of another form: {left!r}")
         commands[row[1] or ""].launcher.append(Flag([row[2]], row[3], about))
+    composing(commands)
     return commands
+
+
+def composing(commands):
+    """Adds the flags that name parts of a script, and those of the questions."""
+    heading = "Of the script ./ravenhost, parts of a script by files of their own, in the order in which they are named:"
+    parts = []
+    for left, about in rows(page("launcher-parts"), heading):
+        row = re.fullmatch(r"(--[\w-]+) FILE", left)
+        if not row or row[1] not in REPEATED:
+            sys.exit(f"manual/completions.py: a part of a script of another form: {left!r}")
+        parts.append(Flag([row[1]], "FILE", about))
+    for name in COMPOSING:
+        commands[name].launcher += parts
+    judging = {flag.spellings[-1]: flag for flag in commands["audit"].flags + commands["audit"].launcher}
+    told = {"since": ("WHEN", "Leave out what was before entry:N or tick:N", "entry: tick:"), "by": ("CALLER", "Leave out other callers", ""),
+            "of": ("CALLED", "Leave out calls of others", "")}
+    for name, asked in QUESTIONS.items():
+        if name not in commands[""].own:
+            sys.exit(f"manual/completions.py: {PAGES}/launcher doesn't name {name}")
+        named = []
+        for word in asked:
+            value, about, words = told[word]
+            flag = Flag([f"--{word}"], None, about)
+            flag.name, flag.value = value, words.split() or NOTHING
+            named.append(flag)
+        commands[""].asked[name] = [judging["--journal"], judging["--torn"], *named, judging["--script"], *parts]
 
 
 def spelled(of):
@@ -172,6 +205,11 @@ _ravenhost_is_alone() {
     case $1 in @alone@) ;; *) return 1 ;; esac
 }
 
+# Whether a flag may be given more than once.
+_ravenhost_is_repeated() {
+    case $1 in @repeated@) ;; *) return 1 ;; esac
+}
+
 """
 
 
@@ -192,15 +230,18 @@ def bash(commands, kept):
     subcommands = [('""', " ".join(names)), ("help", " ".join(name for name in names if name != "help"))]
     flagged = [(name or '""', spelled(command.flags)) for name, command in commands.items() if command.flags]
     launched = [(name or '""', spelled(command.launcher)) for name, command in commands.items() if command.launcher]
+    launched += [(name, spelled(asked)) for name, asked in commands[""].asked.items()]
     of_all = [flag for command in commands.values() for flag in command.flags + command.launcher]
+    of_all += [flag for asked in commands[""].asked.values() for flag in asked]
     # Two commands may have a flag of one name, which takes the same.
     values = list(dict.fromkeys((" | ".join(flag.spellings), flag.value if isinstance(flag.value, str) else " ".join(flag.value))
                                 for flag in of_all if flag.value))
     alone = [*HELP, *VERSION, *(spelling for command in commands.values() for flag in command.launcher for spelling in flag.spellings if spelling not in BESIDE)]
     worded = [(name, WORDS[command.word]) for name, command in commands.items() if command.word]
+    worded += [(name, FILES) for name in commands[""].asked if name != "who"]
     text = BASH
     for mark, words in (("subcommands", bash_rows(subcommands)), ("flags", bash_rows(flagged)),
-                        ("launcher", bash_rows(launched)), ("own", " ".join(commands[""].own)), ("sent", SENT), ("values", bash_rows(values)), ("words", bash_rows(worded)), ("alone", " | ".join(alone))):
+                        ("launcher", bash_rows(launched)), ("own", " ".join(commands[""].own)), ("sent", SENT), ("values", bash_rows(values)), ("words", bash_rows(worded)), ("alone", " | ".join(alone)), ("repeated", " | ".join(REPEATED))):
         text = text.replace(f"@{mark}@", words)
     return text + by_hand(kept)
 
@@ -238,11 +279,14 @@ _ravenhost_subjects() {
 
 _ravenhost() {
     local curcontext=$curcontext state line ret=1
-    local -a launcher launcher_of
+    local -a launcher launcher_of parts
     typeset -A opt_args
     if _ravenhost_is_launcher $words[1]; then
         launcher=(
 @launcher@
+        )
+        parts=(
+@parts@
         )
     fi
     _arguments -C \\
@@ -257,6 +301,7 @@ _ravenhost() {
     esac
     (( $#launcher )) && case $line[1] in
         new) _arguments '1:FOLDER:_path_files -/' && ret=0 ;;
+@asked@
         send) _arguments '1:PIPE:_files' '2:COMMAND:(@sent@)' '3:FILE:{ [[ $words[3] == load ]] && _files }' && ret=0 ;;
     esac
     return ret
@@ -270,7 +315,7 @@ def quoted(text):
     return "'" + text.replace("'", "'\\''") + "'"
 
 
-ZSH_VALUES = {FILES: "_files", FOLDERS: "_path_files -/", COMMANDS: "_ravenhost_subjects"}
+ZSH_VALUES = {FILES: "_files", FOLDERS: "_path_files -/", COMMANDS: "_ravenhost_subjects", NOTHING: " "}
 
 
 def zsh_flag(flag, alone):
@@ -278,8 +323,8 @@ def zsh_flag(flag, alone):
     about = re.sub(r"([\\\[\]:])", r"\\\1", flag.about)
     value = ""
     if flag.value:
-        value = f":{flag.name}:" + ZSH_VALUES.get(str(flag.value), f"({' '.join(flag.value)})")
-    front = quoted("(- :)" if alone else f"({' '.join(HELP)})")
+        value = f":{flag.name}:" + ZSH_VALUES.get(str(flag.value), f"({' '.join(flag.value)})".replace(":", "\\:"))
+    front = quoted("(- :)" if alone else f"({' '.join(HELP)})") if flag.spellings[0] not in REPEATED else quoted("*")
     spelled_out = [spelling + ("=" if flag.value and spelling.startswith("--") else "") for spelling in flag.spellings]
     names = spelled_out[0] if len(spelled_out) == 1 else "{" + ",".join(spelled_out) + "}"
     return f"{front}{names}{quoted(f'[{about}]{value}')}"
@@ -302,18 +347,30 @@ def zsh_case(name, command):
     if name == "help":
         return "        help) _arguments '1: :_ravenhost_subjects' && ret=0 ;;"
     lines = [f"        {name})"]
-    if command.launcher:
+    own = [flag for flag in command.launcher if flag.spellings[0] not in REPEATED]
+    if own:
         lines += ["            if (( $#launcher )); then", "                launcher_of=("]
-        lines += [f"                    {zsh_flag(flag, flag.spellings[0] not in BESIDE)}" for flag in command.launcher]
+        lines += [f"                    {zsh_flag(flag, flag.spellings[0] not in BESIDE)}" for flag in own]
         lines += ["                )", "            fi"]
     lines.append("            _arguments \\")
     lines += [f"                {zsh_flag(flag, is_alone(flag))} \\" for flag in command.flags]
     if command.word:
         lines.append(f"                {quoted(f'1:{command.word}:{ZSH_VALUES[WORDS[command.word]]}')} \\")
-    if command.launcher:
-        lines.append("                $launcher_of \\")
+    lines += ["                $launcher_of \\"] * bool(own) + ["                $parts \\"] * (len(own) < len(command.launcher))
     lines[-1] = lines[-1][:-2] + " && ret=0"
     lines.append("            ;;")
+    return "\n".join(lines)
+
+
+def zsh_asked(asked):
+    """The questions about a journal, with their flags; the first word of one is what is called."""
+    lines = []
+    for name, of in asked.items():
+        words = ["1:CALLED: ", "2:FILE:_files"] if name == "who" else ["1:FILE:_files"]
+        lines += [f"        {name})", "            _arguments \\"]
+        lines += [f"                {zsh_flag(flag, False)} \\" for flag in of if flag.spellings[0] not in REPEATED]
+        lines += [f"                {quoted(word)} \\" for word in words]
+        lines += ["                $parts && ret=0", "            ;;"]
     return "\n".join(lines)
 
 
@@ -322,9 +379,10 @@ def zsh(commands):
     text = ZSH
     named = [(name, command.about) for name, command in commands.items() if name]
     for mark, words in (("commands", zsh_commands(named)), ("subjects", zsh_commands(pair for pair in named if pair[0] != "help")),
-                        ("own", zsh_commands(program.own.items())), ("sent", SENT),
+                        ("own", zsh_commands(program.own.items())), ("asked", zsh_asked(program.asked)), ("sent", SENT),
                         ("flags", "\n".join(f"        {zsh_flag(flag, is_alone(flag))} \\" for flag in program.flags)),
                         ("launcher", "\n".join(f"            {zsh_flag(flag, True)}" for flag in program.launcher)),
+                        ("parts", "\n".join(f"            {zsh_flag(flag, False)}" for flag in commands["play"].launcher)),
                         ("cases", "\n".join(zsh_case(name, command) for name, command in commands.items() if name))):
         text = text.replace(f"@{mark}@", words)
     return text

@@ -25,14 +25,20 @@ _ravenhost_flags() {
 _ravenhost_launcher_flags() {
     case $1 in
         "") echo "--prove --install" ;;
-        run) echo "--trial" ;;
-        audit) echo "--script" ;;
+        play) echo "--host --shape --unit --list" ;;
+        check) echo "--host --shape --unit --list" ;;
+        run) echo "--trial --host --shape --unit --list" ;;
+        audit) echo "--script --host --shape --unit --list" ;;
+        refusals) echo "--journal --torn --since --by --of --script --host --shape --unit --list" ;;
+        waits) echo "--journal --torn --since --by --of --script --host --shape --unit --list" ;;
+        access) echo "--journal --torn --by --of --script --host --shape --unit --list" ;;
+        who) echo "--journal --torn --script --host --shape --unit --list" ;;
     esac
 }
 
 # The subcommands that the launcher adds, and the commands of a run that one of them sends.
 _ravenhost_launcher_subcommands() {
-    echo "new send refusals waits"
+    echo "new send refusals waits access who"
 }
 _ravenhost_sent() {
     echo "append remove replace tick halt journal raise load quit"
@@ -44,12 +50,19 @@ _ravenhost_value() {
         --install) echo "folders" ;;
         --notes) echo "auto always never" ;;
         --color) echo "auto always never" ;;
+        --host) echo "files" ;;
+        --shape) echo "files" ;;
+        --unit) echo "files" ;;
+        --list) echo "files" ;;
         --journal) echo "files" ;;
         --sync) echo "each second never" ;;
         --halt-below) echo "100 1000 10000" ;;
         --quota) echo "100 1000 10000" ;;
         --tick) echo "1000 100 10" ;;
         --stop-by) echo "files" ;;
+        --since) echo "entry: tick:" ;;
+        --by) echo "nothing" ;;
+        --of) echo "nothing" ;;
     esac
 }
 
@@ -61,12 +74,20 @@ _ravenhost_word() {
         run) echo "files" ;;
         audit) echo "files" ;;
         manual) echo "commands" ;;
+        refusals) echo "files" ;;
+        waits) echo "files" ;;
+        access) echo "files" ;;
     esac
 }
 
 # Whether nothing stands beside a flag.
 _ravenhost_is_alone() {
     case $1 in -h | --help | -V | --version | --prove | --install | --trial) ;; *) return 1 ;; esac
+}
+
+# Whether a flag may be given more than once.
+_ravenhost_is_repeated() {
+    case $1 in --host | --shape | --unit | --list) ;; *) return 1 ;; esac
 }
 
 # By hand from here on.
@@ -112,6 +133,7 @@ _ravenhost() {
         "") [ -z "$front" ] || return 0 ;;
         files) _ravenhost_names -f "$front" && return ;;
         folders) _ravenhost_names -d "$front" && return ;;
+        nothing) return 0 ;;
         *) _ravenhost_offer "$(_ravenhost_value "$previous")" "$front" && return ;;
     esac
 
@@ -169,6 +191,7 @@ _ravenhost() {
             # Help and version stand alone.
             -h | --help | -V | --version) [ "$given" = " " ] || continue ;;
         esac
+        if _ravenhost_is_repeated "$word"; then _ravenhost_offer "$word" "" && continue; fi
         case $given in *" $word "*) ;; *) _ravenhost_offer "$word" "" ;; esac
     done
 }

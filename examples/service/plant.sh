@@ -13,27 +13,28 @@
 # The journal:  tail -f FOLDER/journal.DATE; judged over the units of the script that ran, by the script ./ravenhost:
 #     ./ravenhost audit --script --journal FOLDER/journal.DATE FOLDER/script.DATE
 # The end: SIGTERM (systemctl stop), or the command quit. It ends also where this script is killed.
+# Status 0: it was ended. 1: the script was refused, or is cut off, so that it lacks its line @run and nothing was started. 5: it ended by
+# itself, since its journal has no room left.
 set -u
 here=$(dirname "$(readlink -f "${BASH_SOURCE[0]}")")
 script=
 if [ -n "${2:-}" ]; then
     if [ ! -f "$2" ] || [ ! -r "$2" ]; then echo "plant.sh: $2 can't be read" >&2 && exit 4; fi
-    # One that was cut short, before its last deny, has no such line.
-    grep -q $'^@run\r\\?$' "$2" || { echo "plant.sh: $2 has no line @run" >&2 && exit 1; }
     script=$(readlink -f "$2")
 fi
 cd "${1:-${STATE_DIRECTORY:-.}}" || exit 4
 date=$(date +%Y%m%dT%H%M%S)
 
-# A copy of the script, up to its line @run, beside the journal that it is to be judged with. Of the example: with room for a day or
-# two, and with tasks that act once a second in place of once a millisecond.
+# A copy of the script, up to its line @run, beside the journal that it is to be judged with; the commands behind it come by the pipe.
+# Of the example: with room for a day or two, and with tasks that act once a second in place of once a millisecond. Of a script that
+# was cut off, before its last deny, the copy has no line @run: --sections-end has nothing start then.
 {
     if [ -n "$script" ]; then
-        sed '/^@run/,$d' "$script"
+        sed $'/^@run\r\\?$/q' "$script"
     else
         printf '@host.toml\ncapacity = 1048576\n'
-        sed -e 's/Milliseconds (1)/Milliseconds (1000)/' -e '/^@run/,$d' "$here/../plant.raven"
-    fi && echo @run
+        sed -e 's/Milliseconds (1)/Milliseconds (1000)/' -e '/^@run$/q' "$here/../plant.raven"
+    fi
 } >"script.$date" || exit 4
 
 # This script holds both pipes open: that of commands doesn't end when an operator's echo does.
@@ -44,7 +45,8 @@ trap 'echo >&4' TERM INT HUP
 
 (
     trap '' TERM INT HUP
-    exec "${RAVENHOST:-ravenhost}" run --journal "journal.$date" --tick 1000 --notes always --stop-by stop "script.$date"
+    exec "${RAVENHOST:-ravenhost}" run --journal "journal.$date" --tick 1000 --notes always --stop-by stop \
+        --sections-end --halt-below 16 --end-status "script.$date"
 ) <commands 3>&- 4>&- &
 
 # A signal ends the wait early, and not the run.
