@@ -67,8 +67,5 @@ pub(crate) fn constant_written<'a>(
     if last == 0 || known.denoted(words, around).is_some() {
         return None;
     }
-    Some(words.cause(
-        last,
-        "{0} is a constant, which isn't written (3.3)",
-    ))
+    Some(words.cause(last, "{0} is a constant, which isn't written (3.3)"))
 }

@@ -129,6 +129,11 @@ fn before<'a, 'o>(
     Ok(None)
 }
 
+// That a line is taken by a procedure of another unit.
+fn by_unit<'x>(at: usize, line: &'x str, name: &'x str, unit: &'x str, home: &'x str) -> Cause<'x> {
+    Cause::full(at, TAKEN_BY_UNIT, [line, name, unit, home, "", ""])
+}
+
 // What is said of these, of which none stands twice in its text.
 fn of_others<'a>(
     alloc: Global,
@@ -140,8 +145,7 @@ fn of_others<'a>(
     let known = Known::new(alloc);
     if let Some((one, other)) = before(alloc, script, part.line, own)? {
         let before = other.attached;
-        let words = [one.line, before.name, before.unit, before.home, "", ""];
-        let cause = Cause::full(one.at, TAKEN_BY_UNIT, words);
+        let cause = by_unit(one.at, one.line, before.name, before.unit, before.home);
         return of_part_beside(alloc, part, &cause, &known, other.number);
     }
     let cause = match of_type(own) {
