@@ -124,7 +124,7 @@ fn tell_raise<E: Write>(
         let _ = say(errors, "note: the host is halted, so no handler starts\n");
         return;
     }
-    if let Ok(text) = firing_text(alloc, catalogue, view.list(), view.clock(), line as usize) {
+    if let Ok(text) = firing_text(alloc, catalogue, view.list(), view.clock(), line) {
         let _ = say(errors, text.as_str());
     }
 }
