@@ -36,7 +36,7 @@ fn tell_change<T: Wait, E: Write>(
     if view.is_halted() {
         return;
     }
-    if let Ok(text) = change_text(alloc, staff.catalogue(), view.list(), change) {
+    if let Ok(text) = change_text(alloc, staff.catalogue(), view.list(), change, view.clock()) {
         let _ = say(errors, text.as_str());
     }
 }

@@ -50,11 +50,7 @@ fn add_notes(
 
 /// The notes on a list over units, at a tick, in the order of its lines: each that is due, and no other. Err where
 /// memory was refused.
-pub fn notes(
-    alloc: Global,
-    scene: &Scene<'_>,
-    list: &AccessList,
-) -> Result<Vec<Note>, AllocError>
+pub fn notes(alloc: Global, scene: &Scene<'_>, list: &AccessList) -> Result<Vec<Note>, AllocError>
     ensures { IfOk result (λ notes. AreNotes scene.now list.now notes.items) }
 {
     let mut notes = Vec::new(alloc);

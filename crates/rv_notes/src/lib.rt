@@ -12,7 +12,7 @@ mod spans;
 mod telling;
 mod words;
 
-pub use change::{change_notes, change_text, changed, line_changed, new_ones};
+pub use change::{change_notes, change_text, changed, denies, line_changed, new_ones};
 pub use judge::notes;
 pub use note::Note;
 pub use scene::Scene;

@@ -78,11 +78,7 @@ pub(crate) fn lacks_caller(
 
 /// Whether the unit of a line's object is none that there is, where that is told. Err where memory was refused.
 #[tactic(auto, using(crate::proofs::Named::in_any_case, crate::proofs::Named::where_near))]
-pub(crate) fn lacks_home(
-    alloc: Global,
-    scene: &Scene<'_>,
-    line: &Line,
-) -> Result<bool, AllocError>
+pub(crate) fn lacks_home(alloc: Global, scene: &Scene<'_>, line: &Line) -> Result<bool, AllocError>
     ensures { IfOk result (λ told. told ≡ lacks_home scene.now line.now) }
 {
     let catalogue = scene.catalogue();

@@ -244,7 +244,10 @@ pub fn words_of(
         Note::Home(_) => of_unit(alloc, catalogue, line.object(), unit),
         Note::Object(_) => of_object(alloc, catalogue, line.object(), unit, name),
         Note::Operation(_) => of_operation(alloc, catalogue, line),
-        Note::Past(_) => String::from_str(alloc, "decides no call any more, since its window has ended"),
+        Note::Past(_) => String::from_str(
+            alloc,
+            "decides no call any more, since its window has ended",
+        ),
         Note::Covered(_) => String::from_str(alloc, "decides no call, since later lines cover it"),
     }
 }
