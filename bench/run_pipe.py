@@ -807,7 +807,8 @@ def notes_at_commands(program):
     due = [NOTE, "warning: list line 2 names Pots.Gate; Post is loaded\n", "warning: list line 1 decides no call, since later lines cover it\n"]
     for words, told in ((("--notes", "always"), due), ((), []), (("--tick", "3600000"), []), (("--tick", "3600000", "--notes", "never"), [])):
         run = Run(program, unit(POST) + "@list\nallow Post Post.Gate Pass\n@run\n", words)
-        for command in (MISSPELT, "replace 2 allow Post Pots.Gate Pass", "replace 2 deny * * *", "remove 1", "replace 7 allow a a.b c"):
+        # Of what the last `deny` covers nothing is told: it does so on purpose.
+        for command in (MISSPELT, "replace 2 allow Post Pots.Gate Pass", "replace 2 allow * * *", "remove 1", "append deny * * *", "replace 7 allow a a.b c"):
             expect(f"{command} with {words}", run.ask(command), "badline" if "7" in command else "accepted 0")
         out, err, status = run.end()
         seen = [line + "\n" for line in err.splitlines() if line.startswith("warning: ")]

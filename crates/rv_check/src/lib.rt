@@ -5,6 +5,7 @@ mod check;
 mod commands;
 mod devices;
 mod lines;
+mod misfits;
 mod purpose;
 pub mod reading;
 mod script;

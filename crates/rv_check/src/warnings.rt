@@ -1,14 +1,16 @@
-//! What is told of the lists of a script, for whoever writes it: names that name nothing loaded, and lines that decide
-//! nothing.
+//! What is told of a script, for whoever writes it: names in lists that name nothing loaded, lines that decide nothing, and what
+//! can never work.
 
 ghost use Rattle.std.specs.Prelude.{◌≤◌, ◌^◌, ◌+◌, length, IfErr};
 ghost use Rattle.rv_fault.specs.Written.{IsNoFault};
 
+use crate::misfits::{MOST_TICKS, misfit_of, return_lines};
 use crate::purpose::{Purpose, purpose_in};
 use rv_access::{AccessList, Change};
 use rv_event::entry::Request;
 use rv_fault::{Failure, Part, Parts, device_unit, list_of, settings_of, shape_of, unit_of};
-use rv_notes::{Note, changed, line_changed, new_ones, notes, words_of};
+use rv_never::{Never, UnitCalls, ceiling_notes, denial_notes, notes_text, unit_calls};
+use rv_notes::{Note, Scene, changed, denies, line_changed, new_ones, notes, words_of};
 use rv_script::{Opening, open, text_of};
 use rv_settings::{Device, Settings};
 use rv_shape::catalogue::Catalogue;
@@ -20,12 +22,12 @@ use rv_text::{has_words, next_line};
 use std::alloc::{AllocError, Global};
 use std::mem;
 
-/// What is told of the lists of a script, a line each.
+/// What is told of a script, a line each.
 #[derive(Drop)]
 pub struct Warnings {
-    /// Of those in sections before the first step, or the first thread.
+    /// Of the sections before the first step, or the first thread.
     pub first: String,
-    /// Of those behind it, and of the lines that steps make.
+    /// Of those behind it, and of the steps.
     pub later: String,
 }
 
@@ -37,17 +39,23 @@ struct Waiting {
     lines: Vec<usize>,
 }
 
-// Where a script stands whose lists are judged.
+// Where a script stands that is judged.
 #[derive(Drop)]
 struct Review {
     alloc: Global,
     // Whether the script is for `run`, else for `play`.
     runs: bool,
+    // The units that the script loads up to its first fault, and what the tasks of each call in their own bodies.
+    all: Catalogue,
+    calls: Vec<UnitCalls>,
+    // Those of them that are loaded so far.
     catalogue: Catalogue,
     waiting: Vec<Waiting>,
-    // The list in force, and the notes on it.
+    // Whether there was a list, the one in force, and the notes on it, unless the clock has moved since they were found.
+    has_list: bool,
     list: AccessList,
-    notes: Vec<Note>,
+    notes: Option<Vec<Note>>,
+    clock: u64,
     // Whether a step came, and whether the host is halted.
     is_under_way: bool,
     is_halted: bool,
@@ -102,10 +110,14 @@ impl Review {
         Review {
             alloc,
             runs,
+            all: Catalogue::new(alloc),
+            calls: Vec::new(alloc),
             catalogue: Catalogue::new(alloc),
             waiting: Vec::new(alloc),
+            has_list: false,
             list: AccessList::new(alloc),
-            notes: Vec::new(alloc),
+            notes: None,
+            clock: 0,
             is_under_way: false,
             is_halted: false,
             warnings: Warnings {
@@ -115,7 +127,21 @@ impl Review {
         }
     }
 
-    // Adds a line to what is told.
+    // The notes on a list, over all units of the script. In a run others may come.
+    fn notes_on(&self, list: &AccessList) -> Result<Vec<Note>, AllocError> {
+        let scene = Scene::new(&self.all, !self.runs, self.clock);
+        notes(self.alloc, &scene, list)
+    }
+
+    // The notes on the list in force.
+    fn notes_before(&mut self) -> Result<Vec<Note>, AllocError> {
+        match mem::replace(&mut self.notes, None) {
+            Some(notes) => Ok(notes),
+            None => self.notes_on(&self.list),
+        }
+    }
+
+    // Adds lines to what is told.
     fn put(&mut self, line: &str) -> Result<(), AllocError> {
         if self.is_under_way {
             self.warnings.later.push_str(line)
@@ -128,7 +154,7 @@ impl Review {
     fn tell(&mut self, place: &str, list: &AccessList, note: Note) -> Result<(), AllocError> {
         let alloc = self.alloc;
         let number = note.line();
-        let words = words_of(alloc, &self.catalogue, list, note)?;
+        let words = words_of(alloc, &self.all, list, note)?;
         let words = words.as_str();
         let line = format!(in alloc; "warning: {place}, list line {number}, {words}\n")?;
         self.put(line.as_str())
@@ -150,12 +176,13 @@ impl Review {
     // Tells the notes on the list of a section, which is in force from now on.
     fn judge_section(&mut self, section: Waiting) -> Result<(), AllocError> {
         let Waiting { list, lines } = section;
-        let found = notes(self.alloc, &self.catalogue, &list)?;
+        let found = self.notes_on(&list)?;
         for note in found.as_slice() {
             self.tell_in_section(lines.as_slice(), &list, *note)?;
         }
+        self.has_list = true;
         self.list = list;
-        self.notes = found;
+        self.notes = Some(found);
         Ok(())
     }
 
@@ -169,6 +196,67 @@ impl Review {
         Ok(())
     }
 
+    // Tells lines of notes on what can never work.
+    fn tell_nevers(&mut self, notes: &[Never]) -> Result<(), AllocError> {
+        let text = notes_text(self.alloc, &self.catalogue, &self.list, self.clock, notes)?;
+        self.put(text.as_str())
+    }
+
+    // What the tasks of the units that are loaded call in their own bodies.
+    fn calls_loaded(&self) -> &[UnitCalls] {
+        let calls = self.calls.as_slice();
+        let loaded = self.catalogue.shapes().len();
+        if loaded > calls.len() {
+            return calls;
+        }
+        let (calls, _) = calls.split_at(loaded);
+        calls
+    }
+
+    // What ceilings forbid of the units that are loaded.
+    fn too_high(&self) -> Result<Vec<Never>, AllocError> {
+        let alloc = self.alloc;
+        let before = Catalogue::new(alloc);
+        ceiling_notes(alloc, &before, &self.catalogue, self.calls_loaded())
+    }
+
+    // What the list in force denies them; where there was no list, nothing is told of that.
+    fn denied(&self) -> Result<Vec<Never>, AllocError> {
+        let alloc = self.alloc;
+        if !self.has_list {
+            return Ok(Vec::new(alloc));
+        }
+        let before = Catalogue::new(alloc);
+        let calls = self.calls_loaded();
+        denial_notes(
+            alloc,
+            &before,
+            &self.catalogue,
+            calls,
+            &self.list,
+            self.clock,
+        )
+    }
+
+    // Tells what can never work of the units that are loaded.
+    fn judge_nevers(&mut self) -> Result<(), AllocError> {
+        let high = self.too_high()?;
+        self.tell_nevers(high.as_slice())?;
+        let denied = self.denied()?;
+        self.tell_nevers(denied.as_slice())
+    }
+
+    // Tells what is to be told before the first step, or the first thread: the notes on lists that wait, and what can never work.
+    fn judge_first(&mut self) -> Result<(), AllocError> {
+        self.judge()?;
+        if self.is_under_way {
+            return Ok(());
+        }
+        self.judge_nevers()?;
+        self.is_under_way = true;
+        Ok(())
+    }
+
     // Another list, by the change of one line in the step of a line: tells the notes on the line of the list that changed, and
     // those that weren't there before.
     fn judge_change(&mut self, line: usize, change: &Change) -> Result<(), AllocError> {
@@ -176,15 +264,22 @@ impl Review {
         let Some(list) = changed(&self.list, change)? else {
             return Ok(());
         };
-        let found = notes(alloc, &self.catalogue, &list)?;
+        let before = self.notes_before()?;
+        let found = self.notes_on(&list)?;
         let number = line_changed(&list, change);
-        let told = new_ones(alloc, self.notes.as_slice(), found.as_slice(), number)?;
+        let told = new_ones(
+            alloc,
+            before.as_slice(),
+            found.as_slice(),
+            number,
+            denies(change),
+        )?;
         let place = format!(in alloc; "script line {line}")?;
         for note in told.as_slice() {
             self.tell(place.as_str(), &list, *note)?;
         }
         self.list = list;
-        self.notes = found;
+        self.notes = Some(found);
         Ok(())
     }
 
@@ -193,9 +288,8 @@ impl Review {
         if number < 1 || number > self.list.len() {
             return Ok(());
         }
-        let list = self.list.removed(number)?;
-        self.notes = notes(self.alloc, &self.catalogue, &list)?;
-        self.list = list;
+        self.list = self.list.removed(number)?;
+        self.notes = None;
         Ok(())
     }
 
@@ -217,12 +311,38 @@ impl Review {
         }
     }
 
+    // So many ticks of the clock, where the operator may ask for them.
+    fn tick(&mut self, asker: &Asker, ticks: i64) {
+        if self.is_halted || ticks < 1 || ticks > MOST_TICKS {
+            return;
+        }
+        if let Asker::Operator = asker {
+            self.clock = self.clock.saturating_add(ticks.unsigned_abs());
+            self.notes = None;
+        }
+    }
+
+    // Tells why a step of a line can't fit, if it can't.
+    fn tell_misfit(&mut self, line: usize, step: &Step) -> Result<(), AllocError> {
+        let alloc = self.alloc;
+        if self.is_halted {
+            return Ok(());
+        }
+        let Some(words) = misfit_of(alloc, &self.catalogue, self.list.len(), step)? else {
+            return Ok(());
+        };
+        let words = words.as_str();
+        let told = format!(in alloc; "warning: script line {line}, {words}\n")?;
+        self.put(told.as_str())
+    }
+
     // What the step of a line asks. False where it can't.
     fn ask(&mut self, line: usize, step: &Step) -> Result<bool, AllocError> {
-        self.judge()?;
-        self.is_under_way = true;
+        self.judge_first()?;
+        self.tell_misfit(line, step)?;
         match &step.asked {
             Asked::Plain(Request::Halt) => self.halt(&step.asker),
+            Asked::Plain(Request::Tick(ticks)) => self.tick(&step.asker, *ticks),
             Asked::Change(Ok(change), _) => self.change(line, change)?,
             Asked::Change(Err(_), _) => return Ok(false),
             _ => {}
@@ -256,10 +376,82 @@ impl Review {
         Ok(true)
     }
 
-    // A unit more. False where it doesn't fit.
-    fn add(&mut self, shape: &UnitShape) -> Result<bool, Failure>
+    // What the tasks of one unit more call.
+    fn keep(&mut self, calls: UnitCalls) -> Result<(), AllocError> {
+        self.calls.push(calls)?;
+        Ok(())
+    }
+
+    // A unit more of all. False where it doesn't fit.
+    fn find(&mut self, shape: &UnitShape, calls: UnitCalls) -> Result<bool, Failure>
         ensures { IfErr result IsNoFault }
     {
+        match self.all.add(shape) {
+            Ok(()) => {
+                self.keep(calls)?;
+                Ok(true)
+            }
+            Err(ShapeFault::NoMemory) => Err(Failure::Memory),
+            Err(_) => Ok(false),
+        }
+    }
+
+    // A unit more of all, none of whose tasks has a body.
+    fn find_shape(&mut self, shape: &UnitShape) -> Result<bool, Failure>
+        ensures { IfErr result IsNoFault }
+    {
+        let unit = self.all.shapes().len().saturating_add(1);
+        let tasks = Vec::new(self.alloc);
+        self.find(shape, UnitCalls { unit, tasks })
+    }
+
+    // A unit of a text more of all.
+    fn find_unit(&mut self, part: &Part<'_>) -> Result<bool, Failure> {
+        let unit = unit_of(self.alloc, &self.all, part.line, part.text)?;
+        let calls = unit_calls(self.alloc, &self.all, &unit.bodies)?;
+        self.find(&unit.shape, calls)
+    }
+
+    // The unit of a part, if it is one. False where it doesn't fit.
+    fn find_part(&mut self, part: &Part<'_>) -> Result<bool, Failure> {
+        match part.opening {
+            Some(Opening::UnitText) => self.find_unit(part),
+            Some(Opening::Shape) => {
+                let shape = shape_of(self.alloc, part.line, part.text)?;
+                self.find_shape(&shape)
+            }
+            _ => Ok(true),
+        }
+    }
+
+    // All units of parts, up to the commands of a run, or to the first that is none. What stands against that isn't told here.
+    fn find_all(&mut self, mut parts: Parts<'_>) -> Result<(), Failure>
+        ensures { IfErr result IsNoFault }
+    {
+        'each: while let Some(part) = parts.next_part() {
+            if self.ends_at(part.opening) {
+                return Ok(());
+            }
+            match self.find_part(&part) {
+                Ok(true) => {}
+                Ok(false) => return Ok(()),
+                Err(failure) => {
+                    untold(failure)?;
+                    return Ok(());
+                }
+            }
+        }
+        Ok(())
+    }
+
+    // The next of all units is loaded. False where there is none, since it didn't fit.
+    fn load(&mut self) -> Result<bool, Failure>
+        ensures { IfErr result IsNoFault }
+    {
+        let place = self.catalogue.shapes().len();
+        let Some(shape) = self.all.shapes().get(place) else {
+            return Ok(false);
+        };
         match self.catalogue.add(shape) {
             Ok(()) => Ok(true),
             Err(ShapeFault::NoMemory) => Err(Failure::Memory),
@@ -269,6 +461,8 @@ impl Review {
 
     // The list of a section, which waits for the units that it is judged over.
     fn wait(&mut self, list: AccessList, text: &str) -> Result<(), AllocError> {
+        let returns = return_lines(self.alloc, text)?;
+        self.put(returns.as_str())?;
         let lines = lines_of(self.alloc, text)?;
         self.waiting.push(Waiting { list, lines })?;
         Ok(())
@@ -280,10 +474,7 @@ impl Review {
             return Ok(false);
         }
         match part.opening {
-            Some(Opening::Shape) => {
-                let shape = shape_of(self.alloc, part.line, part.text)?;
-                self.add(&shape)
-            }
+            Some(Opening::Shape) => self.load(),
             Some(Opening::Steps) => self.steps(part.line, part.text),
             _ => Ok(false),
         }
@@ -292,10 +483,7 @@ impl Review {
     // A part. False where it isn't one that is carried out, or a step of it is none.
     fn part(&mut self, part: &Part<'_>) -> Result<bool, Failure> {
         match part.opening {
-            Some(Opening::UnitText) => {
-                let unit = unit_of(self.alloc, &self.catalogue, part.line, part.text)?;
-                self.add(&unit.shape)
-            }
+            Some(Opening::UnitText) => self.load(),
             Some(Opening::AccessList) => {
                 let list = list_of(self.alloc, part.line, part.text)?;
                 self.wait(list, part.text)?;
@@ -336,7 +524,7 @@ impl Review {
     {
         'each: for device in devices {
             let shape = device_unit(self.alloc, device)?;
-            if !self.add(&shape)? {
+            if !self.find_shape(&shape)? || !self.load()? {
                 return Ok(false);
             }
         }
@@ -353,8 +541,19 @@ impl Review {
         if self.runs && !self.devices(settings.devices())? {
             return Ok(());
         }
-        self.judge()?;
+        self.judge_first()?;
         Ok(())
+    }
+
+    // All units of a script.
+    fn find_in(&mut self, text: &str) -> Result<(), Failure>
+        requires { length text.now + 1 ≤ 2 ^ 63 }
+        ensures { IfErr result IsNoFault }
+    {
+        match open(text) {
+            Ok(script) => self.find_all(Parts::of(script.sections)),
+            Err(_) => Ok(()),
+        }
     }
 
     // The parts of a script; nothing where its settings have a fault.
@@ -366,7 +565,10 @@ impl Review {
             return Ok(());
         };
         match settings_of(self.alloc, &script.settings) {
-            Ok(settings) => self.settled(&settings, Parts::of(script.sections)),
+            Ok(settings) => {
+                self.find_in(text)?;
+                self.settled(&settings, Parts::of(script.sections))
+            }
             Err(failure) => {
                 untold(failure)?;
                 Ok(())
@@ -381,25 +583,27 @@ impl Review {
     }
 }
 
-/// What is told of the lists of a script, which `play` would carry out. The list of a section is judged over the units that
-/// are loaded when the next step comes, or at the end; one that a step makes, at that step. Behind a fault of the script
-/// nothing is told: the fault is to be mended first. Each load, and each change of the list but one behind `halt`, is taken
-/// as accepted. Err where memory was refused.
+/// What is told of a script, which `play` would carry out. The list of a section is judged when the next step comes, or at the
+/// end; one that a step makes, at that step; each over all units of the script, and at the clock of the step. Before the first step,
+/// or at the end, what can never work of the units that are loaded is told by the list then in force. Of steps those that can't fit
+/// are told. Behind a fault of the script nothing is told: the fault is to be mended first. Each load, and each change of the list but
+/// one behind `halt`, is taken as accepted. Err where memory was refused.
 pub fn warnings_of(alloc: Global, script: &[u8]) -> Result<Warnings, Failure>
     ensures { IfErr result IsNoFault }
 {
     review_of(alloc, false, script)
 }
 
-/// What is told of the lists that stand before the commands of a run. They are judged over all its units, devices too,
-/// before the first thread. Else as `warnings_of`.
+/// What is told of the sections that stand before the commands of a run. Lists are judged over all its units, devices too, before
+/// the first thread; of units that there aren't is told where a line denies, or the name is near to one that there is. Else as
+/// `warnings_of`.
 pub fn run_warnings_of(alloc: Global, before: &[u8]) -> Result<Warnings, Failure>
     ensures { IfErr result IsNoFault }
 {
     review_of(alloc, true, before)
 }
 
-/// What is told of the lists of a whole script, as the command carries it out that it is for.
+/// What is told of a whole script, as the command carries it out that it is for.
 pub fn whole_warnings_of(alloc: Global, script: &[u8]) -> Result<Warnings, Failure>
     ensures { IfErr result IsNoFault }
 {
@@ -413,7 +617,7 @@ pub fn whole_warnings_of(alloc: Global, script: &[u8]) -> Result<Warnings, Failu
     review_of(alloc, runs, script)
 }
 
-// What is told of the lists of a script for `run`, or else for `play`.
+// What is told of a script for `run`, or else for `play`.
 fn review_of(alloc: Global, runs: bool, script: &[u8]) -> Result<Warnings, Failure>
     ensures { IfErr result IsNoFault }
 {

@@ -4,3 +4,4 @@ pub mod Spanning
 pub mod Objects
 pub mod Adding
 pub mod Changing
+pub mod Named

@@ -1,9 +1,9 @@
--- Lines that decide nothing, since later lines cover them (own).
-use Rattle.std.specs.Prelude.{◌≡◌, ℕ, Bool, true, ◌&&◌, nat_le, nat_lt, List}
+-- Lines that decide nothing: later lines cover them, or their window has ended (own).
+use Rattle.std.specs.Prelude.{◌≡◌, ℕ, Bool, true, false, ◌&&◌, nat_le, nat_lt, List, Option, Some, None}
 use Rattle.std.specs.List.{list_any}
-use Rattle.rv_access.specs.Words.{Words}
+use Rattle.rv_access.specs.Words.{WindowWords, Words}
 use Rattle.rv_access.specs.Lines.{decides, fits}
-use Rattle.rv_access.specs.Windows.{is_open}
+use Rattle.rv_access.specs.Windows.{end_tick, is_open}
 
 -- the line of this number decides no call, whatever the names of its caller, its object and its operation, at any tick
 abbrev pub DecidesNothing : List Words → ℕ → Type 0
@@ -20,6 +20,11 @@ is_spanned_at lines line tick = list_any (λ wide. is_wider wide line && is_open
 -- at each tick at which the line's window is open
 abbrev pub IsSpanned : List Words → Words → Type 0
 IsSpanned lines line = (tick : ℕ) → is_open line.window tick ≡ true → is_spanned_at lines line tick ≡ true
+
+-- a window has ended at a tick
+abbrev pub has_ended : Option WindowWords → ℕ → Bool
+has_ended None tick = false
+has_ended (Some window) tick = nat_le (end_tick window) tick
 
 -- a span of ticks: the first, and the first behind it
 abbrev pub Span : Type 0

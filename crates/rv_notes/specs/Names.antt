@@ -2,7 +2,7 @@
 use Rattle.std.specs.Prelude.{ℕ, Bool, false, not, nat_lt, ◌&&◌, ◌||◌, if◌then◌else◌, List, length, codes, is_some, Option, Some, None}
 use Rattle.std.specs.Str.{bytes_eq}
 use Rattle.std.specs.List.{list_any}
-use Rattle.rv_text.specs.Names.{is_same_name}
+use Rattle.rv_text.specs.Names.{dotted_parts, is_same_name}
 use Rattle.rv_near.specs.Near.{is_near}
 use Rattle.rv_access.specs.Words.{Words}
 use Rattle.rv_shape.specs.Shape.{Shape}
@@ -25,19 +25,44 @@ interrupts = codes "Interrupts"
 abbrev pub names_caller : List Shape → List ℕ → Bool
 names_caller shapes word = is_star word || is_same_name word interrupts || is_some (unit_number shapes word)
 
--- the unit that calls: a word that names none, near to one that would
-abbrev pub misspells_caller : List Shape → List ℕ → Bool
-misspells_caller shapes word = not (names_caller shapes word) && (is_near word interrupts || is_near_unit shapes word)
+-- over what a list is judged: the units that are loaded, or that a script loads; whether no others can come, as they can in a run;
+-- and the clock
+pub record Scene : Type 0 where
+  pub shapes : List Shape
+  pub is_closed : Bool
+  pub clock : ℕ
 
--- the unit of the object, of an object's two names: it isn't loaded, and near to one that is
-abbrev pub misspells_home : List Shape → Option (List ℕ × List ℕ) → Bool
-misspells_home shapes None = false
-misspells_home shapes (Some parts) = not (is_some (unit_number shapes parts.0)) && is_near_unit shapes parts.0
+-- whether it is told of a line that it names no unit: of one that denies, and where no others can come, in any case, else where
+-- the word is near to a name
+abbrev pub is_told : Scene → Words → Bool → Bool
+is_told scene line near = not line.allow || (scene.is_closed || near)
+
+-- there are units to be named
+abbrev pub has_units : Scene → Bool
+has_units scene = nat_lt 0 (length scene.shapes)
+
+-- the unit that calls: a word that names none, where that is told
+abbrev pub lacks_caller : Scene → Words → Bool
+lacks_caller scene line =
+    (has_units scene && not (names_caller scene.shapes line.unit))
+    && is_told scene line (is_near line.unit interrupts || is_near_unit scene.shapes line.unit)
+
+-- the unit of the object, of an object's two names: none that there is, where that is told
+abbrev pub lacks_home_of : Scene → Words → Option (List ℕ × List ℕ) → Bool
+lacks_home_of scene line None = false
+lacks_home_of scene line (Some parts) =
+    (has_units scene && not (is_some (unit_number scene.shapes parts.0))) && is_told scene line (is_near_unit scene.shapes parts.0)
+
+abbrev pub lacks_home : Scene → Words → Bool
+lacks_home scene line = lacks_home_of scene line (dotted_parts line.object)
 
 -- the object, of its whole name and its two names: its unit is loaded, and has no such object
-abbrev pub lacks_object : List Shape → List ℕ → Option (List ℕ × List ℕ) → Bool
-lacks_object shapes word None = false
-lacks_object shapes word (Some parts) = is_some (unit_number shapes parts.0) && not (is_some (object_number shapes word))
+abbrev pub lacks_object_of : List Shape → List ℕ → Option (List ℕ × List ℕ) → Bool
+lacks_object_of shapes word None = false
+lacks_object_of shapes word (Some parts) = is_some (unit_number shapes parts.0) && not (is_some (object_number shapes word))
+
+abbrev pub lacks_object : Scene → Words → Bool
+lacks_object scene line = lacks_object_of scene.shapes line.object (dotted_parts line.object)
 
 -- the operations of suspension objects (D.10)
 abbrev pub is_of_suspension : List ℕ → Bool
@@ -54,8 +79,8 @@ lacks_at shapes name None = false
 lacks_at shapes name (Some object) = not (is_some (operation_number shapes object name))
 
 -- the operation: the object is loaded, and has none of this name; or, of all objects, some are loaded, and none has it
-abbrev pub lacks_operation : List Shape → Words → Bool
-lacks_operation shapes line =
+abbrev pub lacks_operation : Scene → Words → Bool
+lacks_operation scene line =
     if is_star line.operation then false
-    else if is_star line.object then nat_lt 0 (length (all_objects shapes)) && not (has_somewhere shapes line.operation)
-    else lacks_at shapes line.operation (object_number shapes line.object)
+    else if is_star line.object then nat_lt 0 (length (all_objects scene.shapes)) && not (has_somewhere scene.shapes line.operation)
+    else lacks_at scene.shapes line.operation (object_number scene.shapes line.object)

@@ -5,11 +5,11 @@ use Rattle.std.specs.Option.{unwrap_or}
 use Rattle.rv_access.specs.Lines.{line_at}
 use Rattle.rv_access.specs.Words.{Words}
 use Rattle.rv_access.specs.declared.change.Change.{Change}
-use Rattle.rv_shape.specs.Shape.{Shape}
 use Rattle.rv_notes.specs.Changes.{AreChangeNotes, made}
+use Rattle.rv_notes.specs.Names.{Scene}
 use Rattle.rv_notes.specs.Notes.{number_of}
 use Rattle.rv_notes.specs.declared.note.Note.{Note}
-use Rattle.rv_notes.specs.declared.note.Note.TheVariants.{Caller, Home, Object, Operation, Covered}
+use Rattle.rv_notes.specs.declared.note.Note.TheVariants.{Caller, Home, Object, Operation, Past, Covered}
 
 -- these words say of a word that it names nothing; what there is instead stands behind, and isn't pinned
 abbrev pub Names : List ℕ → List ℕ → Type 0
@@ -21,6 +21,7 @@ SaysOf (Caller number) line words = Names line.unit words
 SaysOf (Home number) line words = Names line.object words
 SaysOf (Object number) line words = Names line.object words
 SaysOf (Operation number) line words = Names line.operation words
+SaysOf (Past number) line words = words ≡ codes "decides no call any more, since its window has ended"
 SaysOf (Covered number) line words = words ≡ codes "decides no call, since later lines cover it"
 
 -- nothing where there is no such line
@@ -44,6 +45,6 @@ TellsNotes list (note ∷ notes) text =
     (line : List ℕ) × (others : List ℕ) × TellsNote list note line × TellsNotes list notes others × (text ≡ line ++ others)
 
 -- what is told of a change of one line: the notes on the list that it makes; nothing where it makes none
-abbrev pub TellsChange : List Shape → List Words → Change → List ℕ → Type 0
-TellsChange shapes before change text =
-    (notes : List Note) × AreChangeNotes shapes before change notes × TellsNotes (unwrap_or (made before change) []) notes text
+abbrev pub TellsChange : Scene → List Words → Change → List ℕ → Type 0
+TellsChange scene before change text =
+    (notes : List Note) × AreChangeNotes scene before change notes × TellsNotes (unwrap_or (made before change) []) notes text

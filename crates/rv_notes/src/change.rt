@@ -1,15 +1,16 @@
 //! The notes on a change of one line of a list.
 
-ghost use Rattle.std.specs.Prelude.{◌≡◌, true, false, IfOk, List, Some, string_bytes};
+ghost use Rattle.std.specs.Prelude.{◌≡◌, ◌&&◌, true, false, IfOk, List, Some, string_bytes};
 ghost use Rattle.std.specs.List.{Contains};
-ghost use Rattle.rv_notes.specs.Changes.{AreChangeNotes, AreNew, IsNew, line_changed, made};
+ghost use Rattle.rv_notes.specs.Changes.{AreChangeNotes, AreNew, IsNew, denies, is_of_cover, line_changed, made};
 ghost use Rattle.rv_notes.specs.Notes.{AreNotes};
 ghost use Rattle.rv_notes.specs.Telling.{TellsChange};
-ghost use Rattle.rv_shape.specs.Shape.{Shape};
+ghost use Rattle.rv_notes.specs.Names.{Scene};
 ghost use Rattle.rv_access.specs.Words.{Words};
 
 use crate::judge::{notes, tell};
 use crate::note::Note;
+use crate::scene::Scene;
 use crate::telling::put_notes;
 use rv_access::{AccessList, Change, MOST_LINES};
 use rv_shape::catalogue::Catalogue;
@@ -28,28 +29,37 @@ fn is_among(notes: &[Note], note: Note) -> bool
     false
 }
 
-// Whether a note is of the line of a number, or not among these.
-#[tactic(auto, using(crate::proofs::Changing::new_line, crate::proofs::Changing::new_apart, crate::proofs::Changing::not_new))]
-fn is_new(before: &[Note], note: Note, number: usize) -> bool
-    ensures new { result ≡ true → (shapes : List Shape) (list : List Words) → AreNotes shapes list before.now → IsNew shapes list number note }
-    ensures known { result ≡ false → (shapes : List Shape) (list : List Words) → AreNotes shapes list before.now → IsNew shapes list number note → ⊥ }
+// Whether a note tells that a line is covered, and the line that is changed denies.
+fn is_on_purpose(is_denial: bool, note: Note) -> bool
+    ensures { result ≡ (is_denial && is_of_cover note) }
 {
-    note.line() == number || !is_among(before, note)
+    is_denial && note.is_of_cover()
 }
 
-/// Of the notes on a list those that are of the line of a number, or weren't there before. Err where memory was refused.
+// Whether a note is of the line of a number, or neither told on purpose nor among these.
+#[tactic(auto, using(crate::proofs::Changing::new_line, crate::proofs::Changing::new_apart, crate::proofs::Changing::not_new, crate::proofs::Changing::on_purpose))]
+fn is_new(before: &[Note], note: Note, number: usize, is_denial: bool) -> bool
+    ensures new { result ≡ true → (scene : Scene) (list : List Words) → AreNotes scene list before.now → IsNew scene list number is_denial note }
+    ensures known { result ≡ false → (scene : Scene) (list : List Words) → AreNotes scene list before.now → IsNew scene list number is_denial note → ⊥ }
+{
+    note.line() == number || (!is_on_purpose(is_denial, note) && !is_among(before, note))
+}
+
+/// Of the notes on a list those that are of the line of a number, or weren't there before; but where that line denies, none of
+/// other lines that it covers, as it does on purpose. Err where memory was refused.
 pub fn new_ones(
     alloc: Global,
     before: &[Note],
     found: &[Note],
     number: usize,
+    is_denial: bool,
 ) -> Result<Vec<Note>, AllocError>
-    ensures { (shapes : List Shape) (old new : List Words) → AreNotes shapes old before.now → AreNotes shapes new found.now
-        → IfOk result (λ notes. AreNew shapes old new number notes.items) }
+    ensures { (scene : Scene) (old new : List Words) → AreNotes scene old before.now → AreNotes scene new found.now
+        → IfOk result (λ notes. AreNew scene old new number is_denial notes.items) }
 {
     let mut new = Vec::new(alloc);
     for note in found {
-        let is_told = is_new(before, *note, number);
+        let is_told = is_new(before, *note, number, is_denial);
         tell(&mut new, is_told, *note)?;
     }
     Ok(new)
@@ -79,57 +89,83 @@ pub fn line_changed(after: &AccessList, change: &Change) -> usize
     }
 }
 
+/// Whether the line that a change brings denies.
+pub fn denies(change: &Change) -> bool
+    ensures { result ≡ denies change.now }
+{
+    match change {
+        Change::Append(line) => !line.allows(),
+        Change::Replace(_, line) => !line.allows(),
+        _ => false,
+    }
+}
+
 // The notes on a change that makes this list.
 fn notes_made(
     alloc: Global,
-    catalogue: &Catalogue,
+    scene: &Scene<'_>,
     before: &AccessList,
     after: &AccessList,
     change: &Change,
 ) -> Result<Vec<Note>, AllocError>
-    ensures { Some after.now ≡ made before.now change.now → IfOk result (λ notes. AreChangeNotes catalogue.now before.now change.now notes.items) }
+    ensures { Some after.now ≡ made before.now change.now → IfOk result (λ notes. AreChangeNotes scene.now before.now change.now notes.items) }
 {
-    let old = notes(alloc, catalogue, before)?;
-    let new = notes(alloc, catalogue, after)?;
+    let old = notes(alloc, scene, before)?;
+    let new = notes(alloc, scene, after)?;
     new_ones(
         alloc,
         old.as_slice(),
         new.as_slice(),
         line_changed(after, change),
+        denies(change),
     )
 }
 
-/// The notes on a change of one line, over the units that are loaded: those on that line, and those that the list hadn't
-/// before; none on a line less, on a whole list, and where the change makes no list. Err where memory was refused.
+/// The notes on a change of one line, over units, at a tick: those on that line, and those that the list hadn't before, but none
+/// of lines that the line covers where it denies; none on a line less, on a whole list, and where the change makes no list. Err where memory was refused.
 pub fn change_notes(
     alloc: Global,
-    catalogue: &Catalogue,
+    scene: &Scene<'_>,
     before: &AccessList,
     change: &Change,
 ) -> Result<Vec<Note>, AllocError>
-    ensures { IfOk result (λ notes. AreChangeNotes catalogue.now before.now change.now notes.items) }
+    ensures { IfOk result (λ notes. AreChangeNotes scene.now before.now change.now notes.items) }
 {
     match changed(before, change)? {
-        Some(after) => notes_made(alloc, catalogue, before, &after, change),
+        Some(after) => notes_made(alloc, scene, before, &after, change),
         None => Ok(Vec::new(alloc)),
     }
 }
 
-/// What is told of a change of one line, a line each: `warning: list line 3 names Plant.Vlave; Plant has Valve`. Err where
-/// memory was refused.
-pub fn change_text(
+// What is told of a change of one line, a line each, over a scene. Err where memory was refused.
+fn text_over(
     alloc: Global,
-    catalogue: &Catalogue,
+    scene: &Scene<'_>,
     before: &AccessList,
     change: &Change,
 ) -> Result<String, AllocError>
-    ensures { IfOk result (λ text. TellsChange catalogue.now before.now change.now (string_bytes text)) }
+    ensures { IfOk result (λ text. TellsChange scene.now before.now change.now (string_bytes text)) }
 {
     let mut text = String::new(alloc);
     let Some(after) = changed(before, change)? else {
         return Ok(text);
     };
-    let told = notes_made(alloc, catalogue, before, &after, change)?;
-    put_notes(&mut text, alloc, catalogue, &after, told.as_slice())?;
+    let told = notes_made(alloc, scene, before, &after, change)?;
+    put_notes(&mut text, alloc, scene.catalogue(), &after, told.as_slice())?;
     Ok(text)
+}
+
+/// What is told of a change of one line of a run's list, a line each, over the units that are loaded, at the clock: `warning: list
+/// line 3 names Plant.Vlave; Plant has Valve`. Err where memory was refused.
+pub fn change_text(
+    alloc: Global,
+    catalogue: &Catalogue,
+    before: &AccessList,
+    change: &Change,
+    clock: u64,
+) -> Result<String, AllocError>
+    ensures { IfOk result (λ text. TellsChange (record { shapes = catalogue.now; is_closed = false; clock = clock }) before.now change.now (string_bytes text)) }
+{
+    let scene = Scene::new(catalogue, false, clock);
+    text_over(alloc, &scene, before, change)
 }

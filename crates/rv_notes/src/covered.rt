@@ -1,10 +1,10 @@
-//! Lines that decide nothing, since later lines cover them.
+//! Lines that decide nothing: later lines cover them, or their window has ended.
 
 ghost use Rattle.std.specs.Prelude.{◌≡◌, ◌<◌, ◌≤◌, ◌↔◌, ℕ, true, false, length, IfOk, IfSome, IsTrue, MatchOption};
 ghost use Rattle.std.specs.List.{All};
 ghost use Rattle.rv_access.specs.Limits.{most_tick};
 ghost use Rattle.rv_access.specs.Spelled.{IsSpelled};
-ghost use Rattle.rv_notes.specs.Covered.{DecidesNothing, IsSpanned, is_held, is_spanned_at, is_wider};
+ghost use Rattle.rv_notes.specs.Covered.{DecidesNothing, IsSpanned, has_ended, is_held, is_spanned_at, is_wider};
 
 use crate::spans::{Span, are_held};
 use rv_access::{AccessList, Line, fits};
@@ -51,6 +51,16 @@ fn is_spanned(alloc: Global, lines: &[Line], line: &Line) -> Result<bool, AllocE
     match line.window() {
         Some(window) => Ok(are_held(spans.as_slice(), window.first(), window.end())),
         None => Ok(false),
+    }
+}
+
+/// Whether the window of a line has ended at a tick.
+pub(crate) fn has_ended(line: &Line, tick: u64) -> bool
+    ensures { result ≡ has_ended line.now.window tick }
+{
+    match line.window() {
+        Some(window) => window.end() <= tick,
+        None => false,
     }
 }
 

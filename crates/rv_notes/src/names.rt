@@ -1,9 +1,10 @@
 //! Names of a line that name nothing of what is loaded.
 
-ghost use Rattle.std.specs.Prelude.{◌≡◌, IfOk};
-ghost use Rattle.rv_text.specs.Names as texts;
-ghost use Rattle.rv_notes.specs.Names.{has_somewhere, is_near_unit, is_of_suspension, lacks_object, lacks_operation, misspells_caller, misspells_home, names_caller};
+ghost use Rattle.std.specs.Prelude.{◌≡◌, ◌||◌, not, IfOk};
+ghost use Rattle.rv_near.specs.Near.{is_near};
+ghost use Rattle.rv_notes.specs.Names.{has_somewhere, has_units, interrupts, is_near_unit, is_of_suspension, lacks_caller, lacks_home, lacks_object, lacks_operation, names_caller};
 
+use crate::scene::Scene;
 use rv_access::Line;
 use rv_near::is_near;
 use rv_shape::catalogue::Catalogue;
@@ -32,47 +33,75 @@ fn names_caller(catalogue: &Catalogue, word: &str) -> bool
     word == "*" || is_same_name(word, INTERRUPTS) || catalogue.find_unit(word).is_some()
 }
 
-/// Whether a word that is to name a caller names none, and is near to one that would. Err where memory was refused.
-pub(crate) fn misspells_caller(
-    alloc: Global,
-    catalogue: &Catalogue,
-    word: &str,
-) -> Result<bool, AllocError>
-    ensures { IfOk result (λ told. told ≡ misspells_caller catalogue.now word.now) }
+// Whether it is told of a line that it names no unit, whatever the word is near to.
+fn is_told(scene: &Scene<'_>, line: &Line) -> bool
+    ensures { result ≡ (not line.now.allow || scene.now.is_closed) }
 {
-    if names_caller(catalogue, word) {
-        return Ok(false);
-    }
+    !line.allows() || scene.is_closed()
+}
+
+// Whether there are units to be named.
+fn has_units(scene: &Scene<'_>) -> bool
+    ensures { result ≡ has_units scene.now }
+{
+    scene.catalogue().shapes().len() > 0
+}
+
+// Whether a word is near to a name that a caller may have. Err where memory was refused.
+fn is_near_caller(alloc: Global, catalogue: &Catalogue, word: &str) -> Result<bool, AllocError>
+    ensures { IfOk result (λ near. near ≡ (is_near word.now interrupts || is_near_unit catalogue.now word.now)) }
+{
     if is_near(alloc, word, INTERRUPTS)? {
         return Ok(true);
     }
     is_near_unit(alloc, catalogue, word)
 }
 
-/// Whether the unit of an object isn't loaded, and is near to one that is. Err where memory was refused.
-pub(crate) fn misspells_home(
+/// Whether the unit of a line that is to call is none that there is, where that is told. Err where memory was refused.
+#[tactic(auto, using(crate::proofs::Named::in_any_case, crate::proofs::Named::where_near))]
+pub(crate) fn lacks_caller(
     alloc: Global,
-    catalogue: &Catalogue,
-    object: &str,
+    scene: &Scene<'_>,
+    line: &Line,
 ) -> Result<bool, AllocError>
-    ensures { IfOk result (λ told. told ≡ misspells_home catalogue.now (texts.dotted_parts object.now)) }
+    ensures { IfOk result (λ told. told ≡ lacks_caller scene.now line.now) }
 {
-    let Some((unit, _)) = dotted_parts(object) else {
+    let catalogue = scene.catalogue();
+    if !has_units(scene) || names_caller(catalogue, line.unit()) {
+        return Ok(false);
+    }
+    if is_told(scene, line) {
+        return Ok(true);
+    }
+    is_near_caller(alloc, catalogue, line.unit())
+}
+
+/// Whether the unit of a line's object is none that there is, where that is told. Err where memory was refused.
+#[tactic(auto, using(crate::proofs::Named::in_any_case, crate::proofs::Named::where_near))]
+pub(crate) fn lacks_home(alloc: Global, scene: &Scene<'_>, line: &Line) -> Result<bool, AllocError>
+    ensures { IfOk result (λ told. told ≡ lacks_home scene.now line.now) }
+{
+    let catalogue = scene.catalogue();
+    let Some((unit, _)) = dotted_parts(line.object()) else {
         return Ok(false);
     };
-    if catalogue.find_unit(unit).is_some() {
+    if !has_units(scene) || catalogue.find_unit(unit).is_some() {
         return Ok(false);
+    }
+    if is_told(scene, line) {
+        return Ok(true);
     }
     is_near_unit(alloc, catalogue, unit)
 }
 
-/// Whether the unit of an object is loaded, and has no such object.
-pub(crate) fn lacks_object(catalogue: &Catalogue, object: &str) -> bool
-    ensures { result ≡ lacks_object catalogue.now object.now (texts.dotted_parts object.now) }
+/// Whether the unit of a line's object is loaded, and has no such object.
+pub(crate) fn lacks_object(scene: &Scene<'_>, line: &Line) -> bool
+    ensures { result ≡ lacks_object scene.now line.now }
 {
-    match dotted_parts(object) {
+    let catalogue = scene.catalogue();
+    match dotted_parts(line.object()) {
         Some((unit, _)) => {
-            catalogue.find_unit(unit).is_some() && catalogue.find_object(object).is_none()
+            catalogue.find_unit(unit).is_some() && catalogue.find_object(line.object()).is_none()
         }
         None => false,
     }
@@ -105,9 +134,10 @@ fn has_somewhere(catalogue: &Catalogue, name: &str) -> bool
 
 /// Whether the object of a line is loaded, and has no operation of the line's name; where the object is `*`, whether some
 /// are loaded, and none has it.
-pub(crate) fn lacks_operation(catalogue: &Catalogue, line: &Line) -> bool
-    ensures { result ≡ lacks_operation catalogue.now line.now }
+pub(crate) fn lacks_operation(scene: &Scene<'_>, line: &Line) -> bool
+    ensures { result ≡ lacks_operation scene.now line.now }
 {
+    let catalogue = scene.catalogue();
     let operation = line.operation();
     if operation == "*" {
         return false;

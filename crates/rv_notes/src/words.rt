@@ -9,11 +9,14 @@ use rv_access::{AccessList, Line};
 use rv_near::nearest;
 use rv_shape::catalogue::Catalogue;
 use rv_shape::object::Object;
-use rv_text::dotted_parts;
+use rv_text::{dotted_parts, is_same_name};
 use std::alloc::{AllocError, Global};
 
 // How many names a sentence holds at most.
 const MOST_NAMES: usize = 5;
+
+// How many names are looked at closely, to find the nearest one.
+const MOST_CANDIDATES: usize = 32;
 
 // Adds the names of the operations of an object. Err where memory was refused.
 fn add_operations<'a>(names: &mut Vec<&'a str>, object: &'a Object) -> Result<(), AllocError> {
@@ -78,15 +81,72 @@ fn first_or_all(alloc: Global, names: &[&str]) -> Result<String, AllocError> {
     format!(in alloc; "{text} and {more} more")
 }
 
+// Whether a byte is among these, case of ASCII letters ignored.
+fn has_byte(bytes: &[u8], byte: u8) -> bool {
+    let byte = byte.to_ascii_lowercase();
+    for other in bytes {
+        if other.to_ascii_lowercase() == byte {
+            return true;
+        }
+    }
+    false
+}
+
+// How many bytes of a word a name hasn't: it takes as many edits at least to come from one to the other.
+fn count_missing(word: &str, name: &str) -> usize {
+    let mut missing: usize = 0;
+    for byte in word.as_bytes() {
+        if !has_byte(name.as_bytes(), *byte) {
+            missing = missing.saturating_add(1);
+        }
+    }
+    missing
+}
+
+// Whether a name may be near to a word. This is quickly told, and spares most names the table of edits.
+fn may_be_near(word: &str, name: &str) -> bool {
+    let most = word.len() / 3;
+    word.len() <= name.len().saturating_add(most)
+        && name.len() <= word.len().saturating_add(most)
+        && count_missing(word, name) <= most
+}
+
+// The name that is nearest to a word, among the first of those that may be near. Err where memory was refused.
+fn nearest_of<'a>(
+    alloc: Global,
+    word: &str,
+    names: &[&'a str],
+) -> Result<Option<&'a str>, AllocError> {
+    let mut candidates = Vec::new(alloc);
+    for name in names {
+        if candidates.len() < MOST_CANDIDATES && may_be_near(word, *name) {
+            candidates.push(*name)?;
+        }
+    }
+    nearest(alloc, word, candidates.as_slice())
+}
+
 // The name that is nearest to a word, or all of them; `none` where there are none. Err where memory was refused.
 fn near_or_all(alloc: Global, word: &str, names: &[&str]) -> Result<String, AllocError> {
-    match nearest(alloc, word, names)? {
+    match nearest_of(alloc, word, names)? {
         Some(near) => String::from_str(alloc, near),
         None => first_or_all(alloc, names),
     }
 }
 
-// That a unit isn't loaded which a word names, and which is.
+// The unit that has a task of this name, if one has.
+fn home_of_task<'a>(catalogue: &'a Catalogue, name: &str) -> Option<&'a str> {
+    for shape in catalogue.shapes() {
+        for task in shape.tasks() {
+            if is_same_name(task.name(), name) {
+                return Some(shape.name());
+            }
+        }
+    }
+    None
+}
+
+// That there is no unit which a word names, and which there is that may be meant.
 fn of_unit(
     alloc: Global,
     catalogue: &Catalogue,
@@ -96,9 +156,13 @@ fn of_unit(
     ensures { IfOk result (λ words. Names word.now (string_bytes words)) }
 {
     let names = units(alloc, catalogue)?;
-    let near = near_or_all(alloc, unit, names.as_slice())?;
-    let near = near.as_str();
-    format!(in alloc; "names {word}; {near} is loaded")
+    if let Some(near) = nearest_of(alloc, unit, names.as_slice())? {
+        return format!(in alloc; "names {word}; {near} is loaded");
+    }
+    if let Some(home) = home_of_task(catalogue, unit) {
+        return format!(in alloc; "names {word}; that is a task of {home}");
+    }
+    format!(in alloc; "names {word}; no unit of this name is loaded")
 }
 
 // That there is no such caller, and which there is.
@@ -143,7 +207,7 @@ fn of_operation(alloc: Global, catalogue: &Catalogue, line: &Line) -> Result<Str
     let word = line.operation();
     let Some(number) = catalogue.find_object(line.object()) else {
         let names = all_operations(alloc, catalogue)?;
-        return match nearest(alloc, word, names.as_slice())? {
+        return match nearest_of(alloc, word, names.as_slice())? {
             Some(near) => format!(in alloc; "names {word}; there is {near}"),
             None => format!(in alloc; "names {word}; no object has it"),
         };
@@ -180,6 +244,10 @@ pub fn words_of(
         Note::Home(_) => of_unit(alloc, catalogue, line.object(), unit),
         Note::Object(_) => of_object(alloc, catalogue, line.object(), unit, name),
         Note::Operation(_) => of_operation(alloc, catalogue, line),
+        Note::Past(_) => String::from_str(
+            alloc,
+            "decides no call any more, since its window has ended",
+        ),
         Note::Covered(_) => String::from_str(alloc, "decides no call, since later lines cover it"),
     }
 }

@@ -5,6 +5,6 @@ use Rattle.rv_notes.proofs.change.notes_made.Goals as goal
 
 pub returns : goal.returns
 returns c = λ list.
-    let old : AreNotes c.args.catalogue.now c.args.before.now c.as_slice.result.now = subst (AreNotes c.args.catalogue.now c.args.before.now) (sym c.as_slice.ensures.value) c.in_ok-old.ensures in
-    let new : AreNotes c.args.catalogue.now c.args.after.now c.as_slice-2.result.now = subst (AreNotes c.args.catalogue.now c.args.after.now) (sym c.as_slice-2.ensures.value) c.in_ok-new.ensures in
-    change_told c.args.catalogue.now c.args.before.now c.args.change.now c.args.after.now (λ (v : _). v.items) c.line_changed.result list c.line_changed.ensures c.new_ones.result (c.new_ones.ensures c.args.catalogue.now c.args.before.now c.args.after.now old new)
+    let old : AreNotes c.args.scene.now c.args.before.now c.as_slice.result.now = subst (AreNotes c.args.scene.now c.args.before.now) (sym c.as_slice.ensures.value) c.in_ok-old.ensures in
+    let new : AreNotes c.args.scene.now c.args.after.now c.as_slice-2.result.now = subst (AreNotes c.args.scene.now c.args.after.now) (sym c.as_slice-2.ensures.value) c.in_ok-new.ensures in
+    change_told c.args.scene.now c.args.before.now c.args.change.now c.args.after.now (λ (v : _). v.items) c.line_changed.result c.denies.result list c.line_changed.ensures c.denies.ensures c.new_ones.result (c.new_ones.ensures c.args.scene.now c.args.before.now c.args.after.now old new)

@@ -3,4 +3,4 @@ use Rattle.rv_notes.proofs.judge.notes.Given as goal
 
 -- the notes of the lines so far
 abbrev pub invariant-loop-place : goal.invariant-loop-place
-invariant-loop-place l = SoFar l.catalogue l.list l.place l.notes.items
+invariant-loop-place l = SoFar l.scene l.list l.place l.notes.items

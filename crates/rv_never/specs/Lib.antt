@@ -1,0 +1,5 @@
+pub mod Written
+pub mod Denied
+pub mod Nevers
+pub mod Firings
+pub mod Telling
