@@ -129,9 +129,10 @@ fn before<'a, 'o>(
     Ok(None)
 }
 
-// That a line is taken by a procedure of another unit.
-fn by_unit<'x>(at: usize, line: &'x str, name: &'x str, unit: &'x str, home: &'x str) -> Cause<'x> {
-    Cause::full(at, TAKEN_BY_UNIT, [line, name, unit, home, "", ""])
+// That a line is taken by a procedure of another unit, at a place.
+fn by_unit<'a>(at: usize, before: &Attached<'a>) -> Cause<'a> {
+    let words = [before.line, before.name, before.unit, before.home, "", ""];
+    Cause::full(at, TAKEN_BY_UNIT, words)
 }
 
 // What is said of these, of which none stands twice in its text.
@@ -144,8 +145,7 @@ fn of_others<'a>(
 ) -> Result<Explanation<'a>, AllocError> {
     let known = Known::new(alloc);
     if let Some((one, other)) = before(alloc, script, part.line, own)? {
-        let before = other.attached;
-        let cause = by_unit(one.at, one.line, before.name, before.unit, before.home);
+        let cause = by_unit(one.at, &other.attached);
         return of_part_beside(alloc, part, &cause, &known, other.number);
     }
     let cause = match of_type(own) {
