@@ -85,41 +85,44 @@ fn line_feeds_before(text: &str, at: usize) -> usize {
         .count()
 }
 
-// A procedure of another part, and the line of the script where its line of interrupts is named.
+// A procedure of another part that takes a line of interrupts.
 #[derive(Clone, Copy)]
 struct Elsewhere<'a> {
     attached: Attached<'a>,
+    // The line of the script where the line of interrupts is named there.
     number: usize,
+    // The byte of the text where it is named that is taken.
+    at: usize,
 }
 
-// One of these whose line of interrupts a part before a line takes, and by what.
-fn in_part<'a, 'o>(
+// By what a part before a line takes the line of interrupts of one of these.
+fn in_part<'a>(
     alloc: Global,
     part: &Part<'a>,
     line: usize,
-    own: &[Attached<'o>],
-) -> Result<Option<(Attached<'o>, Elsewhere<'a>)>, AllocError> {
+    own: &[Attached<'_>],
+) -> Result<Option<Elsewhere<'a>>, AllocError> {
     let others = attached_of(alloc, part, line)?;
     for one in own {
         if let Some(other) = first_of(others.as_slice(), others.len(), one.line) {
             let feeds = line_feeds_before(part.text, other.at);
-            let elsewhere = Elsewhere {
+            return Ok(Some(Elsewhere {
                 attached: *other,
                 number: part.line.saturating_add(1).saturating_add(feeds),
-            };
-            return Ok(Some((*one, elsewhere)));
+                at: one.at,
+            }));
         }
     }
     Ok(None)
 }
 
 // The same of all parts before a line.
-fn before<'a, 'o>(
+fn before<'a>(
     alloc: Global,
     script: &'a str,
     line: usize,
-    own: &[Attached<'o>],
-) -> Result<Option<(Attached<'o>, Elsewhere<'a>)>, AllocError> {
+    own: &[Attached<'_>],
+) -> Result<Option<Elsewhere<'a>>, AllocError> {
     let mut parts = parts_of(script);
     'each: while let Some(part) = parts.next_part() {
         if let Some(found) = in_part(alloc, &part, line, own)? {
@@ -144,8 +147,8 @@ fn of_others<'a>(
     at: usize,
 ) -> Result<Explanation<'a>, AllocError> {
     let known = Known::new(alloc);
-    if let Some((one, other)) = before(alloc, script, part.line, own)? {
-        let cause = by_unit(one.at, &other.attached);
+    if let Some(other) = before(alloc, script, part.line, own)? {
+        let cause = by_unit(other.at, &other.attached);
         return of_part_beside(alloc, part, &cause, &known, other.number);
     }
     let cause = match of_type(own) {
