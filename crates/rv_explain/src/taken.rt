@@ -85,44 +85,76 @@ fn line_feeds_before(text: &str, at: usize) -> usize {
         .count()
 }
 
-// A procedure of another part that takes a line of interrupts.
-#[derive(Clone, Copy)]
-struct Elsewhere<'a> {
-    attached: Attached<'a>,
-    // The line of the script where the line of interrupts is named there.
-    number: usize,
-    // The byte of the text where it is named that is taken.
+// A line of interrupts that a procedure of another part takes, and where in the script that names it.
+#[derive(Drop)]
+struct Elsewhere {
+    // The place where the text at hand names the line of interrupts.
     at: usize,
+    line: String,
+    name: String,
+    unit: String,
+    home: String,
+    // The line of the script where the other part names it.
+    number: usize,
 }
 
-// By what a part before a line takes the line of interrupts of one of these.
-fn in_part<'a>(
+impl Elsewhere {
+    // That this one of a text is taken by that of another part, which the line of this number of the script names.
+    fn of(
+        alloc: Global,
+        one: &Attached<'_>,
+        other: &Attached<'_>,
+        number: usize,
+    ) -> Result<Elsewhere, AllocError> {
+        Ok(Elsewhere {
+            at: one.at,
+            line: String::from_str(alloc, one.line)?,
+            name: String::from_str(alloc, other.name)?,
+            unit: String::from_str(alloc, other.unit)?,
+            home: String::from_str(alloc, other.home)?,
+            number,
+        })
+    }
+
+    // What is said of it.
+    fn cause(&self) -> Cause<'_> {
+        let words = [
+            self.line.as_str(),
+            self.name.as_str(),
+            self.unit.as_str(),
+            self.home.as_str(),
+            "",
+            "",
+        ];
+        Cause::full(self.at, TAKEN_BY_UNIT, words)
+    }
+}
+
+// One of these whose line of interrupts a part before a line takes, and by what.
+fn in_part(
     alloc: Global,
-    part: &Part<'a>,
+    part: &Part<'_>,
     line: usize,
     own: &[Attached<'_>],
-) -> Result<Option<Elsewhere<'a>>, AllocError> {
+) -> Result<Option<Elsewhere>, AllocError> {
     let others = attached_of(alloc, part, line)?;
     for one in own {
         if let Some(other) = first_of(others.as_slice(), others.len(), one.line) {
             let feeds = line_feeds_before(part.text, other.at);
-            return Ok(Some(Elsewhere {
-                attached: *other,
-                number: part.line.saturating_add(1).saturating_add(feeds),
-                at: one.at,
-            }));
+            let number = part.line.saturating_add(1).saturating_add(feeds);
+            return Ok(Some(Elsewhere::of(alloc, one, other, number)?));
         }
     }
     Ok(None)
 }
 
 // The same of all parts before a line.
-fn before<'a>(
+fn before(
     alloc: Global,
-    script: &'a str,
+    script: &str,
     line: usize,
     own: &[Attached<'_>],
-) -> Result<Option<Elsewhere<'a>>, AllocError> {
+) -> Result<Option<Elsewhere>, AllocError> {
     let mut parts = parts_of(script);
     'each: while let Some(part) = parts.next_part() {
         if let Some(found) = in_part(alloc, &part, line, own)? {
@@ -132,10 +164,28 @@ fn before<'a>(
     Ok(None)
 }
 
-// That a line is taken by a procedure of another unit, at a place.
-fn by_unit<'a>(at: usize, before: &Attached<'a>) -> Cause<'a> {
-    let words = [before.line, before.name, before.unit, before.home, "", ""];
-    Cause::full(at, TAKEN_BY_UNIT, words)
+// What is said of one that another part takes.
+fn of_elsewhere<'a>(
+    alloc: Global,
+    part: &Part<'a>,
+    elsewhere: &Elsewhere,
+) -> Result<Explanation<'a>, AllocError> {
+    let known = Known::new(alloc);
+    of_part_beside(alloc, part, &elsewhere.cause(), &known, elsewhere.number)
+}
+
+// What is said of these where no other part takes one.
+fn of_own<'a>(
+    alloc: Global,
+    part: &Part<'a>,
+    own: &[Attached<'_>],
+    at: usize,
+) -> Result<Explanation<'a>, AllocError> {
+    let known = Known::new(alloc);
+    match of_type(own) {
+        Some(cause) => of_part(alloc, part, &cause, &known),
+        None => of_part(alloc, part, &Cause::plain(at, NO_MORE), &known),
+    }
 }
 
 // What is said of these, of which none stands twice in its text.
@@ -146,16 +196,10 @@ fn of_others<'a>(
     own: &[Attached<'_>],
     at: usize,
 ) -> Result<Explanation<'a>, AllocError> {
-    let known = Known::new(alloc);
-    if let Some(other) = before(alloc, script, part.line, own)? {
-        let cause = by_unit(other.at, &other.attached);
-        return of_part_beside(alloc, part, &cause, &known, other.number);
+    match before(alloc, script, part.line, own)? {
+        Some(elsewhere) => of_elsewhere(alloc, part, &elsewhere),
+        None => of_own(alloc, part, own, at),
     }
-    let cause = match of_type(own) {
-        Some(cause) => cause,
-        None => Cause::plain(at, NO_MORE),
-    };
-    of_part(alloc, part, &cause, &known)
 }
 
 /// What is said of a line of interrupts that is taken, where the text of a part attaches these; where nothing more is known, at this place.
