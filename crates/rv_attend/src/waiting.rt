@@ -165,7 +165,7 @@ fn hint<T, E: Write, F>(follower: &mut Follower<'_, T, F>, input: &Input, errors
     ensures keeper { follower.new.keeper ≡ follower.old.keeper }
     ensures asked { follower.new.asked ≡ follower.old.asked }
     ensures room { follower.new.room ≡ follower.old.room }
-    ensures source { follower.new.source ≡ follower.old.source }
+    ensures feed { follower.new.source.feed ≡ follower.old.source.feed }
 {
     if is_unhinted(follower) && begins_with_load(follower.alloc, input.ahead()) {
         follower.is_hinted = true;
