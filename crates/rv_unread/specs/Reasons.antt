@@ -1,5 +1,5 @@
 -- What of the reasons why a line is unreadable is said exactly (own).
-use Rattle.std.specs.Prelude.{◌≡◌, ⊥, List, None}
+use Rattle.std.specs.Prelude.{◌≡◌, List, None}
 use Rattle.rv_shape.specs.Shape.{Shape}
 use Rattle.rv_shape.specs.Names.{unit_number}
 use Rattle.rv_audit.specs.Units.{first_unit}
@@ -12,4 +12,4 @@ abbrev pub IsOfText : List Shape → List Shape → Reason → Type 0
 IsOfText loaded given NoFeed = ⊥
 IsOfText loaded given (NotLoaded unit) = unit_number loaded unit.now ≡ None
 IsOfText loaded given (NotGiven unit) = first_unit given unit.now ≡ None
-IsOfText loaded given (Said sentence words) = Unit {0}
+IsOfText loaded given (Said sentence first second third) = Unit {0}

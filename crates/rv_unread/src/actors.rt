@@ -34,7 +34,7 @@ pub(crate) fn of_spelling<'a>(word: &'a str, unit: &'a str, name: &'a str) -> Op
 {
     match word.split_once('.') {
         Some((front, behind)) if front == unit && behind == name => None,
-        _ => Some(Reason::Said(SPELT, [word, unit, name])),
+        _ => Some(Reason::Said(SPELT, word, unit, name)),
     }
 }
 

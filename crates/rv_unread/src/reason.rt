@@ -13,7 +13,7 @@ pub enum Reason<'a> {
     /// It loads a unit of exactly this name, and the script gives none.
     NotGiven(&'a str),
     /// A sentence with words, of which some may be empty: `{0}`, `{1}` and `{2}` in it stand for them.
-    Said(&'static str, [&'a str; 3]),
+    Said(&'static str, &'a str, &'a str, &'a str),
 }
 
 // How many characters of a word are said.
@@ -63,17 +63,17 @@ fn put_said<W: fmt::Write>(
 impl<'a> Reason<'a> {
     /// A sentence without words.
     pub(crate) fn plain(said: &'static str) -> Reason<'a> {
-        Reason::Said(said, ["", "", ""])
+        Reason::Said(said, "", "", "")
     }
 
     /// A sentence with one word.
     pub(crate) fn of(said: &'static str, word: &'a str) -> Reason<'a> {
-        Reason::Said(said, [word, "", ""])
+        Reason::Said(said, word, "", "")
     }
 
     /// A sentence with two words.
     pub(crate) fn pair(said: &'static str, word: &'a str, other: &'a str) -> Reason<'a> {
-        Reason::Said(said, [word, other, ""])
+        Reason::Said(said, word, other, "")
     }
 }
 
@@ -91,7 +91,7 @@ impl fmt::Display for Reason<'_> {
                     &[unit, "", ""],
                 )
             }
-            Reason::Said(said, words) => put_said(f, said, &words),
+            Reason::Said(said, first, second, third) => put_said(f, said, &[first, second, third]),
         }
     }
 }
