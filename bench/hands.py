@@ -5,12 +5,13 @@
 
 Two runs on one journal; a journal that others cut off, remove or replace; standard input, output or error closed before the
 start; a limit on the size of files; a journal's file that a wrong command line would leave behind; texts that are sent to a run, and
-hold commands, are cut short or large, by several senders at once; scripts that are named to the wrong command; parts of a script in
+hold commands, are cut short or large, by several senders at once; scripts that are named to the wrong command; notes on long lists; parts of a script in
 files of their own that hold sections, are cut short or refused. It needs flock, and a program: the proved one or the trial that is kept.
 Where ravenreview isn't there, its questions aren't asked.
 """
 import os
 import pty
+import random
 import re
 import signal
 import subprocess
@@ -389,9 +390,29 @@ def runs_of_parts(hands: Hands) -> None:
         hands.due(f"no file is left behind {how!r}", not left, left)
 
 
+def notes_on_long_lists(hands: Hands) -> None:
+    """512 lines that deny what none of 4,096 operations is: their notes take at most ten times what the check of the script takes."""
+    draw = random.Random(1)
+    names = ["".join(draw.choice("abcdefghijklmnoprstuvw") for _ in range(8)).capitalize() + str(number) for number in range(4096)]
+    script = "".join("@shape\nunit U%d\n" % unit + "".join("protected O%d 20\n" % place + "".join(
+        "procedure %s\n" % name for name in names[(unit * 16 + place) * 16:][:16]) for place in range(16)) for unit in range(16))
+    script += "@list\n" + "deny * * MISSPELT\n" * 512
+
+    def seconds(when: str) -> float:
+        before = os.times()
+        done = hands.asked(["check", "--notes", when], script.encode())
+        after = os.times()
+        hands.due(f"check of a long list with --notes {when}", done.returncode == 0, done)
+        hands.due(f"its notes with --notes {when}", done.stderr.count(b" names MISSPELT; no object has it") == (512 if when == "always" else 0), done.stderr[-200:])
+        return after.children_user + after.children_system - before.children_user - before.children_system
+
+    alone, told = min(seconds("never") for _ in range(3)), min(seconds("always") for _ in range(3))
+    hands.due("notes on long lists take at most ten times the check", told <= 10 * alone, (alone, told))
+
+
 CASES: tuple[Callable[[Hands], None], ...] = (
     two_runs_on_one_file, journals_that_others_change, streams_that_are_closed, limits_on_files, wrong_command_lines, texts_that_are_sent,
-    senders_at_once, wrong_sends, scripts_to_the_wrong_command, hostile_parts, parts_that_are_taken, faults_of_parts, runs_of_parts)
+    senders_at_once, wrong_sends, scripts_to_the_wrong_command, hostile_parts, parts_that_are_taken, faults_of_parts, runs_of_parts, notes_on_long_lists)
 
 
 def main(words: list[str]) -> int:

@@ -1,16 +1,16 @@
 -- What is due, call by call, and of all units.
-use Rattle.std.proofs.Common.{◌≡◌, ℕ, ◌+◌, ◌<◌, ◌≤◌, ◌⊎◌, inl, inr, List, [], ◌∷◌, ◌++◌, length, Bool, true, false, refl, ap, sym, ◌∙◌, subst, arith}
-use Rattle.std.specs.Prelude.{◌==◌, ◌&&◌, ◌||◌, None, Result, Ok, Err, OnOk}
+use Rattle.std.proofs.Common.{◌≡◌, ℕ, ◌<◌, ◌≤◌, ◌⊎◌, inl, inr, List, [], ◌∷◌, ◌++◌, Bool, true, false, refl, ap, sym, ◌∙◌, subst, arith}
+use Rattle.std.specs.Prelude.{◌==◌, ◌&&◌, ◌||◌, Result, Ok, Err, OnOk}
 use Rattle.std.specs.List.{list_any}
 use Rattle.std.proofs.lemmas.Bool.{and_from, and_parts, or_cases}
 use Rattle.std.proofs.lemmas.Bool.Decides.{nat_tests}
 use Rattle.rv_access.specs.Words.{Words}
 use Rattle.rv_shape.specs.Shape.{Shape}
-use Rattle.rv_shape.specs.Catalogue.{handler, place}
+use Rattle.rv_shape.specs.Catalogue.{place}
 use Rattle.rv_shape.specs.Limits.{last_line}
 use Rattle.rv_shape.specs.Readers.{actor_task}
-use Rattle.rv_never.specs.Denied.{DeniesLine, DeniesUnit}
-use Rattle.rv_never.specs.Nevers.{Adds, AreAll, DueBelow, DueBy, IsDenial, IsDenialOf, IsLineDenial, IsLineTooHigh, IsTooHigh, IsTooHighOf, OfTask, OfTasks, OfUnit, calls_of, is_above, is_handler_low, names_object, task_calls, unit_calls}
+use Rattle.rv_never.specs.Denied.{DeniesUnit}
+use Rattle.rv_never.specs.Nevers.{Adds, AreAll, DueBelow, DueBy, IsDenial, IsDenialOf, IsLineDenial, IsLineTooHigh, IsTooHigh, IsTooHighOf, OfTask, OfTasks, OfUnit, calls_of, is_above, names_object, task_calls, unit_calls}
 use Rattle.rv_never.specs.Written.{AreSame, is_among, is_same}
 use Rattle.rv_never.specs.declared.calls.Called.{Called}
 use Rattle.rv_never.specs.declared.calls.TaskCalls.{TaskCalls}

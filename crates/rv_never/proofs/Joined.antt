@@ -1,5 +1,5 @@
 -- Calls that are added one after another.
-use Rattle.std.proofs.Common.{rules, arith, ◌≡◌, List, [], ◌∷◌, ◌++◌, append_assoc, refl, ap, sym, ◌∙◌}
+use Rattle.std.proofs.Common.{rules, arith, ◌≡◌, List, [], ◌∷◌, ◌++◌, append_assoc, ap, sym, ◌∙◌}
 use Rattle.std.proofs.lemmas.List.{append-nil}
 use Rattle.rv_code.specs.declared.expression.Expression.{the_lemmas as expression_lemmas}
 use Rattle.rv_code.specs.declared.expression.Link.{Link}
@@ -7,7 +7,6 @@ use Rattle.rv_code.specs.declared.statement.Branch.{Branch}
 use Rattle.rv_code.specs.declared.statement.Statement.{the_lemmas as statement_lemmas}
 use Rattle.rv_code.specs.Expressions.{Expression}
 use Rattle.rv_code.specs.ExpressionView.{expression_view, link_view}
-use Rattle.rv_code.specs.Statements.{Statements}
 use Rattle.rv_code.specs.StatementView.{statements_view, branch_view}
 use Rattle.rv_never.specs.Written.{of_expression, of_statements}
 use Rattle.rv_never.specs.declared.calls.Called.{Called}

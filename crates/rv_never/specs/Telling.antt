@@ -1,7 +1,7 @@
 -- What is told of what can never work, for people. (own)
-use Rattle.std.specs.Prelude.{◌≡◌, ℕ, ◌+◌, List, [], ◌∷◌, ◌++◌, codes, Option, Some, None}
+use Rattle.std.specs.Prelude.{◌≡◌, ℕ, List, [], ◌∷◌, ◌++◌, codes, Option, Some, None}
 use Rattle.std.specs.Fmt.{decimal}
-use Rattle.std.specs.Option.{option_map, unwrap_or}
+use Rattle.std.specs.Option.{unwrap_or}
 use Rattle.rv_access.specs.Lines.{decides, line_at}
 use Rattle.rv_access.specs.Text.{line_text}
 use Rattle.rv_access.specs.Words.{Words}

@@ -1,4 +1,4 @@
-use Rattle.std.proofs.Common.{◌≡◌, ◌∙◌, List, Some, None, subst, sym, refl, arith}
+use Rattle.std.proofs.Common.{◌∙◌, List, Some, None, subst, sym, refl, arith}
 use Rattle.rv_access.specs.Words.{Words}
 use Rattle.rv_text.specs.Names.{dotted}
 use Rattle.rv_never.specs.Denied.{AreSteady}

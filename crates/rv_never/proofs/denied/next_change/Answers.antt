@@ -1,6 +1,5 @@
-use Rattle.std.proofs.Common.{◌≡◌, ◌∙◌, ◌≤◌, ◌<◌, ℕ, length, ap, sym, subst, false, arith}
-use Rattle.std.specs.Prelude.{◌&&◌, Option, IfSome}
-use Rattle.rv_access.specs.Limits.{most_tick}
+use Rattle.std.proofs.Common.{◌≡◌, ◌∙◌, ◌≤◌, length, ap, sym, subst, false, arith}
+use Rattle.std.specs.Prelude.{◌&&◌}
 use Rattle.rv_access.specs.Lines.{fits}
 use Rattle.rv_access.specs.Words.{Words}
 use Rattle.rv_text.specs.Names.{dotted}

@@ -1,8 +1,7 @@
-use Rattle.std.proofs.Common.{◌≡◌, ◌≤◌, ◌++◌, List, length, take, ap, sym, subst, arith}
+use Rattle.std.proofs.Common.{◌≤◌, ◌++◌, List, length, take, sym, subst, arith}
 use Rattle.std.proofs.lemmas.List.{append-nil, take_all}
 use Rattle.rv_never.specs.Nevers.{calls_of}
 use Rattle.rv_never.specs.Written.{AreSame}
-use Rattle.rv_never.specs.declared.calls.Called.{Called}
 use Rattle.rv_never.specs.declared.calls.TaskCalls.{TaskCalls}
 use Rattle.rv_never.proofs.Same.{by_equal, joined_more}
 use Rattle.rv_never.proofs.judge.add_calls.Goals as goal
