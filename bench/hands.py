@@ -5,9 +5,9 @@
 
 Two runs on one journal; a journal that others cut off, remove or replace; standard input, output or error closed before the
 start; a limit on the size of files; a journal's file that a wrong command line would leave behind; texts that are sent to a run, and
-hold commands, are cut short or large, by several senders at once; scripts that are named to the wrong command; notes on long lists; parts of a script in
-files of their own that hold sections, are cut short or refused. It needs flock, and a program: the proved one or the trial that is kept.
-Where ravenreview isn't there, its questions aren't asked.
+hold commands, are cut short or large, by several senders at once; scripts that are named to the wrong command; notes on long lists; parts
+of a script in files of their own that hold sections, are cut short or refused. It needs flock, and a program: the proved one or the trial
+that is kept. Where ravenreview isn't there, its questions aren't asked.
 """
 import os
 import pty

@@ -20,7 +20,8 @@ BESIDE = ("--script", *REPEATED)
 
 # The commands that take parts of a script, and the questions about a journal, which have the flags beside them.
 COMPOSING = ("play", "check", "run", "audit")
-QUESTIONS = {"refusals": ("since", "by", "of"), "waits": ("since", "by", "of"), "access": ("by", "of"), "who": ()}
+QUESTIONS = {"refusals": ("since", "by", "of"), "waits": ("since", "by", "of"), "access": ("against", "by", "of"), "who": (), "hits": ("since", "by", "of"), "whatif": ("since", "by", "of"),
+             "state": (), "explain": (), "export": (), "timeline": ("by", "of", "from", "to", "text", "svg")}
 
 # Commands that a run is sent.
 SENT = "append remove replace tick halt journal raise load quit"
@@ -28,6 +29,8 @@ SENT = "append remove replace tick halt journal raise load quit"
 # What completes a value of no listed words, or a word that is no flag, by the name that the help gives it.
 FILES, FOLDERS, COMMANDS, NOTHING = "files", "folders", "commands", "nothing"
 WORDS = {"FILE": FILES, "COMMAND": COMMANDS}
+# Of those that have a word of their own before the FILE of a script: what it is, and what completes it.
+OWN_WORDS = {"who": ("CALLED", NOTHING), "whatif": ("LIST", FILES), "state": ("N", NOTHING), "explain": ("N", NOTHING)}
 # Of numbers, some that are usual.
 VALUES = {"FILE": FILES, "PIPE": FILES, "PREFIX": FOLDERS, "WHEN": ("auto", "always", "never"), "HOW": ("each", "second", "never"),
           "MS": ("1000", "100", "10"), "N": ("100", "1000", "10000")}
@@ -134,7 +137,9 @@ def composing(commands):
         commands[name].launcher += parts
     judging = {flag.spellings[-1]: flag for flag in commands["audit"].flags + commands["audit"].launcher}
     told = {"since": ("WHEN", "Leave out what was before entry:N or tick:N", "entry: tick:"), "by": ("CALLER", "Leave out other callers", ""),
-            "of": ("CALLED", "Leave out calls of others", "")}
+            "of": ("CALLED", "Leave out calls of others", ""), "against": ("LIST", "Say what the list in this file would grant otherwise", FILES),
+            "from": ("N", "Show nothing before the entry of this number", ""), "to": ("N", "Show nothing behind the entry of this number", ""),
+            "text": (None, "Show text for a terminal", ""), "svg": (None, "Show an SVG picture, for a browser", "")}
     for name, asked in QUESTIONS.items():
         if name not in commands[""].own:
             sys.exit(f"manual/completions.py: {PAGES}/launcher doesn't name {name}")
@@ -142,7 +147,7 @@ def composing(commands):
         for word in asked:
             value, about, words = told[word]
             flag = Flag([f"--{word}"], None, about)
-            flag.name, flag.value = value, words.split() or NOTHING
+            flag.name, flag.value = value, value and (FILES if words == FILES else words.split() or NOTHING)
             named.append(flag)
         commands[""].asked[name] = [judging["--journal"], judging["--torn"], *named, judging["--script"], *parts]
 
@@ -238,7 +243,7 @@ def bash(commands, kept):
                                 for flag in of_all if flag.value))
     alone = [*HELP, *VERSION, *(spelling for command in commands.values() for flag in command.launcher for spelling in flag.spellings if spelling not in BESIDE)]
     worded = [(name, WORDS[command.word]) for name, command in commands.items() if command.word]
-    worded += [(name, FILES) for name in commands[""].asked if name != "who"]
+    worded += [(name, FILES) for name in commands[""].asked if OWN_WORDS.get(name, ("", FILES))[1] == FILES]
     text = BASH
     for mark, words in (("subcommands", bash_rows(subcommands)), ("flags", bash_rows(flagged)),
                         ("launcher", bash_rows(launched)), ("own", " ".join(commands[""].own)), ("sent", SENT), ("values", bash_rows(values)), ("words", bash_rows(worded)), ("alone", " | ".join(alone)), ("repeated", " | ".join(REPEATED))):
@@ -363,10 +368,11 @@ def zsh_case(name, command):
 
 
 def zsh_asked(asked):
-    """The questions about a journal, with their flags; the first word of one is what is called."""
+    """The questions about a journal, with their flags; the first word of some is no script."""
     lines = []
     for name, of in asked.items():
-        words = ["1:CALLED: ", "2:FILE:_files"] if name == "who" else ["1:FILE:_files"]
+        own = [f"1:{OWN_WORDS[name][0]}:{ZSH_VALUES[OWN_WORDS[name][1]]}"] if name in OWN_WORDS else []
+        words = [*own, f"{len(own) + 1}:FILE:_files"]
         lines += [f"        {name})", "            _arguments \\"]
         lines += [f"                {zsh_flag(flag, False)} \\" for flag in of if flag.spellings[0] not in REPEATED]
         lines += [f"                {quoted(word)} \\" for word in words]

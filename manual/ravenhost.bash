@@ -31,14 +31,20 @@ _ravenhost_launcher_flags() {
         audit) echo "--script --host --shape --unit --list" ;;
         refusals) echo "--journal --torn --since --by --of --script --host --shape --unit --list" ;;
         waits) echo "--journal --torn --since --by --of --script --host --shape --unit --list" ;;
-        access) echo "--journal --torn --by --of --script --host --shape --unit --list" ;;
+        access) echo "--journal --torn --against --by --of --script --host --shape --unit --list" ;;
         who) echo "--journal --torn --script --host --shape --unit --list" ;;
+        hits) echo "--journal --torn --since --by --of --script --host --shape --unit --list" ;;
+        whatif) echo "--journal --torn --since --by --of --script --host --shape --unit --list" ;;
+        state) echo "--journal --torn --script --host --shape --unit --list" ;;
+        explain) echo "--journal --torn --script --host --shape --unit --list" ;;
+        export) echo "--journal --torn --script --host --shape --unit --list" ;;
+        timeline) echo "--journal --torn --by --of --from --to --text --svg --script --host --shape --unit --list" ;;
     esac
 }
 
 # The subcommands that the launcher adds, and the commands of a run that one of them sends.
 _ravenhost_launcher_subcommands() {
-    echo "new send refusals waits access who"
+    echo "new send refusals waits access who hits whatif state explain export timeline"
 }
 _ravenhost_sent() {
     echo "append remove replace tick halt journal raise load quit"
@@ -63,6 +69,9 @@ _ravenhost_value() {
         --since) echo "entry: tick:" ;;
         --by) echo "nothing" ;;
         --of) echo "nothing" ;;
+        --against) echo "files" ;;
+        --from) echo "nothing" ;;
+        --to) echo "nothing" ;;
     esac
 }
 
@@ -77,6 +86,10 @@ _ravenhost_word() {
         refusals) echo "files" ;;
         waits) echo "files" ;;
         access) echo "files" ;;
+        hits) echo "files" ;;
+        whatif) echo "files" ;;
+        export) echo "files" ;;
+        timeline) echo "files" ;;
     esac
 }
 
