@@ -1,9 +1,5 @@
 //! The actors of lines.
 
-ghost use Rattle.std.specs.Prelude.{List, IfSome};
-ghost use Rattle.rv_shape.specs.Shape.{Shape};
-ghost use Rattle.rv_unread.specs.Reasons.{IsOfText};
-
 use crate::reason::Reason;
 use rv_event::reading::words::interrupt_of;
 use rv_shape::actor::Actor;
@@ -19,9 +15,7 @@ const SPELT: &str = "{0} was declared as {1}.{2}";
 const NO_LINE: &str = "{0} is no line: those are Int_0 .. Int_9, in these letters";
 
 /// Why no unit of a name is loaded, if there is none.
-pub(crate) fn of_unit<'a>(loaded: &Catalogue, unit: &'a str) -> Option<Reason<'a>>
-    ensures { (given : List Shape) → IfSome result (λ reason. IsOfText loaded.now given reason) }
-{
+pub(crate) fn of_unit<'a>(loaded: &Catalogue, unit: &'a str) -> Option<Reason<'a>> {
     match loaded.find_unit(unit) {
         Some(_) => None,
         None => Some(Reason::NotLoaded(unit)),
@@ -29,9 +23,7 @@ pub(crate) fn of_unit<'a>(loaded: &Catalogue, unit: &'a str) -> Option<Reason<'a
 }
 
 /// Why a name of two parts isn't written as it was declared, letter for letter, if it isn't.
-pub(crate) fn of_spelling<'a>(word: &'a str, unit: &'a str, name: &'a str) -> Option<Reason<'a>>
-    ensures { (loaded given : List Shape) → IfSome result (λ reason. IsOfText loaded given reason) }
-{
+pub(crate) fn of_spelling<'a>(word: &'a str, unit: &'a str, name: &'a str) -> Option<Reason<'a>> {
     match word.split_once('.') {
         Some((front, behind)) if front == unit && behind == name => None,
         _ => Some(Reason::Said(SPELT, word, unit, name)),
@@ -39,9 +31,7 @@ pub(crate) fn of_spelling<'a>(word: &'a str, unit: &'a str, name: &'a str) -> Op
 }
 
 // Why the task of an actor isn't written as it was declared, if it isn't.
-fn of_declared<'a>(loaded: &'a Catalogue, word: &'a str, actor: usize) -> Option<Reason<'a>>
-    ensures { (given : List Shape) → IfSome result (λ reason. IsOfText loaded.now given reason) }
-{
+fn of_declared<'a>(loaded: &'a Catalogue, word: &'a str, actor: usize) -> Option<Reason<'a>> {
     match loaded.who(actor) {
         Actor::Task(shape, task) => of_spelling(word, shape.name(), task.name()),
         _ => None,
@@ -54,9 +44,7 @@ fn of_task<'a>(
     word: &'a str,
     unit: &'a str,
     task: &'a str,
-) -> Option<Reason<'a>>
-    ensures { (given : List Shape) → IfSome result (λ reason. IsOfText loaded.now given reason) }
-{
+) -> Option<Reason<'a>> {
     if let Some(reason) = of_unit(loaded, unit) {
         return Some(reason);
     }
@@ -67,9 +55,7 @@ fn of_task<'a>(
 }
 
 // Why a word without a dot is no actor, if it is none.
-fn of_simple<'a>(word: &'a str) -> Option<Reason<'a>>
-    ensures { (loaded given : List Shape) → IfSome result (λ reason. IsOfText loaded given reason) }
-{
+fn of_simple<'a>(word: &'a str) -> Option<Reason<'a>> {
     if word == "operator" {
         return None;
     }
@@ -81,9 +67,7 @@ fn of_simple<'a>(word: &'a str) -> Option<Reason<'a>>
 }
 
 /// Why a word is no actor, if it is none.
-pub(crate) fn of_actor<'a>(loaded: &'a Catalogue, word: &'a str) -> Option<Reason<'a>>
-    ensures { (given : List Shape) → IfSome result (λ reason. IsOfText loaded.now given reason) }
-{
+pub(crate) fn of_actor<'a>(loaded: &'a Catalogue, word: &'a str) -> Option<Reason<'a>> {
     match dotted_parts(word) {
         Some((unit, task)) => of_task(loaded, word, unit, task),
         None => of_simple(word),

@@ -1,9 +1,5 @@
 //! The answers of lines.
 
-ghost use Rattle.std.specs.Prelude.{List, IfSome};
-ghost use Rattle.rv_shape.specs.Shape.{Shape};
-ghost use Rattle.rv_unread.specs.Reasons.{IsOfText};
-
 use crate::actors::of_actor;
 use crate::reason::Reason;
 use crate::values::{of_behind, of_natural, of_one};
@@ -30,9 +26,7 @@ fn is_rule(word: &str) -> bool {
 }
 
 // Why this word and a number don't stand there with nothing behind them, by this sentence.
-fn of_last<'a>(text: &'a str, wanted: &str, said: &'static str) -> Option<Reason<'a>>
-    ensures { (loaded given : List Shape) → IfSome result (λ reason. IsOfText loaded given reason) }
-{
+fn of_last<'a>(text: &'a str, wanted: &str, said: &'static str) -> Option<Reason<'a>> {
     let Some((word, rest)) = next_word(text) else {
         return Some(Reason::plain(said));
     };
@@ -49,9 +43,7 @@ fn of_last<'a>(text: &'a str, wanted: &str, said: &'static str) -> Option<Reason
 }
 
 // Why the line and the version of a refusal aren't there.
-fn of_line_and_version<'a>(text: &'a str) -> Option<Reason<'a>>
-    ensures { (loaded given : List Shape) → IfSome result (λ reason. IsOfText loaded given reason) }
-{
+fn of_line_and_version<'a>(text: &'a str) -> Option<Reason<'a>> {
     let Some((word, rest)) = next_word(text) else {
         return Some(Reason::plain(REFUSED));
     };
@@ -68,9 +60,7 @@ fn of_line_and_version<'a>(text: &'a str) -> Option<Reason<'a>>
 }
 
 // Why what stands behind `refused` isn't as it should be.
-fn of_refused<'a>(text: &'a str) -> Option<Reason<'a>>
-    ensures { (loaded given : List Shape) → IfSome result (λ reason. IsOfText loaded given reason) }
-{
+fn of_refused<'a>(text: &'a str) -> Option<Reason<'a>> {
     match next_word(text) {
         Some((rule, behind)) if is_rule(rule) => of_line_and_version(behind),
         _ => Some(Reason::plain(REFUSED)),
@@ -78,9 +68,7 @@ fn of_refused<'a>(text: &'a str) -> Option<Reason<'a>>
 }
 
 // Why what stands behind `handed` or `dropped` isn't as it should be.
-fn of_next<'a>(loaded: &'a Catalogue, key: &'a str, text: &'a str) -> Option<Reason<'a>>
-    ensures { (given : List Shape) → IfSome result (λ reason. IsOfText loaded.now given reason) }
-{
+fn of_next<'a>(loaded: &'a Catalogue, key: &'a str, text: &'a str) -> Option<Reason<'a>> {
     let Some((actor, behind)) = next_word(text) else {
         return Some(Reason::plain(DONE));
     };
@@ -95,9 +83,7 @@ fn of_next<'a>(loaded: &'a Catalogue, key: &'a str, text: &'a str) -> Option<Rea
 }
 
 // Why what stands behind `done` isn't as it should be.
-fn of_done<'a>(loaded: &'a Catalogue, text: &'a str) -> Option<Reason<'a>>
-    ensures { (given : List Shape) → IfSome result (λ reason. IsOfText loaded.now given reason) }
-{
+fn of_done<'a>(loaded: &'a Catalogue, text: &'a str) -> Option<Reason<'a>> {
     match next_word(text) {
         Some((key, behind)) => of_next(loaded, key, behind),
         None => None,
@@ -105,9 +91,7 @@ fn of_done<'a>(loaded: &'a Catalogue, text: &'a str) -> Option<Reason<'a>>
 }
 
 /// Why a text is no answer that a journal has, where these units are loaded, if it is none.
-pub(crate) fn of_answer<'a>(loaded: &'a Catalogue, text: &'a str) -> Option<Reason<'a>>
-    ensures { (given : List Shape) → IfSome result (λ reason. IsOfText loaded.now given reason) }
-{
+pub(crate) fn of_answer<'a>(loaded: &'a Catalogue, text: &'a str) -> Option<Reason<'a>> {
     let Some((key, behind)) = next_word(text) else {
         return Some(Reason::plain(NOTHING));
     };

@@ -1,9 +1,5 @@
 //! Why a line can't be read.
 
-ghost use Rattle.std.specs.Prelude.{List};
-ghost use Rattle.rv_shape.specs.Shape.{Shape};
-ghost use Rattle.rv_unread.specs.Reasons.{IsOfText};
-
 use rv_shown::put_shown;
 use std::fmt;
 
@@ -66,23 +62,17 @@ fn put_said<W: fmt::Write>(
 
 impl<'a> Reason<'a> {
     /// A sentence without words.
-    pub(crate) fn plain(said: &'static str) -> Reason<'a>
-        ensures { (loaded given : List Shape) → IsOfText loaded given result }
-    {
+    pub(crate) fn plain(said: &'static str) -> Reason<'a> {
         Reason::Said(said, "", "", "")
     }
 
     /// A sentence with one word.
-    pub(crate) fn of(said: &'static str, word: &'a str) -> Reason<'a>
-        ensures { (loaded given : List Shape) → IsOfText loaded given result }
-    {
+    pub(crate) fn of(said: &'static str, word: &'a str) -> Reason<'a> {
         Reason::Said(said, word, "", "")
     }
 
     /// A sentence with two words.
-    pub(crate) fn pair(said: &'static str, word: &'a str, other: &'a str) -> Reason<'a>
-        ensures { (loaded given : List Shape) → IsOfText loaded given result }
-    {
+    pub(crate) fn pair(said: &'static str, word: &'a str, other: &'a str) -> Reason<'a> {
         Reason::Said(said, word, other, "")
     }
 }

@@ -1,9 +1,5 @@
 //! The requests of lines.
 
-ghost use Rattle.std.specs.Prelude.{List, IfSome};
-ghost use Rattle.rv_shape.specs.Shape.{Shape};
-ghost use Rattle.rv_unread.specs.Reasons.{IsOfText};
-
 use crate::actors::{of_spelling, of_unit};
 use crate::reason::Reason;
 use crate::values::{of_behind, of_one, of_value, of_values};
@@ -44,9 +40,7 @@ const NO_EXCEPTION: &str =
     "behind raise stands Constraint_Error, Program_Error or Host.Access_Denied";
 
 // Why the load of a text is none, over the units that are given.
-fn of_load<'a>(given: &[UnitShape], text: &'a str) -> Option<Reason<'a>>
-    ensures { (loaded : List Shape) → IfSome result (λ reason. IsOfText loaded given.now reason) }
-{
+fn of_load<'a>(given: &[UnitShape], text: &'a str) -> Option<Reason<'a>> {
     let Some((name, behind)) = next_word(text) else {
         return Some(Reason::plain(NOTHING_LOADED));
     };
@@ -60,9 +54,7 @@ fn of_load<'a>(given: &[UnitShape], text: &'a str) -> Option<Reason<'a>>
 }
 
 // Why an operation isn't named as it was declared, if it isn't.
-fn of_name<'a>(word: &'a str, name: &'a str) -> Option<Reason<'a>>
-    ensures { (loaded given : List Shape) → IfSome result (λ reason. IsOfText loaded given reason) }
-{
+fn of_name<'a>(word: &'a str, name: &'a str) -> Option<Reason<'a>> {
     if word == name {
         None
     } else {
@@ -71,9 +63,7 @@ fn of_name<'a>(word: &'a str, name: &'a str) -> Option<Reason<'a>>
 }
 
 // Why an object and an operation that are loaded aren't named as they were declared, if they aren't.
-fn of_declared<'a>(callee: Callee<'a>, whole: &'a str, operation: &'a str) -> Option<Reason<'a>>
-    ensures { (loaded given : List Shape) → IfSome result (λ reason. IsOfText loaded given reason) }
-{
+fn of_declared<'a>(callee: Callee<'a>, whole: &'a str, operation: &'a str) -> Option<Reason<'a>> {
     match callee {
         Callee::Protected(shape, object, declared) => {
             if let Some(reason) = of_spelling(whole, shape.name(), object.name()) {
@@ -93,9 +83,7 @@ fn of_parts<'a>(
     unit: &'a str,
     object: &'a str,
     operation: &'a str,
-) -> Option<Reason<'a>>
-    ensures { (given : List Shape) → IfSome result (λ reason. IsOfText loaded.now given reason) }
-{
+) -> Option<Reason<'a>> {
     let Some(number) = loaded.find_object(whole) else {
         return Some(Reason::pair(NO_OBJECT, unit, object));
     };
@@ -106,9 +94,7 @@ fn of_parts<'a>(
 }
 
 // Why no object of a name is loaded that has such an operation.
-fn of_object<'a>(loaded: &'a Catalogue, whole: &'a str, operation: &'a str) -> Option<Reason<'a>>
-    ensures { (given : List Shape) → IfSome result (λ reason. IsOfText loaded.now given reason) }
-{
+fn of_object<'a>(loaded: &'a Catalogue, whole: &'a str, operation: &'a str) -> Option<Reason<'a>> {
     let Some((unit, object)) = dotted_parts(whole) else {
         return Some(Reason::plain(NO_CALLEE));
     };
@@ -119,9 +105,7 @@ fn of_object<'a>(loaded: &'a Catalogue, whole: &'a str, operation: &'a str) -> O
 }
 
 // Why the call of a text is none.
-fn of_call<'a>(loaded: &'a Catalogue, text: &'a str) -> Option<Reason<'a>>
-    ensures { (given : List Shape) → IfSome result (λ reason. IsOfText loaded.now given reason) }
-{
+fn of_call<'a>(loaded: &'a Catalogue, text: &'a str) -> Option<Reason<'a>> {
     let Some((object, behind)) = next_word(text) else {
         return Some(Reason::plain(NO_CALLEE));
     };
@@ -135,9 +119,7 @@ fn of_call<'a>(loaded: &'a Catalogue, text: &'a str) -> Option<Reason<'a>>
 }
 
 // Why the exception of a text is none.
-fn of_raise<'a>(text: &'a str) -> Option<Reason<'a>>
-    ensures { (loaded given : List Shape) → IfSome result (λ reason. IsOfText loaded given reason) }
-{
+fn of_raise<'a>(text: &'a str) -> Option<Reason<'a>> {
     let Some((name, behind)) = next_word(text) else {
         return Some(Reason::plain(NO_EXCEPTION));
     };
@@ -148,9 +130,7 @@ fn of_raise<'a>(text: &'a str) -> Option<Reason<'a>>
 }
 
 // Why no body ends as a text says.
-fn of_exit<'a>(text: &'a str) -> Option<Reason<'a>>
-    ensures { (loaded given : List Shape) → IfSome result (λ reason. IsOfText loaded given reason) }
-{
+fn of_exit<'a>(text: &'a str) -> Option<Reason<'a>> {
     let Some((word, behind)) = next_word(text) else {
         return Some(Reason::plain(NO_END));
     };
@@ -163,9 +143,7 @@ fn of_exit<'a>(text: &'a str) -> Option<Reason<'a>>
 }
 
 // Why the end of a text is none: its scalars, and what stands behind its colon.
-fn of_end<'a>(text: &'a str) -> Option<Reason<'a>>
-    ensures { (loaded given : List Shape) → IfSome result (λ reason. IsOfText loaded given reason) }
-{
+fn of_end<'a>(text: &'a str) -> Option<Reason<'a>> {
     let mut rest = text;
     let mut left = 32usize;
     while let Some((word, behind)) = next_word(rest) {
@@ -189,9 +167,7 @@ pub(crate) fn of_request<'a>(
     loaded: &'a Catalogue,
     given: &[UnitShape],
     text: &'a str,
-) -> Option<Reason<'a>>
-    ensures { IfSome result (λ reason. IsOfText loaded.now given.now reason) }
-{
+) -> Option<Reason<'a>> {
     let Some((key, behind)) = next_word(text) else {
         return Some(Reason::plain(NOTHING));
     };

@@ -1,9 +1,5 @@
 //! The numbers of lines.
 
-ghost use Rattle.std.specs.Prelude.{List, IfSome};
-ghost use Rattle.rv_shape.specs.Shape.{Shape};
-ghost use Rattle.rv_unread.specs.Reasons.{IsOfText};
-
 use crate::reason::Reason;
 use itoa::Buffer;
 use rv_text::next_word;
@@ -34,9 +30,7 @@ fn is_natural(word: &str) -> bool {
 }
 
 /// Why a word is no whole number, if it is none.
-pub(crate) fn of_value<'a>(word: &'a str) -> Option<Reason<'a>>
-    ensures { (loaded given : List Shape) → IfSome result (λ reason. IsOfText loaded given reason) }
-{
+pub(crate) fn of_value<'a>(word: &'a str) -> Option<Reason<'a>> {
     if is_value(word) {
         None
     } else {
@@ -45,9 +39,7 @@ pub(crate) fn of_value<'a>(word: &'a str) -> Option<Reason<'a>>
 }
 
 /// Why a word is no natural number, if it is none.
-pub(crate) fn of_natural<'a>(word: &'a str) -> Option<Reason<'a>>
-    ensures { (loaded given : List Shape) → IfSome result (λ reason. IsOfText loaded given reason) }
-{
+pub(crate) fn of_natural<'a>(word: &'a str) -> Option<Reason<'a>> {
     if is_natural(word) {
         None
     } else {
@@ -60,9 +52,7 @@ pub(crate) fn of_values<'a>(
     text: &'a str,
     most: usize,
     too_many: &'static str,
-) -> Option<Reason<'a>>
-    ensures { (loaded given : List Shape) → IfSome result (λ reason. IsOfText loaded given reason) }
-{
+) -> Option<Reason<'a>> {
     let mut rest = text;
     let mut left = most;
     while let Some((word, behind)) = next_word(rest) {
@@ -79,9 +69,7 @@ pub(crate) fn of_values<'a>(
 }
 
 /// Why there is something behind a word, if there is.
-pub(crate) fn of_behind<'a>(word: &'a str, text: &'a str) -> Option<Reason<'a>>
-    ensures { (loaded given : List Shape) → IfSome result (λ reason. IsOfText loaded given reason) }
-{
+pub(crate) fn of_behind<'a>(word: &'a str, text: &'a str) -> Option<Reason<'a>> {
     match next_word(text) {
         Some((behind, _)) => Some(Reason::pair(BEHIND, word, behind)),
         None => None,
@@ -89,9 +77,7 @@ pub(crate) fn of_behind<'a>(word: &'a str, text: &'a str) -> Option<Reason<'a>>
 }
 
 /// Why there isn't one number behind a word, if there isn't.
-pub(crate) fn of_one<'a>(word: &'a str, text: &'a str) -> Option<Reason<'a>>
-    ensures { (loaded given : List Shape) → IfSome result (λ reason. IsOfText loaded given reason) }
-{
+pub(crate) fn of_one<'a>(word: &'a str, text: &'a str) -> Option<Reason<'a>> {
     let Some((value, behind)) = next_word(text) else {
         return Some(Reason::of(NONE_BEHIND, word));
     };

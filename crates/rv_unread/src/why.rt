@@ -35,6 +35,14 @@ pub fn why_in<R: BufRead>(
     Ok(Some(why))
 }
 
+// The number of the line that a verdict says to be unreadable, if it says that.
+fn line_in(verdict: &Verdict) -> Option<usize> {
+    match verdict {
+        Verdict::Unreadable(number) => Some(*number),
+        _ => None,
+    }
+}
+
 // The number of the line that an audit finds unreadable, if it finds that.
 fn unreadable_line(
     alloc: Global,
@@ -46,7 +54,7 @@ fn unreadable_line(
         return Err(io::Error::from(ErrorKind::OutOfMemory));
     };
     let mut reader = journal;
-    let (verdict, _) = judge_lines(
+    match judge_lines(
         alloc,
         &mut audit,
         given,
@@ -54,10 +62,9 @@ fn unreadable_line(
         false,
         &mut Nobody {},
         &mut Nobody {},
-    )?;
-    match verdict {
-        Verdict::Unreadable(number) => Ok(Some(number)),
-        _ => Ok(None),
+    ) {
+        Ok((verdict, _)) => Ok(line_in(&verdict)),
+        Err(e) => Err(e),
     }
 }
 
