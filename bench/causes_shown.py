@@ -26,8 +26,8 @@ UNSAID = frozenset((
     "an interrupt line of this unit has a handler already (C.3.1)", "a protected unit with a handler has a priority of 31 .. 40 (C.3.1)",
     "only play takes steps; check looks at them with --script", "only run takes commands; check looks at them with --script",
     "only audit takes a journal; check looks at it with --script"))
-# Texts that aren't said: a form of a line that is compared, and a value that is tried.
-OTHER = frozenset(("unit NAME", "Milliseconds (1)"))
+# Texts that aren't said: a form of a line that is compared, a value that is tried, and the form of a further fault.
+OTHER = frozenset(("unit NAME", "Milliseconds (1)", "also: {number}:{column}: {sentence}"))
 
 
 def said_by_rows() -> dict[str, list[str]]:
