@@ -60,6 +60,17 @@ expect 0 waits_of --of plant.ready --journal "$work/journal" <"$work/units"
 sed 's/accepted 0$/accepted 1/' "$work/journal" >"$work/wrong"
 expect 1 waits_not_legal --journal "$work/wrong" <"$work/units"
 
+# What stands behind an entry, and that there is none of a greater number.
+asked=state
+for number in 0 7 17 26; do
+    expect 0 "state_$number" "$number" --journal "$work/journal" <"$work/units"
+    expect 0 "state_$number" "$number" <"$work/whole"
+done
+expect 2 nothing 27 --journal "$work/journal" <"$work/units"
+expect 2 nothing --journal "$work/journal" <"$work/units"
+expect 2 nothing ten --journal "$work/journal" <"$work/units"
+expect 1 waits_not_legal 7 --journal "$work/wrong" <"$work/units"
+
 play "$here/bench/review/granting.raven"
 asked=access
 expect 0 access --journal "$work/journal" <"$work/units"

@@ -1,10 +1,12 @@
 //! The subcommands.
 
+use crate::one_entry::tell;
 use crate::status::Stop;
 use rv_fault::Failure;
 use rv_inquiry::inquiry::{From, Inquiry, Question};
 use rv_review::{
-    Audited, Filter, Nobody, Since, refusals, refusals_file, rights, rights_file, waits, waits_file,
+    Audited, Filter, Nobody, Since, refusals, refusals_file, rights, rights_file, state,
+    state_file, waits, waits_file,
 };
 use std::alloc::Global;
 use std::fs;
@@ -29,6 +31,11 @@ fn filter_of<'a>(asked: &Inquiry<'a>) -> Filter<'a> {
     }
 }
 
+// The number of the entry that is asked about.
+fn entry_of(asked: &Inquiry<'_>) -> usize {
+    asked.entry.unwrap_or(0) as usize
+}
+
 // Tells of the rest of a line that a crash cut off.
 fn tell_torn<R: Eprint>(rt: &R, bytes: usize) {
     if bytes > 0 {
@@ -38,8 +45,12 @@ fn tell_torn<R: Eprint>(rt: &R, bytes: usize) {
     }
 }
 
-// What a review came to.
-fn ended<R: Eprint>(rt: &R, audited: Result<Audited, Failure>) -> Result<(), Stop> {
+// What a review came to, if there is one of what was asked.
+fn ended<R: Eprint>(rt: &R, audited: Option<Result<Audited, Failure>>) -> Result<(), Stop> {
+    let Some(audited) = audited else {
+        let _ = eprintln!(rt; "ravenreview: this version doesn't answer that question yet");
+        return Err(Stop::Usage);
+    };
     match audited {
         Ok(audited) => {
             tell_torn(rt, audited.torn);
@@ -53,38 +64,49 @@ fn ended<R: Eprint>(rt: &R, audited: Result<Audited, Failure>) -> Result<(), Sto
     }
 }
 
-// What is said of the journal that a script brings.
+// What is said of the journal that a script brings; none of what isn't answered yet.
 fn said<I: Read, W: Write>(
     alloc: Global,
     asked: &Inquiry<'_>,
     reader: &mut I,
     writer: &mut W,
-) -> Result<Audited, Failure> {
+) -> Option<Result<Audited, Failure>> {
     let filter = filter_of(asked);
     match asked.question {
-        Question::Refusals => refusals(alloc, reader, writer, filter),
-        Question::Waits => waits(alloc, reader, writer, filter),
-        Question::Access | Question::Who => rights(alloc, reader, writer, filter),
+        Question::Refusals => Some(refusals(alloc, reader, writer, filter)),
+        Question::Waits => Some(waits(alloc, reader, writer, filter)),
+        Question::Access if asked.list.is_some() => None,
+        Question::Access | Question::Who => Some(rights(alloc, reader, writer, filter)),
+        Question::State => Some(state(alloc, reader, writer, entry_of(asked))),
+        _ => None,
     }
 }
 
-// What is said of the journal that a reader of its own gives.
+// What is said of the journal that a reader of its own gives; none of what isn't answered yet.
 fn said_of_file<I: Read, J: Read, W: Write>(
     alloc: Global,
     asked: &Inquiry<'_>,
     reader: &mut I,
     journal: &mut J,
     writer: &mut W,
-) -> Result<Audited, Failure> {
+) -> Option<Result<Audited, Failure>> {
     let filter = filter_of(asked);
     let torn = asked.takes_torn;
     let watch = &mut Nobody {};
     match asked.question {
-        Question::Refusals => refusals_file(alloc, reader, journal, torn, watch, writer, filter),
-        Question::Waits => waits_file(alloc, reader, journal, torn, watch, writer, filter),
-        Question::Access | Question::Who => {
-            rights_file(alloc, reader, journal, torn, watch, writer, filter)
+        Question::Refusals => {
+            Some(refusals_file(alloc, reader, journal, torn, watch, writer, filter))
         }
+        Question::Waits => Some(waits_file(alloc, reader, journal, torn, watch, writer, filter)),
+        Question::Access if asked.list.is_some() => None,
+        Question::Access | Question::Who => {
+            Some(rights_file(alloc, reader, journal, torn, watch, writer, filter))
+        }
+        Question::State => {
+            let entry = entry_of(asked);
+            Some(state_file(alloc, reader, journal, torn, watch, writer, entry))
+        }
+        _ => None,
     }
 }
 
@@ -107,8 +129,8 @@ fn answer_of_file<R: Files + Eprint, I: Read, W: Write>(
     ended(rt, said_of_file(alloc, asked, reader, &mut journal, writer))
 }
 
-/// Answers what is asked of a journal.
-pub fn answer<R: Files + Eprint, I: Read, W: Write>(
+// Answers what is asked of a journal.
+fn answer_into<R: Files + Eprint, I: Read, W: Write>(
     rt: &R,
     alloc: Global,
     asked: &Inquiry<'_>,
@@ -119,4 +141,21 @@ pub fn answer<R: Files + Eprint, I: Read, W: Write>(
         Some(name) => answer_of_file(rt, alloc, name, asked, reader, writer),
         None => ended(rt, said(alloc, asked, reader, writer)),
     }
+}
+
+/// Answers what is asked of a journal. That it has no entry of the number that is asked about is an error.
+pub fn answer<R: Files + Eprint, I: Read, W: Write>(
+    rt: &R,
+    alloc: Global,
+    asked: &Inquiry<'_>,
+    reader: &mut I,
+    writer: &mut W,
+) -> Result<(), Stop> {
+    if asked.entry.is_none() {
+        return answer_into(rt, alloc, asked, reader, writer);
+    }
+    let mut said: Vec<u8> = Vec::new(alloc);
+    let outcome = answer_into(rt, alloc, asked, reader, &mut said);
+    tell(rt, writer, said.as_slice())?;
+    outcome
 }
