@@ -1,7 +1,9 @@
 //! The second program: questions about a journal, answered by the rules that judge it.
 #![tactic(auto)]
 
+mod drawing;
 mod line;
+mod listing;
 mod reviewing;
 mod status;
 

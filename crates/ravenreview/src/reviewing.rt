@@ -1,10 +1,14 @@
 //! The subcommands.
 
+use crate::drawing::draw;
+use crate::listing::list_of;
 use crate::status::Stop;
+use rv_access::AccessList;
 use rv_fault::Failure;
 use rv_inquiry::inquiry::{From, Inquiry, Question};
 use rv_review::{
-    Audited, Filter, Nobody, Since, refusals, refusals_file, rights, rights_file, waits, waits_file,
+    Audited, Filter, Nobody, Since, hits, hits_file, refusals, refusals_file, rights, rights_file,
+    timeline, timeline_file, waits, waits_file, what_if, what_if_file,
 };
 use std::alloc::Global;
 use std::fs;
@@ -53,10 +57,19 @@ fn ended<R: Eprint>(rt: &R, audited: Result<Audited, Failure>) -> Result<(), Sto
     }
 }
 
+// The list that is given; `whatif` always is given one.
+fn or_empty(alloc: Global, list: Option<AccessList>) -> AccessList {
+    match list {
+        Some(list) => list,
+        None => AccessList::new(alloc),
+    }
+}
+
 // What is said of the journal that a script brings.
 fn said<I: Read, W: Write>(
     alloc: Global,
     asked: &Inquiry<'_>,
+    list: Option<AccessList>,
     reader: &mut I,
     writer: &mut W,
 ) -> Result<Audited, Failure> {
@@ -64,7 +77,11 @@ fn said<I: Read, W: Write>(
     match asked.question {
         Question::Refusals => refusals(alloc, reader, writer, filter),
         Question::Waits => waits(alloc, reader, writer, filter),
-        Question::Access | Question::Who => rights(alloc, reader, writer, filter),
+        Question::Access | Question::Who => rights(alloc, reader, writer, filter, list),
+        Question::Hits => hits(alloc, reader, writer, filter),
+        Question::Timeline => timeline(alloc, reader, writer, filter),
+        Question::WhatIf => what_if(alloc, reader, writer, filter, or_empty(alloc, list)),
+        _ => Err(Failure::Memory), // TRIAL
     }
 }
 
@@ -72,6 +89,7 @@ fn said<I: Read, W: Write>(
 fn said_of_file<I: Read, J: Read, W: Write>(
     alloc: Global,
     asked: &Inquiry<'_>,
+    list: Option<AccessList>,
     reader: &mut I,
     journal: &mut J,
     writer: &mut W,
@@ -83,8 +101,21 @@ fn said_of_file<I: Read, J: Read, W: Write>(
         Question::Refusals => refusals_file(alloc, reader, journal, torn, watch, writer, filter),
         Question::Waits => waits_file(alloc, reader, journal, torn, watch, writer, filter),
         Question::Access | Question::Who => {
-            rights_file(alloc, reader, journal, torn, watch, writer, filter)
+            rights_file(alloc, reader, journal, torn, watch, writer, filter, list)
         }
+        Question::Hits => hits_file(alloc, reader, journal, torn, watch, writer, filter),
+        Question::Timeline => timeline_file(alloc, reader, journal, torn, watch, writer, filter),
+        Question::WhatIf => what_if_file(
+            alloc,
+            reader,
+            journal,
+            torn,
+            watch,
+            writer,
+            filter,
+            or_empty(alloc, list),
+        ),
+        _ => Err(Failure::Memory), // TRIAL
     }
 }
 
@@ -94,6 +125,7 @@ fn answer_of_file<R: Files + Eprint, I: Read, W: Write>(
     alloc: Global,
     name: &str,
     asked: &Inquiry<'_>,
+    list: Option<AccessList>,
     reader: &mut I,
     writer: &mut W,
 ) -> Result<(), Stop> {
@@ -104,10 +136,31 @@ fn answer_of_file<R: Files + Eprint, I: Read, W: Write>(
             return Err(Stop::BadFile);
         }
     };
-    ended(rt, said_of_file(alloc, asked, reader, &mut journal, writer))
+    ended(
+        rt,
+        said_of_file(alloc, asked, list, reader, &mut journal, writer),
+    )
 }
 
-/// Answers what is asked of a journal.
+// Answers what is asked of a journal.
+fn answer_into<R: Files + Eprint, I: Read, W: Write>(
+    rt: &R,
+    alloc: Global,
+    asked: &Inquiry<'_>,
+    reader: &mut I,
+    writer: &mut W,
+) -> Result<(), Stop> {
+    let list = match asked.list {
+        Some(name) => Some(list_of(rt, alloc, name)?),
+        None => None,
+    };
+    match asked.journal {
+        Some(name) => answer_of_file(rt, alloc, name, asked, list, reader, writer),
+        None => ended(rt, said(alloc, asked, list, reader, writer)),
+    }
+}
+
+/// Answers what is asked of a journal. What a timeline shows is drawn.
 pub fn answer<R: Files + Eprint, I: Read, W: Write>(
     rt: &R,
     alloc: Global,
@@ -115,8 +168,10 @@ pub fn answer<R: Files + Eprint, I: Read, W: Write>(
     reader: &mut I,
     writer: &mut W,
 ) -> Result<(), Stop> {
-    match asked.journal {
-        Some(name) => answer_of_file(rt, alloc, name, asked, reader, writer),
-        None => ended(rt, said(alloc, asked, reader, writer)),
+    if !matches!(asked.question, Question::Timeline) {
+        return answer_into(rt, alloc, asked, reader, writer);
     }
+    let mut said: Vec<u8> = Vec::new(alloc);
+    let outcome = answer_into(rt, alloc, asked, reader, &mut said);
+    draw(alloc, asked, writer, said.as_slice(), outcome)
 }

@@ -1,2 +1,4 @@
-pub mod Finding
+mod Finding
+mod Subjects
 pub mod Staying
+pub mod Timing

@@ -1,14 +1,12 @@
 //! Which bodies are under way, and which call each actor had queued last.
 
-ghost use Rattle.std.specs.Prelude.{◌≡◌, ◌==◌, ◌∷◌, ◌++◌, [], List, OnOk, slice_get};
+ghost use Rattle.std.specs.Prelude.{◌≡◌, ◌==◌, ◌∷◌, [], List, OnOk, slice_get};
 ghost use Rattle.std.specs.List.{filter};
 ghost use Rattle.rv_shape.specs.Shape.{Shape};
 ghost use Rattle.rv_event.specs.Lent.{whole};
 ghost use Rattle.rv_event.specs.Past.{begun, closed, innermost, last_queued, without};
-ghost use Rattle.rv_event.specs.declared.entry.Entry.TheVariants.{Load};
 ghost use Rattle.rv_event.specs.declared.entry.Entry.{Entry};
 ghost use Rattle.rv_history.specs.History.{History};
-ghost use Rattle.rv_history.specs.Legal.{Legal};
 ghost use Rattle.rv_history.specs.Subject.{subject, home};
 ghost use Rattle.rv_shape.specs.Readers.{who_of};
 ghost use Rattle.rv_asked.specs.Holding.{Keeps};
@@ -115,9 +113,10 @@ impl Holding {
         ensures bodies { self.new.bodies.items ≡ closed actor self.old.bodies.items }
         ensures calls { self.new.calls ≡ self.old.calls }
     {
-        if let Some(actor) = actor {
-            take_out(&mut self.bodies, actor);
-        }
+        let Some(actor) = actor else {
+            return;
+        };
+        take_out(&mut self.bodies, actor);
     }
 
     // One begins, if one does.
@@ -140,10 +139,4 @@ impl Holding {
         self.begin(started)?;
         self.calls.note(entry)
     }
-
-    /// Tells that it keeps the same where a unit more is loaded.
-    #[tactic(auto, using(crate::proofs::Staying::stays))]
-    pub fn stays(&self)
-        ensures { (h : History) (shape : _) → Legal h → Keeps self.now h.shapes h.past → Keeps self.now (h.shapes ++ shape ∷ []) (Load ∷ h.past) }
-    {}
 }

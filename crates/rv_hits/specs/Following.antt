@@ -11,7 +11,8 @@ use Rattle.rv_refused.specs.Filters.{FilterText}
 use Rattle.rv_refused.specs.Looking.{WillHold}
 use Rattle.rv_asked.specs.Asked.{line_by, takes}
 use Rattle.rv_asked.specs.Holding.{Keeps}
-use Rattle.rv_hits.specs.Hits.{has_words, tally_of, times_in, with_lines, words_of}
+use Rattle.rv_asked.specs.Times.{times_in}
+use Rattle.rv_hits.specs.Hits.{decides_none, has_words, tally_of, with_lines, words_of}
 use Rattle.rv_hits.specs.declared.hits.Hits.{Hits}
 use Rattle.rv_tallied.specs.Tallies.{kept_for, once_more, one_more}
 use Rattle.rv_tallied.specs.declared.tallies.Tally.{Tally}
@@ -22,7 +23,7 @@ pub record Follows (filter : FilterText) (it : Hits) (h : History) : Type 0 wher
   pub holding : Keeps it.holding h.shapes h.past
   pub words : map string_bytes it.words.items ≡ words_of h.lists
   pub tallies : (words : List ℕ) → kept_for it.tallies words ≡ tally_of filter h words
-  pub unmatched : it.unmatched ≡ times_in filter is_none h
+  pub unmatched : it.unmatched ≡ times_in (decides_none filter) h
 
 -- before a list change it follows what is before it; else it awaits what a line tells
 abbrev pub Awaits : FilterText → Hits → List Shape → History → Told → Type 0

@@ -124,7 +124,8 @@ impl<'f> Hits<'f> {
     {
         let catalogue = host.catalogue();
         let entry = EntryRef::Asked(actor, request, word);
-        self.count(host, number, asked_at(catalogue, &self.holding, &entry))?;
+        let asked = asked_at(catalogue, &self.holding, &entry);
+        self.count(host, number, asked)?;
         self.holding.note(catalogue, &entry)
     }
 
@@ -155,7 +156,6 @@ impl<'f> Observer for Hits<'f> {
             Deed::Asks(actor, request, word) => self.look(host, number, actor, &request, word),
             Deed::Loads(_, _, _) => {
                 host.replays();
-                self.holding.stays();
                 Ok(())
             }
             Deed::Lists(_, _, _) => Ok(()),

@@ -5,12 +5,18 @@
 //! can't be read twice, and a file may change between two reads.
 #![tactic(auto)]
 
+mod changed;
+mod decided;
+mod drawn;
 mod granted;
 mod refused;
 mod review;
 mod reviewing;
 mod waited;
 
+pub use changed::{what_if, what_if_file};
+pub use decided::{hits, hits_file};
+pub use drawn::{timeline, timeline_file};
 pub use granted::{rights, rights_file};
 pub use refused::{refusals, refusals_file};
 pub use rv_audit::observer::{Nobody, Watch};

@@ -1,2 +1,3 @@
 mod Counting
 mod Rowing
+pub mod Steps

@@ -45,10 +45,13 @@ rows_append how f (y ∷ ys) x =
     ap (λ (t : List ℕ). row_text how y (f y) ++ t) (rows_append how f ys x) ∙ sym (append_assoc (row_text how y (f y)) (rows_text how f ys) (row_text how x (f x)))
 
 -- the rows so far with one more
-pub row_more : {X : Type 0} (g : X → List ℕ) (how : List ℕ) (f : List ℕ → Tally) (xs : List X) (i : ℕ) (d : X) (text middle new : List ℕ) → i < length xs → middle ≡ text ++ rows_text how f (map g (take i xs)) →
-    new ≡ middle ++ row_text how (g (get_or xs i d)) (f (g (get_or xs i d))) → new ≡ text ++ rows_text how f (map g (take (i + 1) xs))
-row_more g how f xs i d text middle new lt middle_is new_is =
-    let row : List ℕ = row_text how (g (get_or xs i d)) (f (g (get_or xs i d))) in
-    new_is ∙ ap (λ (t : List ℕ). t ++ row) middle_is ∙ append_assoc text (rows_text how f (map g (take i xs))) row
-    ∙ ap (λ (t : List ℕ). text ++ t) (sym (rows_append how f (map g (take i xs)) (g (get_or xs i d))))
-    ∙ ap (λ (ys : List (List ℕ)). text ++ rows_text how f ys) (sym (map_more g xs i d lt))
+pub row_more : {X : Type 0} (g : X → List ℕ) (how : List ℕ) (f : List ℕ → Tally) (xs : List X) (i : ℕ) (x : X) (words : List ℕ) (tally : Tally) (text middle new : List ℕ) → i < length xs → x ≡ get_or xs i x → words ≡ g x → tally ≡ f words →
+    middle ≡ text ++ rows_text how f (map g (take i xs)) → new ≡ middle ++ row_text how words tally → new ≡ text ++ rows_text how f (map g (take (i + 1) xs))
+row_more g how f xs i x words tally text middle new lt x_is words_is tally_is middle_is new_is =
+    let at : words ≡ g (get_or xs i x) = words_is ∙ ap g x_is in
+    new_is ∙ ap (λ (t : List ℕ). t ++ row_text how words tally) middle_is
+    ∙ append_assoc text (rows_text how f (map g (take i xs))) (row_text how words tally)
+    ∙ ap (λ (t : Tally). text ++ (rows_text how f (map g (take i xs)) ++ row_text how words t)) tally_is
+    ∙ ap (λ (w : List ℕ). text ++ (rows_text how f (map g (take i xs)) ++ row_text how w (f w))) at
+    ∙ ap (λ (t : List ℕ). text ++ t) (sym (rows_append how f (map g (take i xs)) (g (get_or xs i x))))
+    ∙ ap (λ (ys : List (List ℕ)). text ++ rows_text how f ys) (sym (map_more g xs i x lt))

@@ -1,0 +1,15 @@
+//! Pictures of what a timeline shows: rows of letters for a terminal, and SVG.
+//!
+//! A picture is made of the lines that a review of a timeline says. Nothing is claimed of how it looks, and tests look at it.
+#![tactic(auto)]
+
+mod frame;
+mod lanes;
+mod letters;
+mod span;
+mod svg;
+
+pub use frame::Frame;
+pub use letters::letters;
+pub use span::{Span, spans_of};
+pub use svg::svg;
