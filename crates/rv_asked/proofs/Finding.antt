@@ -48,6 +48,11 @@ past_one actor [] i d lt none is = absurd (omega arith)
 past_one actor (x ∷ xs) zero d lt none is = passed actor x xs (by actor x) is
 past_one actor (x ∷ xs) (suc i) d lt none is = skipped actor x xs i (by actor x) none (λ e. past_one actor xs i d (omega arith) e is)
 
+pub past_one_at : (actor : ℕ) (xs : List Body) (i : ℕ) (d : Body) → i < length xs → filter (by actor) (take i xs) ≡ [] → by actor (get_or xs i d) ≡ false → filter (by actor) (take (i + 1) xs) ≡ []
+past_one_at actor xs i d lt none is =
+    let e : i + 1 ≡ suc i = omega arith in
+    ap (λ (n : ℕ). filter (by actor) (take n xs)) e ∙ past_one actor xs i d lt none is
+
 -- there is none
 nobody : (actor : ℕ) (x : Body) (xs : List Body) (b : Bool) → (if b then x ∷ filter (by actor) xs else filter (by actor) xs) ≡ [] → (filter (by actor) xs ≡ [] → without actor xs ≡ xs) → (if b then xs else x ∷ without actor xs) ≡ x ∷ xs
 nobody actor x xs true e h = absurd cc

@@ -22,9 +22,7 @@ untaken it h number asked call taken is taken_is not_taken =
     let line : Option Words = line_by (force h) h call in
     let no : takes it.filter h number call ≡ false = sym taken_is ∙ not_taken in
     some_call it it h number asked call is (λ keeps. record {
-      filter = refl;
-      holding = refl;
-      words = refl;
+      rest = refl;
       tallies = λ words. sym (ap (λ (b : Bool). if b then tallied line words (kept_for it.tallies words) else kept_for it.tallies words) no);
       unmatched = sym (ap (λ (b : Bool). if b then unmatched line it.unmatched else it.unmatched) no);
     })
@@ -35,9 +33,7 @@ counted_line old new h number asked call taken line is taken_is is_taken line_is
     let yes : takes old.filter h number call ≡ true = sym taken_is ∙ is_taken in
     let by : Option Words = line_by (force h) h call in
     some_call old new h number asked call is (λ keeps. record {
-      filter = counts.filter;
-      holding = counts.holding;
-      words = counts.words;
+      rest = counts.rest;
       tallies = λ words. counts.tallies words ∙ ap (λ (l : Option Words). tallied l words (kept_for old.tallies words)) (line_is keeps)
           ∙ sym (ap (λ (b : Bool). if b then tallied by words (kept_for old.tallies words) else kept_for old.tallies words) yes);
       unmatched = counts.unmatched ∙ ap (λ (l : Option Words). unmatched l old.unmatched) (line_is keeps)

@@ -96,39 +96,39 @@ taken_is f filter h number call e is = ap (λ (x : FilterText). takes x h number
 
 -- what is kept behind an entry, by what it asks
 followed : (filter : FilterText) (old middle new : Hits) (h : History) (number a : ℕ) (r : Request) (w : Recorded) (asked : Option Body) → asked_at h.shapes h.past (Asked a r w) ≡ asked → number < 2 ^ 64 → Follows filter old h → number ≡ suc (length h.past) → CountsCall old middle h number asked →
-    new.filter ≡ middle.filter → new.words ≡ middle.words → new.tallies ≡ middle.tallies → new.unmatched ≡ middle.unmatched → Keeps new.holding h.shapes (Asked a r w ∷ h.past) → Follows filter new (record h { past = Asked a r w ∷ h.past })
-followed filter old middle new h number a r w None none lt follows number_is same f ws ts u keeps = record {
-  taken = f ∙ ap (λ (x : Hits). x.filter) same ∙ follows.taken;
+    new ≡ record middle { holding = new.holding } → Keeps new.holding h.shapes (Asked a r w ∷ h.past) → Follows filter new (record h { past = Asked a r w ∷ h.past })
+followed filter old middle new h number a r w None none lt follows number_is same rest keeps = record {
+  taken = ap (λ (x : Hits). x.filter) rest ∙ ap (λ (x : Hits). x.filter) same ∙ follows.taken;
   holding = keeps;
-  words = ap (λ (x : _). map string_bytes x.items) (ws ∙ ap (λ (x : Hits). x.words) same) ∙ follows.words;
-  tallies = λ words. ap (λ (x : Tallies). kept_for x words) (ts ∙ ap (λ (x : Hits). x.tallies) same) ∙ follows.tallies words ∙ unasked_tally filter h a r w words none;
-  unmatched = u ∙ ap (λ (x : Hits). x.unmatched) same ∙ follows.unmatched ∙ unasked_none filter h a r w none;
+  words = ap (λ (x : Hits). map string_bytes x.words.items) rest ∙ ap (λ (x : Hits). map string_bytes x.words.items) same ∙ follows.words;
+  tallies = λ words. ap (λ (x : Hits). kept_for x.tallies words) rest ∙ ap (λ (x : Hits). kept_for x.tallies words) same ∙ follows.tallies words ∙ unasked_tally filter h a r w words none;
+  unmatched = ap (λ (x : Hits). x.unmatched) rest ∙ ap (λ (x : Hits). x.unmatched) same ∙ follows.unmatched ∙ unasked_none filter h a r w none;
 }
-followed filter old middle new h number a r w (Some call) asked lt follows number_is counts f ws ts u keeps =
+followed filter old middle new h number a r w (Some call) asked lt follows number_is counts rest keeps =
     let k = counts follows.holding in
     let taken = taken_is old.filter filter h number call follows.taken number_is in
     record {
-      taken = f ∙ k.filter ∙ follows.taken;
+      taken = ap (λ (x : Hits). x.filter) rest ∙ ap (λ (x : Hits). x.filter) k.rest ∙ follows.taken;
       holding = keeps;
-      words = ap (λ (x : _). map string_bytes x.items) (ws ∙ k.words) ∙ follows.words;
-      tallies = λ words. ap (λ (x : Tallies). kept_for x words) ts ∙ k.tallies words
+      words = ap (λ (x : Hits). map string_bytes x.words.items) rest ∙ ap (λ (x : Hits). map string_bytes x.words.items) k.rest ∙ follows.words;
+      tallies = λ words. ap (λ (x : Hits). kept_for x.tallies words) rest ∙ k.tallies words
           ∙ asked_tally filter h number a r w call words (kept_for old.tallies words) (takes old.filter h number call) asked number_is lt (follows.tallies words) taken;
-      unmatched = u ∙ k.unmatched ∙ asked_none filter h number a r w call old.unmatched (takes old.filter h number call) asked number_is lt follows.unmatched taken;
+      unmatched = ap (λ (x : Hits). x.unmatched) rest ∙ k.unmatched
+          ∙ asked_none filter h number a r w call old.unmatched (takes old.filter h number call) asked number_is lt follows.unmatched taken;
     }
 
 middle_holds : (old middle : Hits) (h : History) (number : ℕ) (asked : Option Body) → CountsCall old middle h number asked → Keeps old.holding h.shapes h.past → Keeps middle.holding h.shapes h.past
 middle_holds old middle h number None same keeps = subst (λ (x : Hits). Keeps x.holding h.shapes h.past) (sym same) keeps
-middle_holds old middle h number (Some call) counts keeps = subst (λ (x : Holding). Keeps x h.shapes h.past) (sym (counts keeps).holding) keeps
+middle_holds old middle h number (Some call) counts keeps = subst (λ (x : Holding). Keeps x h.shapes h.past) (sym (ap (λ (x : Hits). x.holding) (counts keeps).rest)) keeps
 
 -- an entry is looked at: what it asks is counted, and it is noted
 pub looks : (old middle new : Hits) (h : History) (shapes : List Shape) (number a : ℕ) (r : Request) (w : Recorded) (asked : Option Body) → shapes ≡ h.shapes → ((past : List Entry) → Keeps old.holding shapes past → asked ≡ asked_at shapes past (Asked a r w)) → number < 2 ^ 64 →
-    CountsCall old middle h number asked → new.filter ≡ middle.filter → new.words ≡ middle.words → new.tallies ≡ middle.tallies → new.unmatched ≡ middle.unmatched → ((past : List Entry) → Keeps middle.holding shapes past → Keeps new.holding shapes (Asked a r w ∷ past)) →
-    Looks old new h number (Asked a r w)
-looks old middle new h shapes number a r w asked names asks lt counts f ws ts u notes filter follows number_is =
+    CountsCall old middle h number asked → new ≡ record middle { holding = new.holding } → ((past : List Entry) → Keeps middle.holding shapes past → Keeps new.holding shapes (Asked a r w ∷ past)) → Looks old new h number (Asked a r w)
+looks old middle new h shapes number a r w asked names asks lt counts rest notes filter follows number_is =
     let before : Keeps old.holding shapes h.past = subst (λ (ss : List Shape). Keeps old.holding ss h.past) (sym names) follows.holding in
     let is : asked_at h.shapes h.past (Asked a r w) ≡ asked = sym (asks h.past before ∙ ap (λ (ss : List Shape). asked_at ss h.past (Asked a r w)) names) in
     let middle_keeps : Keeps middle.holding shapes h.past = subst (λ (ss : List Shape). Keeps middle.holding ss h.past) (sym names) (middle_holds old middle h number asked counts follows.holding) in
-    followed filter old middle new h number a r w asked is lt follows number_is counts f ws ts u
+    followed filter old middle new h number a r w asked is lt follows number_is counts rest
     (subst (λ (ss : List Shape). Keeps new.holding ss (Asked a r w ∷ h.past)) names (notes h.past middle_keeps))
 
 -- A load and a list change
@@ -146,13 +146,13 @@ loaded filter it h unit legal follows = record {
 
 listed : (filter : FilterText) (old new : Hits) (h : History) (list : List Words) → Sees old new list → Follows filter old h → Follows filter new (record h { past = ListChange ∷ h.past; lists = h.lists ++ list ∷ [] })
 listed filter old new h list sees follows = record {
-  taken = sees.filter ∙ follows.taken;
-  holding = subst (λ (x : Holding). Keeps x h.shapes (ListChange ∷ h.past)) (sym sees.holding) (record { calls = follows.holding.calls; bodies = follows.holding.bodies });
+  taken = ap (λ (x : Hits). x.filter) sees.rest ∙ follows.taken;
+  holding = subst (λ (x : Hits). Keeps x.holding h.shapes (ListChange ∷ h.past)) (sym sees.rest) (record { calls = follows.holding.calls; bodies = follows.holding.bodies });
   words = sees.words ∙ ap (λ (ws : List (List ℕ)). with_lines ws list) follows.words ∙ sym (lists_more [] h.lists list);
-  tallies = λ words. ap (λ (x : Tallies). kept_for x words) sees.tallies ∙ follows.tallies words
+  tallies = λ words. ap (λ (x : Hits). kept_for x.tallies words) sees.rest ∙ follows.tallies words
       ∙ sym (tally_same (times_in (decides_by filter words) (record h { past = ListChange ∷ h.past; lists = h.lists ++ list ∷ [] })) (times_in (grants_by filter words) (record h { past = ListChange ∷ h.past; lists = h.lists ++ list ∷ [] })) (times_in (decides_by filter words) h) (times_in (grants_by filter words) h)
       (times_listed (decides_by filter words) h list (λ k. refl)) (times_listed (grants_by filter words) h list (λ k. refl)));
-  unmatched = sees.unmatched ∙ follows.unmatched ∙ sym (times_listed (decides_none filter) h list (λ k. refl));
+  unmatched = ap (λ (x : Hits). x.unmatched) sees.rest ∙ follows.unmatched ∙ sym (times_listed (decides_none filter) h list (λ k. refl));
 }
 
 force_is : (lists : List (List Words)) (list : List Words) → last_list (lists ++ list ∷ []) ≡ list

@@ -40,17 +40,13 @@ unmatched line number = if is_none line then one_more number else number
 
 -- a line decided, or none did
 pub record CountsLine (old new : Hits) (line : Option Words) : Type 0 where
-  pub filter : new.filter ≡ old.filter
-  pub holding : new.holding ≡ old.holding
-  pub words : new.words ≡ old.words
+  pub rest : new ≡ record old { tallies = new.tallies; unmatched = new.unmatched }
   pub tallies : (words : List ℕ) → kept_for new.tallies words ≡ tallied line words (kept_for old.tallies words)
   pub unmatched : new.unmatched ≡ unmatched line old.unmatched
 
 -- the same, if that is taken
 pub record CountsTaken (old new : Hits) (taken : Bool) (line : Option Words) : Type 0 where
-  pub filter : new.filter ≡ old.filter
-  pub holding : new.holding ≡ old.holding
-  pub words : new.words ≡ old.words
+  pub rest : new ≡ record old { tallies = new.tallies; unmatched = new.unmatched }
   pub tallies : (words : List ℕ) →
       kept_for new.tallies words ≡ (if taken then tallied line words (kept_for old.tallies words) else kept_for old.tallies words)
   pub unmatched : new.unmatched ≡ (if taken then unmatched line old.unmatched else old.unmatched)
@@ -63,11 +59,8 @@ CountsCall old new h number (Some call) =
 
 -- the lines of a list are seen
 pub record Sees (old new : Hits) (list : List Words) : Type 0 where
-  pub filter : new.filter ≡ old.filter
-  pub holding : new.holding ≡ old.holding
   pub words : map string_bytes new.words.items ≡ with_lines (map string_bytes old.words.items) list
-  pub tallies : new.tallies ≡ old.tallies
-  pub unmatched : new.unmatched ≡ old.unmatched
+  pub rest : new ≡ record old { words = new.words }
 
 -- an entry is looked at as the next one of a history
 abbrev pub Looks : Hits → Hits → History → ℕ → Entry → Type 0

@@ -5,11 +5,11 @@
 
 mod frame;
 mod lanes;
-mod letters;
+mod lettering;
 mod span;
-mod svg;
+mod shapes;
 
 pub use frame::Frame;
-pub use letters::letters;
+pub use lettering::letters;
 pub use span::{Span, spans_of};
-pub use svg::svg;
+pub use shapes::svg;

@@ -111,28 +111,28 @@ text_is filter list other h number a r w call text old changed asked number_is o
 -- What is kept behind an entry
 
 followed : (filter : FilterText) (list : List Words) (old middle new : WhatIf) (h : History) (number a : ℕ) (r : Request) (w : Recorded) (asked : Option Body) → asked_at h.shapes h.past (Asked a r w) ≡ asked → number < 2 ^ 64 → Follows filter list old h → number ≡ suc (length h.past) →
-    JudgesCall old middle h number (Asked a r w) asked → new.filter ≡ middle.filter → new.list ≡ middle.list → new.text ≡ middle.text → new.calls ≡ middle.calls → new.tallies ≡ middle.tallies → Keeps new.holding h.shapes (Asked a r w ∷ h.past) → Follows filter list new (then_asked h a r w)
-followed filter list old middle new h number a r w None none lt follows number_is same f l t cs ts keeps = record {
-  taken = f ∙ ap (λ (x : WhatIf). x.filter) same ∙ follows.taken;
-  list = l ∙ ap (λ (x : WhatIf). x.list) same ∙ follows.list;
+    JudgesCall old middle h number (Asked a r w) asked → new ≡ record middle { holding = new.holding } → Keeps new.holding h.shapes (Asked a r w ∷ h.past) → Follows filter list new (then_asked h a r w)
+followed filter list old middle new h number a r w None none lt follows number_is same rest keeps = record {
+  taken = ap (λ (x : WhatIf). x.filter) rest ∙ ap (λ (x : WhatIf). x.filter) same ∙ follows.taken;
+  list = ap (λ (x : WhatIf). x.list) rest ∙ ap (λ (x : WhatIf). x.list) same ∙ follows.list;
   holding = keeps;
-  text = ap (λ (x : String _). string_bytes x) t ∙ ap (λ (x : WhatIf). string_bytes x.text) same ∙ follows.text ∙ sym (append-nil (changes_in filter list h.limits h.past h.shapes h.lists))
+  text = ap (λ (x : WhatIf). string_bytes x.text) rest ∙ ap (λ (x : WhatIf). string_bytes x.text) same ∙ follows.text ∙ sym (append-nil (changes_in filter list h.limits h.past h.shapes h.lists))
       ∙ sym (ap (λ (o : Option Body). changes_in filter list h.limits h.past h.shapes h.lists ++ put_for filter list h (Asked a r w) o) none);
-  calls = ap (λ (x : _). map string_bytes x.items) cs ∙ ap (λ (x : WhatIf). map string_bytes x.calls.items) same ∙ follows.calls ∙ sym (ap (λ (o : Option Body). calls_with filter list h o) none);
-  tallies = λ words. ap (λ (x : Tallies). kept_for x words) ts ∙ ap (λ (x : WhatIf). kept_for x.tallies words) same ∙ follows.tallies words ∙ unasked_tally filter list h a r w words none;
+  calls = ap (λ (x : WhatIf). map string_bytes x.calls.items) rest ∙ ap (λ (x : WhatIf). map string_bytes x.calls.items) same ∙ follows.calls ∙ sym (ap (λ (o : Option Body). calls_with filter list h o) none);
+  tallies = λ words. ap (λ (x : WhatIf). kept_for x.tallies words) rest ∙ ap (λ (x : WhatIf). kept_for x.tallies words) same ∙ follows.tallies words ∙ unasked_tally filter list h a r w words none;
 }
-followed filter list old middle new h number a r w (Some call) asked lt follows number_is judges f l t cs ts keeps =
+followed filter list old middle new h number a r w (Some call) asked lt follows number_is judges rest keeps =
     let k = judges follows.holding in
     let is = changed_is old filter list h number call follows.taken follows.list number_is in
     let told = told_changed old h number call in
     record {
-      taken = f ∙ k.filter ∙ follows.taken;
-      list = l ∙ k.list ∙ follows.list;
+      taken = ap (λ (x : WhatIf). x.filter) rest ∙ k.filter ∙ follows.taken;
+      list = ap (λ (x : WhatIf). x.list) rest ∙ k.list ∙ follows.list;
       holding = keeps;
-      text = ap (λ (x : String _). string_bytes x) t ∙ text_is filter list old.list h number a r w call (string_bytes middle.text) (string_bytes old.text) told asked number_is follows.list is follows.text k.text;
-      calls = ap (λ (x : _). map string_bytes x.items) cs ∙ k.calls ∙ ap (λ (b : Bool). with_call b (map string_bytes old.calls.items) (call_text h call)) is
+      text = ap (λ (x : WhatIf). string_bytes x.text) rest ∙ text_is filter list old.list h number a r w call (string_bytes middle.text) (string_bytes old.text) told asked number_is follows.list is follows.text k.text;
+      calls = ap (λ (x : WhatIf). map string_bytes x.calls.items) rest ∙ k.calls ∙ ap (λ (b : Bool). with_call b (map string_bytes old.calls.items) (call_text h call)) is
           ∙ ap (λ (ws : List (List ℕ)). with_call (is_changed filter list h (Some call)) ws (call_text h call)) follows.calls ∙ sym (ap (λ (o : Option Body). calls_with filter list h o) asked);
-      tallies = λ words. ap (λ (x : Tallies). kept_for x words) ts ∙ k.tallies words
+      tallies = λ words. ap (λ (x : WhatIf). kept_for x.tallies words) rest ∙ k.tallies words
           ∙ ap (λ (ls : List Words). if told then counted (call_text h call) (allows (line_by ls h call)) words (kept_for old.tallies words) else kept_for old.tallies words) follows.list
           ∙ asked_tally filter list h number a r w call words (kept_for old.tallies words) told asked number_is lt (follows.tallies words) is;
     }
@@ -142,13 +142,13 @@ middle_holds old middle h number e None same keeps = subst (λ (x : WhatIf). Kee
 middle_holds old middle h number e (Some call) judges keeps = subst (λ (x : Holding). Keeps x h.shapes h.past) (sym (judges keeps).holding) keeps
 
 pub looks : (old middle new : WhatIf) (h : History) (shapes : List Shape) (number a : ℕ) (r : Request) (w : Recorded) (asked : Option Body) → shapes ≡ h.shapes → ((past : List Entry) → Keeps old.holding shapes past → asked ≡ asked_at shapes past (Asked a r w)) → number < 2 ^ 64 →
-    JudgesCall old middle h number (Asked a r w) asked → new.filter ≡ middle.filter → new.list ≡ middle.list → new.text ≡ middle.text → new.calls ≡ middle.calls → new.tallies ≡ middle.tallies → ((past : List Entry) → Keeps middle.holding shapes past → Keeps new.holding shapes (Asked a r w ∷ past)) →
+    JudgesCall old middle h number (Asked a r w) asked → new ≡ record middle { holding = new.holding } → ((past : List Entry) → Keeps middle.holding shapes past → Keeps new.holding shapes (Asked a r w ∷ past)) →
     Looks old new h number (Asked a r w)
-looks old middle new h shapes number a r w asked names asks lt judges f l t cs ts notes filter list follows number_is =
+looks old middle new h shapes number a r w asked names asks lt judges rest notes filter list follows number_is =
     let before : Keeps old.holding shapes h.past = subst (λ (ss : List Shape). Keeps old.holding ss h.past) (sym names) follows.holding in
     let is : asked_at h.shapes h.past (Asked a r w) ≡ asked = sym (asks h.past before ∙ ap (λ (ss : List Shape). asked_at ss h.past (Asked a r w)) names) in
     let middle_keeps : Keeps middle.holding shapes h.past = subst (λ (ss : List Shape). Keeps middle.holding ss h.past) (sym names) (middle_holds old middle h number (Asked a r w) asked judges follows.holding) in
-    followed filter list old middle new h number a r w asked is lt follows number_is judges f l t cs ts
+    followed filter list old middle new h number a r w asked is lt follows number_is judges rest
     (subst (λ (ss : List Shape). Keeps new.holding ss (Asked a r w ∷ h.past)) names (notes h.past middle_keeps))
 
 -- A load and a list change ask nothing
