@@ -107,12 +107,19 @@ fn asked_with<'a>(question: Question, words: &ArgMatches<'a>) -> Result<Inquiry<
 }
 
 // What a command line that was read asks.
-fn inquiry_of<'a>(matches: &ArgMatches<'a>) -> Option<Result<Inquiry<'a>, Misuse<'a>>>
-    ensures { IfSome result (λ asked. (found : Text × List Row) × (subcommand_rows_of matches.now ≡ Some found) × IfOk asked (IsInquiry found)) }
+fn inquiry_of<'a>(matches: &ArgMatches<'a>) -> Result<Inquiry<'a>, Unasked<'a>>
+    ensures { IfOk result (λ asked. (found : Text × List Row) × (subcommand_rows_of matches.now ≡ Some found) × IsInquiry found asked) }
 {
-    let (name, words) = matches.subcommand()?;
-    let question = question_of(name)?;
-    Some(asked_with(question, words))
+    let Some((name, words)) = matches.subcommand() else {
+        return Err(Unasked::Unknown);
+    };
+    let Some(question) = question_of(name) else {
+        return Err(Unasked::Unknown);
+    };
+    match asked_with(question, words) {
+        Ok(inquiry) => Ok(inquiry),
+        Err(misuse) => Err(Unasked::Misused(misuse)),
+    }
 }
 
 /// What the words of a command line ask, the first of which is the program's name.
@@ -134,9 +141,5 @@ pub fn inquiry<'a>(alloc: Global, words: &'a [&'a str]) -> Result<Inquiry<'a>, U
             return Err(Unasked::Usage(e));
         }
     };
-    match inquiry_of(&matches) {
-        Some(Ok(inquiry)) => Ok(inquiry),
-        Some(Err(misuse)) => Err(Unasked::Misused(misuse)),
-        None => Err(Unasked::Unknown),
-    }
+    inquiry_of(&matches)
 }
