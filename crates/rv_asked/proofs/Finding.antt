@@ -1,5 +1,5 @@
 -- The first body of an actor, by its place.
-use Rattle.std.proofs.Common.{◌≡◌, ◌+◌, ◌<◌, ℕ, zero, suc, Bool, true, false, Some, None, Option, List, [], ◌∷◌, length, get_or, take, refl, sym, ap, ◌∙◌, arith, if◌then◌else◌}
+use Rattle.std.proofs.Common.{◌≡◌, ◌+◌, ◌<◌, ◌≤◌, ℕ, zero, suc, Bool, true, false, Some, None, Option, List, [], ◌∷◌, length, get_or, take, refl, sym, ap, ◌∙◌, arith, if◌then◌else◌}
 use Rattle.std.specs.Prelude.{◌==◌, remove, slice_get}
 use Rattle.std.specs.List.{filter}
 use Rattle.rv_event.specs.Past.{without}
@@ -10,8 +10,8 @@ by actor body = body.actor == actor
 
 -- it is the one at this place
 pub record IsFirst (actor : ℕ) (xs : List Body) (i : ℕ) (x : Body) : Type 0 where
-  first : slice_get (filter (by actor) xs) 0 ≡ Some x
-  rest : remove xs i ≡ without actor xs
+  pub first : slice_get (filter (by actor) xs) 0 ≡ Some x
+  pub rest : remove xs i ≡ without actor xs
 
 here : (actor : ℕ) (x : Body) (xs : List Body) (b : Bool) → b ≡ true →
     (slice_get (if b then x ∷ filter (by actor) xs else filter (by actor) xs) 0 ≡ Some x) × (xs ≡ (if b then xs else x ∷ without actor xs))
@@ -61,3 +61,12 @@ nobody actor x xs false e h = ap (λ (ys : List Body). x ∷ ys) (h e)
 pub all_left : (actor : ℕ) (xs : List Body) → filter (by actor) xs ≡ [] → without actor xs ≡ xs
 all_left actor [] e = refl
 all_left actor (x ∷ xs) e = nobody actor x xs (by actor x) e (all_left actor xs)
+
+whole : (xs : List Body) (i : ℕ) → length xs ≤ i → take i xs ≡ xs
+whole [] zero le = refl
+whole [] (suc i) le = refl
+whole (x ∷ xs) zero le = absurd (omega arith)
+whole (x ∷ xs) (suc i) le = ap (λ (ys : List Body). x ∷ ys) (whole xs i (omega arith))
+
+pub none_left : (actor : ℕ) (xs : List Body) (i : ℕ) → length xs ≤ i → filter (by actor) (take i xs) ≡ [] → xs ≡ without actor xs
+none_left actor xs i le none = sym (all_left actor xs (sym (ap (λ (ys : List Body). filter (by actor) ys) (whole xs i le)) ∙ none))

@@ -41,7 +41,7 @@ pub fn what_if<R: Read, W: Write>(
     list: AccessList,
 ) -> Result<Audited, Failure>
     ensures { IfSome (R.remaining reader.old) (λ script.
-        AuditsScript true (ReviewsSection (whatif_text filter.entry list.entry)) (W.contents writer.old) (W.contents writer.new) script result) }
+        AuditsScript true (ReviewsSection (whatif_text filter.entry list)) (W.contents writer.old) (W.contents writer.new) script result) }
 {
     let observer = WhatIf::new(alloc, filter, list);
     review(alloc, reader, writer, observer)
@@ -62,7 +62,7 @@ pub fn what_if_file<R: Read, J: Read, W: Write, H: Watch>(
     list: AccessList,
 ) -> Result<Audited, Failure>
     ensures { IfSome (R.remaining reader.old) (λ script.
-        AuditsScript false (ReviewsFile (whatif_text filter.entry list.entry) (J.remaining journal.old) takes_torn) (W.contents writer.old) (W.contents writer.new) script result) }
+        AuditsScript false (ReviewsFile (whatif_text filter.entry list) (J.remaining journal.old) takes_torn) (W.contents writer.old) (W.contents writer.new) script result) }
 {
     let observer = WhatIf::new(alloc, filter, list);
     review_file(alloc, reader, journal, takes_torn, watch, writer, observer)

@@ -41,7 +41,7 @@ pub fn rights<R: Read, W: Write>(
     other: Option<AccessList>,
 ) -> Result<Audited, Failure>
     ensures { IfSome (R.remaining reader.old) (λ script.
-        AuditsScript true (ReviewsSection (rights_text filter.entry other.entry)) (W.contents writer.old) (W.contents writer.new) script result) }
+        AuditsScript true (ReviewsSection (rights_text filter.entry other)) (W.contents writer.old) (W.contents writer.new) script result) }
 {
     let observer = Rights::new(alloc, filter, other);
     review(alloc, reader, writer, observer)
@@ -62,7 +62,7 @@ pub fn rights_file<R: Read, J: Read, W: Write, H: Watch>(
     other: Option<AccessList>,
 ) -> Result<Audited, Failure>
     ensures { IfSome (R.remaining reader.old) (λ script.
-        AuditsScript false (ReviewsFile (rights_text filter.entry other.entry) (J.remaining journal.old) takes_torn) (W.contents writer.old) (W.contents writer.new) script result) }
+        AuditsScript false (ReviewsFile (rights_text filter.entry other) (J.remaining journal.old) takes_torn) (W.contents writer.old) (W.contents writer.new) script result) }
 {
     let observer = Rights::new(alloc, filter, other);
     review_file(alloc, reader, journal, takes_torn, watch, writer, observer)

@@ -66,7 +66,7 @@ impl<'f> Rights<'f> {
     /// Before the first line of a journal.
     pub fn new(alloc: Global, filter: Filter<'f>, other: Option<AccessList>) -> Rights<'f>
         ensures filter { result.filter ≡ filter.entry }
-        ensures other { result.other ≡ other.entry }
+        ensures other { result.other ≡ other }
         ensures begins { (limits : Limits) → Follows result.filter result.other result (empty limits) }
     {
         Rights {

@@ -221,11 +221,33 @@ impl<'f> Timeline<'f> {
             ++ (lasting_lines (word_of Bodies) self.old.filter catalogue.now self.old.tick self.old.bodies.begun
             ++ lasting_lines (word_of Delays) self.old.filter catalogue.now self.old.tick self.old.delays.begun))) }
     {
-        let tick = self.tick;
-        let text = &mut self.text;
-        put_lasting(self.alloc, text, &self.filter, catalogue, "wait", tick, self.waits.begun())?;
-        put_lasting(self.alloc, text, &self.filter, catalogue, "body", tick, self.bodies.begun())?;
-        put_lasting(self.alloc, text, &self.filter, catalogue, "delay", tick, self.delays.begun())
+        put_lasting(
+            self.alloc,
+            &mut self.text,
+            &self.filter,
+            catalogue,
+            "wait",
+            self.tick,
+            self.waits.begun(),
+        )?;
+        put_lasting(
+            self.alloc,
+            &mut self.text,
+            &self.filter,
+            catalogue,
+            "body",
+            self.tick,
+            self.bodies.begun(),
+        )?;
+        put_lasting(
+            self.alloc,
+            &mut self.text,
+            &self.filter,
+            catalogue,
+            "delay",
+            self.tick,
+            self.delays.begun(),
+        )
     }
 
     /// The lines, by the catalogue of what was loaded. Err where memory was refused.

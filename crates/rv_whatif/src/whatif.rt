@@ -66,7 +66,7 @@ impl<'f> WhatIf<'f> {
     /// Before the first line of a journal.
     pub fn new(alloc: Global, filter: Filter<'f>, list: AccessList) -> WhatIf<'f>
         ensures filter { result.filter ≡ filter.entry }
-        ensures list { result.list ≡ list.entry }
+        ensures list { result.list ≡ list }
         ensures begins { (limits : Limits) → Follows result.filter result.list result (empty limits) }
     {
         WhatIf {

@@ -1,4 +1,4 @@
-use Rattle.std.proofs.Common.{sym, ap, ◌∙◌}
+use Rattle.std.proofs.Common.{rules}
 use Rattle.rv_asked.proofs.Subjects.{none_set}
 use Rattle.rv_asked.proofs.deciding.line_in_force.Goals as goal
 
