@@ -1,4 +1,4 @@
 mod Finding
-mod Subjects
+mod Unset
 pub mod Staying
 pub mod Timing

@@ -30,7 +30,7 @@ use Rattle.rv_asked.proofs.Staying.{stays}
 use Rattle.rv_asked.proofs.Timing.{times_few, times_listed, times_loaded}
 use Rattle.rv_asked.specs.declared.holding.Holding.{Holding}
 use Rattle.rv_tallied.specs.Tallies.{kept_for, row_text, rows_text}
-use Rattle.rv_tallied.proofs.Steps.{none_is, one_if_is, tally_is}
+use Rattle.rv_tallied.proofs.Steps.{one_if_is, tally_is}
 use Rattle.rv_tallied.specs.declared.tallies.Tallies.{Tallies}
 use Rattle.rv_tallied.specs.declared.tallies.Tally.{Tally}
 use Rattle.rv_hits.specs.Following.{Awaits, CountsCall, CountsLine, CountsTaken, Follows, Looks, Sees, tallied, unmatched}
@@ -42,6 +42,9 @@ use Rattle.rv_hits.proofs.Seeing.{lists_more}
 
 few : (filter : FilterText) (test : Test) (h : History) → times_in test h ≤ length h.past
 few filter test h = times_few test h.limits h.past h.shapes h.lists
+
+none_is : (n : ℕ) → n ≡ n + 0
+none_is n = omega arith
 
 fits : (number n : ℕ) → number ≡ suc n → number < 2 ^ 64 → suc n < 2 ^ 64
 fits number n is lt = omega arith

@@ -12,7 +12,7 @@ ghost use Rattle.rv_hits.specs.Hits.{hits_text};
 use crate::lines::put_lines;
 use rv_access::Line;
 use rv_asked::asking::{asked_at, takes};
-use rv_asked::deciding::line_in_force;
+use rv_asked::deciding::{decided_in_force, line_in_force};
 use rv_asked::holding::Holding;
 use rv_audit::observer::Observer;
 use rv_event::entry::{Answer, Body, EntryRef, Recorded, Request};
@@ -108,7 +108,8 @@ impl<'f> Hits<'f> {
         if !takes(self.alloc, &self.filter, host, number, &call)? {
             return Ok(());
         }
-        self.count_line(line_in_force(host, &self.holding, &call))
+        let line = decided_in_force(host, &self.holding, &call);
+        self.count_line(line_in_force(host, line))
     }
 
     // Looks at a request with the answer that is told, the entry of this number.

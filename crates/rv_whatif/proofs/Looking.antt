@@ -30,7 +30,7 @@ use Rattle.rv_asked.proofs.Staying.{stays}
 use Rattle.rv_asked.proofs.Timing.{times_few, times_listed, times_loaded}
 use Rattle.rv_asked.specs.declared.holding.Holding.{Holding}
 use Rattle.rv_tallied.specs.Tallies.{counted, kept_for, rows_text}
-use Rattle.rv_tallied.proofs.Steps.{none_is, tally_is}
+use Rattle.rv_tallied.proofs.Steps.{tally_is}
 use Rattle.rv_tallied.specs.declared.tallies.Tallies.{Tallies}
 use Rattle.rv_tallied.specs.declared.tallies.Tally.{Tally}
 use Rattle.rv_whatif.specs.Changes.{call_text, call_words, calls_in, change_of, changes_in, differs, head, is_changed, is_granted_of, is_of, line_if, line_of, tally_of, whatif_text, with_call}
@@ -39,6 +39,9 @@ use Rattle.rv_whatif.specs.declared.whatif.WhatIf.{WhatIf}
 
 few : (test : Test) (h : History) → times_in test h ≤ length h.past
 few test h = times_few test h.limits h.past h.shapes h.lists
+
+none_is : (n : ℕ) → n ≡ n + 0
+none_is n = omega arith
 
 fits : (number n : ℕ) → number ≡ suc n → number < 2 ^ 64 → suc n < 2 ^ 64
 fits number n is lt = omega arith

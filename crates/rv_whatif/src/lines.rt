@@ -2,19 +2,22 @@
 
 ghost use Rattle.std.specs.Prelude.{◌≡◌, ◌∷◌, ◌++◌, [], IfOk, OnOk, codes, option_copied, string_bytes};
 ghost use Rattle.std.specs.Fmt.{decimal};
-ghost use Rattle.rv_access.specs.Lines.{allows};
+ghost use Rattle.rv_access.specs.Lines.{allows, line_at};
 ghost use Rattle.rv_shape.specs.Printed.{actor_text, target_text};
 ghost use Rattle.rv_shape.specs.Readers.{target_of, who_of};
+ghost use Rattle.rv_history.specs.History.{force};
 ghost use Rattle.rv_grants.specs.Grants.{decision_text};
 ghost use Rattle.rv_whatif.specs.Changes.{is_one_of};
 
-use rv_access::Line;
+use rv_access::{AccessList, Line};
+use rv_asked::deciding::line_in_force;
 use rv_grants::decision_text;
+use rv_host::host::Host;
 use rv_shape::actor::{Actor, Callee};
 use std::alloc::{AllocError, Global};
 
-/// Whether there is a line, and it allows.
-pub fn allows(line: Option<&Line>) -> bool
+// Whether there is a line, and it allows.
+fn allows(line: Option<&Line>) -> bool
     ensures { result ≡ allows (option_copied line.entry) }
 {
     match line {
@@ -30,17 +33,33 @@ pub fn is_one_of(one: bool, other: bool) -> bool
     one != other
 }
 
-/// What would be decided, and what was, in words. Err where memory was refused.
+/// Whether the list has a line of a number, and it allows.
+pub fn allows_at(list: &AccessList, number: usize) -> bool
+    ensures { result ≡ allows (line_at list.now number) }
+{
+    allows(list.line(number))
+}
+
+/// Whether the list in force has a line of a number, and it allows.
+pub fn allows_in_force(host: &Host, number: usize) -> bool
+    ensures { result ≡ allows (line_at (force host.now) number) }
+{
+    allows(line_in_force(host, number))
+}
+
+/// What the line of a number of a list would decide, and what one of the list in force did, in words. Err where memory was refused.
 pub fn decisions_text(
     alloc: Global,
-    would: Option<&Line>,
-    was: Option<&Line>,
+    host: &Host,
+    list: &AccessList,
+    would: usize,
+    was: usize,
 ) -> Result<String, AllocError>
-    ensures { IfOk result (λ text. string_bytes text ≡ decision_text (option_copied would.entry)
-        ++ (codes ", was " ++ decision_text (option_copied was.entry))) }
+    ensures { IfOk result (λ text. string_bytes text ≡ decision_text (line_at list.now would)
+        ++ (codes ", was " ++ decision_text (line_at (force host.now) was))) }
 {
-    let would = decision_text(alloc, would)?;
-    let was = decision_text(alloc, was)?;
+    let would = decision_text(alloc, list.line(would))?;
+    let was = decision_text(alloc, line_in_force(host, was))?;
     let would = would.as_str();
     let was = was.as_str();
     format!(in alloc; "{would}, was {was}")

@@ -16,10 +16,12 @@ ghost use Rattle.rv_tallied.specs.Tallies.{counted, kept_for, with_words};
 ghost use Rattle.rv_whatif.specs.Changes.{call_text, head, line_of, whatif_text};
 ghost use Rattle.rv_whatif.specs.Following.{Follows, Judges, JudgesCall, Looks};
 
-use crate::lines::{allows, call_words, decisions_text, is_one_of, put_line};
+use crate::lines::{
+    allows_at, allows_in_force, call_words, decisions_text, is_one_of, put_line,
+};
 use rv_access::AccessList;
 use rv_asked::asking::{asked_at, asking_text, takes};
-use rv_asked::deciding::{line_by, line_in_force};
+use rv_asked::deciding::{decided_by, decided_in_force};
 use rv_asked::holding::Holding;
 use rv_audit::observer::Observer;
 use rv_event::entry::{Answer, Body, EntryRef, Recorded, Request};
@@ -103,11 +105,9 @@ impl<'f> WhatIf<'f> {
             string_bytes self.new.text ≡ string_bytes self.old.text ++ line_of self.old.list host.now number (whole entry.now) call.now) }
         ensures rest { self.new ≡ record self.old { text = self.new.text } }
     {
-        let decisions = decisions_text(
-            self.alloc,
-            line_by(host, &self.holding, &self.list, call),
-            line_in_force(host, &self.holding, call),
-        )?;
+        let would = decided_by(host, &self.holding, &self.list, call);
+        let was = decided_in_force(host, &self.holding, call);
+        let decisions = decisions_text(self.alloc, host, &self.list, would, was)?;
         let catalogue = host.catalogue();
         put_line(
             &mut self.text,
@@ -149,8 +149,8 @@ impl<'f> WhatIf<'f> {
         ensures rest { self.new ≡ record self.old { tallies = self.new.tallies } }
     {
         let words = self.words_of(host, call)?;
-        let grants = allows(line_by(host, &self.holding, &self.list, call));
-        self.tallies.count(words, grants)
+        let would = decided_by(host, &self.holding, &self.list, call);
+        self.tallies.count(words, allows_at(&self.list, would))
     }
 
     // Tells and counts a changed decision about a call, at the entry of this number.
@@ -185,9 +185,10 @@ impl<'f> WhatIf<'f> {
         if !takes(self.alloc, &self.filter, host, number, &call)? {
             return Ok(());
         }
-        let was = allows(line_in_force(host, &self.holding, &call));
-        let would = allows(line_by(host, &self.holding, &self.list, &call));
-        if !is_one_of(was, would) {
+        let was = decided_in_force(host, &self.holding, &call);
+        let would = decided_by(host, &self.holding, &self.list, &call);
+        let is_granted = allows_in_force(host, was);
+        if !is_one_of(is_granted, allows_at(&self.list, would)) {
             return Ok(());
         }
         self.change(host, number, entry, &call)
