@@ -81,7 +81,6 @@ fn said<I: Read, W: Write>(
         Question::Hits => hits(alloc, reader, writer, filter),
         Question::Timeline => timeline(alloc, reader, writer, filter),
         Question::WhatIf => what_if(alloc, reader, writer, filter, or_empty(alloc, list)),
-        _ => Err(Failure::Memory), // TRIAL
     }
 }
 
@@ -115,7 +114,6 @@ fn said_of_file<I: Read, J: Read, W: Write>(
             filter,
             or_empty(alloc, list),
         ),
-        _ => Err(Failure::Memory), // TRIAL
     }
 }
 

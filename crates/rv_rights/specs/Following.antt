@@ -6,7 +6,7 @@ use Rattle.rv_refused.specs.Filters.{FilterText}
 use Rattle.rv_rights.specs.declared.rights.Rights.{Rights}
 
 -- it has the list in force, and the other
-pub record Follows (filter : FilterText) (other : Option (List Words)) (it : Rights) (h : History) : Type 0 where
+pub record Follows (filter : FilterText) (against : Option (List Words)) (it : Rights) (h : History) : Type 0 where
   pub taken : it.filter ≡ filter
-  pub other : it.other ≡ other
+  pub other : it.other ≡ against
   pub list : it.list ≡ force h

@@ -102,12 +102,12 @@ changed_is it filter list h number call e f is =
 text_is : (filter : FilterText) (list other : List Words) (h : History) (number a : ℕ) (r : Request) (w : Recorded) (call : Body) (text old : List ℕ) (changed : Bool) → asked_at h.shapes h.past (Asked a r w) ≡ Some call → number ≡ suc (length h.past) → other ≡ list →
     changed ≡ is_changed filter list h (Some call) → old ≡ changes_in filter list h.limits h.past h.shapes h.lists → text ≡ old ++ (if changed then line_of other h number (Asked a r w) call else []) →
     text ≡ changes_in filter list h.limits (Asked a r w ∷ h.past) h.shapes h.lists
-text_is filter list other h number a r w call text old changed asked number_is other_is changed_is old_is text_is =
+text_is filter list other h number a r w call text old changed asked number_is other_is c_is old_is t_is =
     let e : Entry = Asked a r w in
-    text_is ∙ ap (λ (l : List Words). old ++ (if changed then line_of l h number e call else [])) other_is
+    t_is ∙ ap (λ (l : List Words). old ++ (if changed then line_of l h number e call else [])) other_is
     ∙ ap (λ (n : ℕ). old ++ (if changed then line_of list h n e call else [])) number_is
     ∙ ap (λ (t : List ℕ). old ++ t) (put_is changed list h (suc (length h.past)) e call)
-    ∙ ap (λ (b : Bool). old ++ line_if b list h (suc (length h.past)) e (Some call)) changed_is
+    ∙ ap (λ (b : Bool). old ++ line_if b list h (suc (length h.past)) e (Some call)) c_is
     ∙ ap (λ (t : List ℕ). t ++ put_for filter list h e (Some call)) old_is
     ∙ sym (ap (λ (o : Option Body). changes_in filter list h.limits h.past h.shapes h.lists ++ put_for filter list h e o) asked)
 

@@ -13,13 +13,13 @@ use Rattle.rv_whatif.specs.Changes.{call_text, calls_in, changes_in, differs, li
 use Rattle.rv_whatif.specs.declared.whatif.WhatIf.{WhatIf}
 
 -- what is kept is what there is behind a history
-pub record Follows (filter : FilterText) (list : List Words) (it : WhatIf) (h : History) : Type 0 where
+pub record Follows (filter : FilterText) (lines : List Words) (it : WhatIf) (h : History) : Type 0 where
   pub taken : it.filter ≡ filter
-  pub list : it.list ≡ list
+  pub list : it.list ≡ lines
   pub holding : Keeps it.holding h.shapes h.past
-  pub text : string_bytes it.text ≡ changes_in filter list h.limits h.past h.shapes h.lists
-  pub calls : map string_bytes it.calls.items ≡ calls_in filter list h.limits h.past h.shapes h.lists
-  pub tallies : (words : List ℕ) → kept_for it.tallies words ≡ tally_of filter list h words
+  pub text : string_bytes it.text ≡ changes_in filter lines h.limits h.past h.shapes h.lists
+  pub calls : map string_bytes it.calls.items ≡ calls_in filter lines h.limits h.past h.shapes h.lists
+  pub tallies : (words : List ℕ) → kept_for it.tallies words ≡ tally_of filter lines h words
 
 -- the decision about a call is told and counted, where it is changed
 pub record Judges (old new : WhatIf) (h : History) (number : ℕ) (entry : Entry) (call : Body) (changed : Bool) : Type 0 where
