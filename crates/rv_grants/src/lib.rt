@@ -3,11 +3,10 @@
 
 mod differing;
 
-pub use differing::{Both, no_row_where_lists_agree, put_differences};
-
 ghost use Rattle.std.specs.Prelude.{◌≡◌, ◌++◌, IfOk, OnOk, option_copied, string_bytes};
 ghost use Rattle.rv_grants.specs.Grants.{DecidesBetween, change, decided, decision_text, edges, ends, grants_from, grants_text, is_again, row};
 
+pub use differing::{Both, no_row_where_lists_agree, put_differences};
 use rv_access::{AccessList, Line, decide};
 use rv_spans::sorted;
 use std::alloc::{AllocError, Global};

@@ -83,9 +83,7 @@ impl<'f> Hits<'f> {
         ensures { OnOk result (CountsLine self.old self.new (option_copied line.entry)) }
     {
         match line {
-            Some(line) => self
-                .tallies
-                .count(line.text(self.alloc)?, line.allows()),
+            Some(line) => self.tallies.count(line.text(self.alloc)?, line.allows()),
             None => {
                 self.unmatched = one_more(self.unmatched);
                 Ok(())
@@ -94,12 +92,7 @@ impl<'f> Hits<'f> {
     }
 
     // Counts what is asked about a call at the entry of this number, if it is asked and the filter takes it.
-    fn count(
-        &mut self,
-        host: &Host,
-        number: usize,
-        asked: Option<Body>,
-    ) -> Result<(), AllocError>
+    fn count(&mut self, host: &Host, number: usize, asked: Option<Body>) -> Result<(), AllocError>
         ensures { OnOk result (CountsCall self.old self.new host.now number asked) }
     {
         let Some(call) = asked else {

@@ -40,12 +40,7 @@ fn fill(row: &mut [u8], from: u64, to: u64, mark: u8) {
 }
 
 // The letters of an actor in a frame.
-fn row(
-    alloc: Global,
-    spans: &[Span<'_>],
-    who: &str,
-    frame: Frame,
-) -> Result<Vec<u8>, AllocError> {
+fn row(alloc: Global, spans: &[Span<'_>], who: &str, frame: Frame) -> Result<Vec<u8>, AllocError> {
     let mut row: Vec<u8> = Vec::new(alloc);
     for _ in 0..frame.width() {
         row.push(b' ')?;

@@ -6,10 +6,10 @@
 mod frame;
 mod lanes;
 mod lettering;
-mod span;
 mod shapes;
+mod span;
 
 pub use frame::Frame;
 pub use lettering::letters;
-pub use span::{Span, spans_of};
 pub use shapes::svg;
+pub use span::{Span, spans_of};

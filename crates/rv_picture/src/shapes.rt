@@ -7,6 +7,7 @@ use std::alloc::{AllocError, Global};
 
 // The height of a row, and where the first one begins.
 const ROW: u64 = 24;
+
 const TOP: u64 = 48;
 
 // How wide a letter is, at most.
@@ -151,7 +152,8 @@ fn put_axis(text: &mut String, field: Field, bottom: u64) -> Result<(), AllocErr
 }
 
 // The styles of shapes.
-const STYLE: &str = "<style>\ntext { font: 13px monospace; fill: #222 }\n.mark { font-size: 11px; fill: #777; stroke-width: 1 }\nline.mark { stroke: #ddd }\n.body { fill: #3b7dd8 }\n.wait { fill: #f0b429 }\n.delay { fill: #b9c4d0 }\n.refused { fill: #d64545 }\nrect { stroke: #fff; stroke-width: 1 }\n</style>\n";
+const STYLE: &str =
+    "<style>\ntext { font: 13px monospace; fill: #222 }\n.mark { font-size: 11px; fill: #777; stroke-width: 1 }\nline.mark { stroke: #ddd }\n.body { fill: #3b7dd8 }\n.wait { fill: #f0b429 }\n.delay { fill: #b9c4d0 }\n.refused { fill: #d64545 }\nrect { stroke: #fff; stroke-width: 1 }\n</style>\n";
 
 // Puts what the colours stand for.
 fn put_key(text: &mut String) -> Result<(), AllocError> {
@@ -177,7 +179,9 @@ pub fn svg(alloc: Global, spans: &[Span<'_>], frame: Frame) -> Result<String, Al
     let entry = (WIDTH / frame.width().max(1)).clamp(1, 16);
     let field = Field { left, entry, frame };
     let width = field.right().saturating_add(60).max(440);
-    let height = TOP.saturating_add((names.len() as u64).saturating_mul(ROW)).saturating_add(12);
+    let height = TOP
+        .saturating_add((names.len() as u64).saturating_mul(ROW))
+        .saturating_add(12);
     let mut text = format!(in alloc;
         "<svg xmlns=\"http://www.w3.org/2000/svg\" width=\"{width}\" height=\"{height}\" viewBox=\"0 0 {width} {height}\">\n<title>Timeline</title>\n{STYLE}<rect x=\"0\" y=\"0\" width=\"{width}\" height=\"{height}\" fill=\"#fff\"/>\n"
     )?;

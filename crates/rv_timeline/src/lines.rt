@@ -21,12 +21,7 @@ use rv_waits::taking::takes;
 use std::alloc::{AllocError, Global};
 
 // From which entry and tick to which, in words.
-fn extent_text(
-    alloc: Global,
-    it: &Begun,
-    number: &str,
-    tick: u64,
-) -> Result<String, AllocError>
+fn extent_text(alloc: Global, it: &Begun, number: &str, tick: u64) -> Result<String, AllocError>
     ensures { IfOk result (λ text. string_bytes text ≡ extent_text it.now number.now tick) }
 {
     let first = it.number;

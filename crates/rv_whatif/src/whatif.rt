@@ -16,9 +16,7 @@ ghost use Rattle.rv_tallied.specs.Tallies.{counted, kept_for, with_words};
 ghost use Rattle.rv_whatif.specs.Changes.{call_text, head, line_of, whatif_text};
 ghost use Rattle.rv_whatif.specs.Following.{Follows, Judges, JudgesCall, Looks};
 
-use crate::lines::{
-    allows_at, allows_in_force, call_words, decisions_text, is_one_of, put_line,
-};
+use crate::lines::{allows_at, allows_in_force, call_words, decisions_text, is_one_of, put_line};
 use rv_access::AccessList;
 use rv_asked::asking::{asked_at, asking_text, takes};
 use rv_asked::deciding::{decided_by, decided_in_force};
