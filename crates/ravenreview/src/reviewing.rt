@@ -1,12 +1,14 @@
 //! The subcommands.
 
+use crate::listing::list_of;
 use crate::one_entry::tell;
 use crate::status::Stop;
+use rv_access::AccessList;
 use rv_fault::Failure;
 use rv_inquiry::inquiry::{From, Inquiry, Question};
 use rv_review::{
-    Audited, Filter, Nobody, Since, refusals, refusals_file, rights, rights_file, state,
-    state_file, waits, waits_file,
+    Audited, Filter, Nobody, Since, hits, hits_file, refusals, refusals_file, rights, rights_file,
+    state, state_file, waits, waits_file, what_if, what_if_file,
 };
 use std::alloc::Global;
 use std::fs;
@@ -45,12 +47,8 @@ fn tell_torn<R: Eprint>(rt: &R, bytes: usize) {
     }
 }
 
-// What a review came to, if there is one of what was asked.
-fn ended<R: Eprint>(rt: &R, audited: Option<Result<Audited, Failure>>) -> Result<(), Stop> {
-    let Some(audited) = audited else {
-        let _ = eprintln!(rt; "ravenreview: this version doesn't answer that question yet");
-        return Err(Stop::Usage);
-    };
+// What a review came to.
+fn ended<R: Eprint>(rt: &R, audited: Result<Audited, Failure>) -> Result<(), Stop> {
     match audited {
         Ok(audited) => {
             tell_torn(rt, audited.torn);
@@ -64,49 +62,66 @@ fn ended<R: Eprint>(rt: &R, audited: Option<Result<Audited, Failure>>) -> Result
     }
 }
 
-// What is said of the journal that a script brings; none of what isn't answered yet.
-fn said<I: Read, W: Write>(
-    alloc: Global,
-    asked: &Inquiry<'_>,
-    reader: &mut I,
-    writer: &mut W,
-) -> Option<Result<Audited, Failure>> {
-    let filter = filter_of(asked);
-    match asked.question {
-        Question::Refusals => Some(refusals(alloc, reader, writer, filter)),
-        Question::Waits => Some(waits(alloc, reader, writer, filter)),
-        Question::Access if asked.list.is_some() => None,
-        Question::Access | Question::Who => Some(rights(alloc, reader, writer, filter)),
-        Question::State => Some(state(alloc, reader, writer, entry_of(asked))),
-        _ => None,
+// The list that is given; `whatif` always is given one.
+fn or_empty(alloc: Global, list: Option<AccessList>) -> AccessList {
+    match list {
+        Some(list) => list,
+        None => AccessList::new(alloc),
     }
 }
 
-// What is said of the journal that a reader of its own gives; none of what isn't answered yet.
+// What is said of the journal that a script brings.
+fn said<I: Read, W: Write>(
+    alloc: Global,
+    asked: &Inquiry<'_>,
+    list: Option<AccessList>,
+    reader: &mut I,
+    writer: &mut W,
+) -> Result<Audited, Failure> {
+    let filter = filter_of(asked);
+    match asked.question {
+        Question::Refusals => refusals(alloc, reader, writer, filter),
+        Question::Waits => waits(alloc, reader, writer, filter),
+        Question::Access | Question::Who => rights(alloc, reader, writer, filter, list),
+        Question::Hits => hits(alloc, reader, writer, filter),
+        Question::WhatIf => what_if(alloc, reader, writer, filter, or_empty(alloc, list)),
+        Question::State => state(alloc, reader, writer, entry_of(asked)),
+    }
+}
+
+// What is said of the journal that a reader of its own gives.
 fn said_of_file<I: Read, J: Read, W: Write>(
     alloc: Global,
     asked: &Inquiry<'_>,
+    list: Option<AccessList>,
     reader: &mut I,
     journal: &mut J,
     writer: &mut W,
-) -> Option<Result<Audited, Failure>> {
+) -> Result<Audited, Failure> {
     let filter = filter_of(asked);
     let torn = asked.takes_torn;
     let watch = &mut Nobody {};
     match asked.question {
-        Question::Refusals => {
-            Some(refusals_file(alloc, reader, journal, torn, watch, writer, filter))
-        }
-        Question::Waits => Some(waits_file(alloc, reader, journal, torn, watch, writer, filter)),
-        Question::Access if asked.list.is_some() => None,
+        Question::Refusals => refusals_file(alloc, reader, journal, torn, watch, writer, filter),
+        Question::Waits => waits_file(alloc, reader, journal, torn, watch, writer, filter),
         Question::Access | Question::Who => {
-            Some(rights_file(alloc, reader, journal, torn, watch, writer, filter))
+            rights_file(alloc, reader, journal, torn, watch, writer, filter, list)
         }
+        Question::Hits => hits_file(alloc, reader, journal, torn, watch, writer, filter),
+        Question::WhatIf => what_if_file(
+            alloc,
+            reader,
+            journal,
+            torn,
+            watch,
+            writer,
+            filter,
+            or_empty(alloc, list),
+        ),
         Question::State => {
             let entry = entry_of(asked);
-            Some(state_file(alloc, reader, journal, torn, watch, writer, entry))
+            state_file(alloc, reader, journal, torn, watch, writer, entry)
         }
-        _ => None,
     }
 }
 
@@ -116,6 +131,7 @@ fn answer_of_file<R: Files + Eprint, I: Read, W: Write>(
     alloc: Global,
     name: &str,
     asked: &Inquiry<'_>,
+    list: Option<AccessList>,
     reader: &mut I,
     writer: &mut W,
 ) -> Result<(), Stop> {
@@ -126,7 +142,10 @@ fn answer_of_file<R: Files + Eprint, I: Read, W: Write>(
             return Err(Stop::BadFile);
         }
     };
-    ended(rt, said_of_file(alloc, asked, reader, &mut journal, writer))
+    ended(
+        rt,
+        said_of_file(alloc, asked, list, reader, &mut journal, writer),
+    )
 }
 
 // Answers what is asked of a journal.
@@ -137,9 +156,13 @@ fn answer_into<R: Files + Eprint, I: Read, W: Write>(
     reader: &mut I,
     writer: &mut W,
 ) -> Result<(), Stop> {
+    let list = match asked.list {
+        Some(name) => Some(list_of(rt, alloc, name)?),
+        None => None,
+    };
     match asked.journal {
-        Some(name) => answer_of_file(rt, alloc, name, asked, reader, writer),
-        None => ended(rt, said(alloc, asked, reader, writer)),
+        Some(name) => answer_of_file(rt, alloc, name, asked, list, reader, writer),
+        None => ended(rt, said(alloc, asked, list, reader, writer)),
     }
 }
 

@@ -3,11 +3,9 @@
 ghost use Rattle.std.specs.Prelude.{◌≡◌, false, IfOk, IsOkAnd};
 ghost use Rattle.clap.specs.Words.{app_of, with_subcommand};
 ghost use Rattle.clap.specs.declared.builder.command.Command.TheViews.{out-Command as fields_of};
-ghost use Rattle.rv_inquiry.specs.Inquiries.{alone, of_entries, of_lines, of_one, of_rights, program};
+ghost use Rattle.rv_inquiry.specs.Inquiries.{alone, of_entries, of_lines, of_rights, program};
 
-use crate::subcommands::{
-    access, explain, export, hits, refusals, state, timeline, waits, what_if, who,
-};
+use crate::subcommands::{access, hits, refusals, state, waits, what_if, who};
 use clap::Command;
 use std::alloc::{AllocError, Global};
 
@@ -56,20 +54,11 @@ fn of_rights<'a>(alloc: Global) -> Result<Command<'a>, AllocError>
     with_added(command, who(alloc))
 }
 
-// And with those of one entry.
-fn of_one<'a>(alloc: Global) -> Result<Command<'a>, AllocError>
-    ensures { IfOk result (λ c. app_of c ≡ of_one) }
-{
-    let command = of_rights(alloc)?;
-    let command = with_added(command, state(alloc))?;
-    with_added(command, explain(alloc))
-}
-
 // And with those of lines and lists.
 fn of_lines<'a>(alloc: Global) -> Result<Command<'a>, AllocError>
     ensures { IfOk result (λ c. app_of c ≡ of_lines) }
 {
-    let command = of_one(alloc)?;
+    let command = of_rights(alloc)?;
     let command = with_added(command, hits(alloc))?;
     with_added(command, what_if(alloc))
 }
@@ -79,6 +68,5 @@ pub fn command<'a>(alloc: Global) -> Result<Command<'a>, AllocError>
     ensures { IfOk result (λ c. app_of c ≡ program) }
 {
     let command = of_lines(alloc)?;
-    let command = with_added(command, export(alloc))?;
-    with_added(command, timeline(alloc))
+    with_added(command, state(alloc))
 }

@@ -27,16 +27,10 @@ pub enum Question {
     Who,
     /// What stands behind an entry.
     State,
-    /// Why an entry was answered as it was.
-    Explain,
     /// How often each line of the lists decided.
     Hits,
     /// What another list would have decided otherwise.
     WhatIf,
-    /// Each entry, with what follows from it, as JSON.
-    Export,
-    /// When what happened, as a picture.
-    Timeline,
 }
 
 /// What the words of a command line ask.
@@ -54,16 +48,10 @@ pub struct Inquiry<'a> {
     pub by: Option<&'a str>,
     /// Of what entries are asked for, where that is given.
     pub of: Option<&'a str>,
-    /// The number of the entry that is asked about: always given with `state` and `explain`, and with no other.
+    /// The number of the entry that is asked about: always given with `state`, and with no other.
     pub entry: Option<u64>,
     /// The name of the file that holds another list: always given with `whatif`; with `access` where the difference is asked for.
     pub list: Option<&'a str>,
-    /// The number of the first entry that a timeline shows, where that is given.
-    pub first: Option<u64>,
-    /// The number of the last entry that a timeline shows, where that is given.
-    pub last: Option<u64>,
-    /// Whether a timeline is an SVG picture, in place of text.
-    pub is_svg: bool,
 }
 
 /// Why the words of a command line ask nothing.
@@ -73,7 +61,7 @@ pub enum Unasked<'a> {
     Usage(Error),
     /// There is no subcommand of this name.
     Unknown,
-    /// A word or a flag is given wrongly: the first of `--torn`, `--since`, N, `--from`, `--to` and `--text`.
+    /// A word or a flag is given wrongly: the first of `--torn`, `--since` and N.
     Misused(Misuse<'a>),
     /// Memory was refused.
     NoMemory,

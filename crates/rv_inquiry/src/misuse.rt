@@ -9,10 +9,6 @@ pub enum Given {
     Since,
     /// The number of an entry.
     Entry,
-    /// The first entry of a timeline.
-    First,
-    /// The last entry of a timeline.
-    Last,
 }
 
 impl Given {
@@ -21,8 +17,6 @@ impl Given {
         match self {
             Given::Since => "--since <WHEN>",
             Given::Entry => "<N>",
-            Given::First => "--from <N>",
-            Given::Last => "--to <N>",
         }
     }
 
@@ -30,7 +24,7 @@ impl Given {
     fn takes(self) -> &'static str {
         match self {
             Given::Since => "entry:N or tick:N",
-            Given::Entry | Given::First | Given::Last => "the number of an entry",
+            Given::Entry => "the number of an entry",
         }
     }
 }
@@ -42,8 +36,6 @@ pub enum Misuse<'a> {
     Word(Given, &'a str),
     /// `--torn` stands without `--journal`.
     TornAlone,
-    /// `--text` stands beside `--svg`.
-    TwoForms,
 }
 
 impl fmt::Display for Misuse<'_> {
@@ -56,7 +48,6 @@ impl fmt::Display for Misuse<'_> {
                 given.takes()
             ),
             Misuse::TornAlone => write!(f, "'--torn' needs '--journal <FILE>'"),
-            Misuse::TwoForms => write!(f, "the argument '--text' cannot be used with '--svg'"),
         }
     }
 }

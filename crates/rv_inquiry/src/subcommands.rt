@@ -3,11 +3,9 @@
 ghost use Rattle.std.specs.Prelude.{◌≡◌, false, codes, IfOk};
 ghost use Rattle.clap.specs.Words.{app_of};
 ghost use Rattle.clap.specs.declared.builder.command.Command.TheViews.{out-Command as fields_of};
-ghost use Rattle.rv_inquiry.specs.Inquiries.{access_app, entry_app, export_app, filtered_app, timeline_app, what_if_app, who_app};
+ghost use Rattle.rv_inquiry.specs.Inquiries.{access_app, entry_app, filtered_app, what_if_app, who_app};
 
-use crate::args::{
-    about_entry, about_list, against_list, drawn, filtered, named, over_journal, since, spanned,
-};
+use crate::args::{about_entry, about_list, against_list, filtered, named, over_journal, since};
 use clap::Command;
 use std::alloc::{AllocError, Global};
 
@@ -110,20 +108,6 @@ pub fn state<'a>(alloc: Global) -> Result<Command<'a>, AllocError>
     )
 }
 
-/// The subcommand `explain`.
-pub fn explain<'a>(alloc: Global) -> Result<Command<'a>, AllocError>
-    ensures app { IfOk result (λ c. app_of c ≡ entry_app (codes "explain")) }
-    ensures local { IfOk result (λ c. (fields_of c).has_globals ≡ false) }
-{
-    entry_question(
-        alloc,
-        "explain",
-        "Say why an entry was answered as it was, by which rule, line and section of the Ada standard",
-        "The number of the entry; the first is 1",
-        "Example: ravenhost explain 17 --journal JOURNAL < UNITS",
-    )
-}
-
 /// The subcommand `hits`.
 pub fn hits<'a>(alloc: Global) -> Result<Command<'a>, AllocError>
     ensures app { IfOk result (λ c. app_of c ≡ filtered_app (codes "hits")) }
@@ -149,31 +133,4 @@ pub fn what_if<'a>(alloc: Global) -> Result<Command<'a>, AllocError>
         "Example: ravenhost whatif LIST --journal JOURNAL < UNITS",
     )?;
     about_list(alloc, command)
-}
-
-/// The subcommand `export`.
-pub fn export<'a>(alloc: Global) -> Result<Command<'a>, AllocError>
-    ensures app { IfOk result (λ c. app_of c ≡ export_app) }
-    ensures local { IfOk result (λ c. (fields_of c).has_globals ≡ false) }
-{
-    let command = Command::new(alloc, "export")
-        .about("Write each entry as a line of JSON, with what follows from it")
-        .after_help("Example: ravenhost export --journal JOURNAL < UNITS | jq .caller");
-    over_journal(alloc, command)
-}
-
-/// The subcommand `timeline`.
-pub fn timeline<'a>(alloc: Global) -> Result<Command<'a>, AllocError>
-    ensures app { IfOk result (λ c. app_of c ≡ timeline_app) }
-    ensures local { IfOk result (λ c. (fields_of c).has_globals ≡ false) }
-{
-    let command = Command::new(alloc, "timeline")
-        .about("Show who held, waited and delayed when")
-        .after_help(
-            "Example: ravenhost timeline --svg --from 10 --to 90 --journal JOURNAL < UNITS",
-        );
-    let command = over_journal(alloc, command)?;
-    let command = filtered(alloc, command)?;
-    let command = spanned(alloc, command)?;
-    drawn(alloc, command)
 }

@@ -5,6 +5,8 @@
 //! can't be read twice, and a file may change between two reads.
 #![tactic(auto)]
 
+mod changed;
+mod decided;
 mod granted;
 mod refused;
 mod review;
@@ -12,6 +14,8 @@ mod reviewing;
 mod stated;
 mod waited;
 
+pub use changed::{what_if, what_if_file};
+pub use decided::{hits, hits_file};
 pub use granted::{rights, rights_file};
 pub use refused::{refusals, refusals_file};
 pub use rv_audit::observer::{Nobody, Watch};
