@@ -94,9 +94,8 @@ OF_PROGRAM = [
     ("{} audit --journal x-one.journal --", ALL, "{} audit --journal x-one.journal --color --explain --torn"),
 ]
 OF_LAUNCHER = [
-    ("{} ", ALL, "{} access audit check explain export help hits manual new play refusals run send state timeline waits whatif who"),
+    ("{} ", ALL, "{} access audit check help hits manual new play refusals run send state waits whatif who"),
     ("{} whatif z", ONE, "{} whatif z.raven "),
-    ("{} timeline --sv", ONE, "{} timeline --svg "),
     ("{} access --against z", ONE, "{} access --against z.raven "),
     ("{} play --", ALL, "{} play --all --color --explain --help --host --list --notes --shape --unit --warnings-are-errors "),
     ("{} play --all --", ALL, "{} play --all --color --explain --host --list --notes --shape --unit --warnings-are-errors "),

@@ -1,6 +1,6 @@
 #!/usr/bin/env bash
-# Has a built ravenreview say which entries of the examples' journals were refused, who waited and who may call
-# what, and compares that with bench/review:
+# Has a built ravenreview say which entries of the examples' journals were refused, who waited, who may call what, how often lines
+# decided, and what another list would have decided and when what happened, and compares that with bench/review:
 #   bench/review.sh RAVENREVIEW RAVENHOST
 # Each example is played by RAVENHOST; its units, and what sets up its host, are given to RAVENREVIEW beside the journal, once in a file
 # and once in a section. Then come filters, a journal that isn't legal, and each status. Ends with 1 where anything differs.
@@ -41,7 +41,7 @@ play() {
 
 for script in "$here"/examples/*.raven; do
     name=$(basename "$script" .raven)
-    for asked in refusals waits access; do
+    for asked in refusals waits access hits; do
         case $asked in refusals) said=$name ;; *) said=${asked}_$name ;; esac
         [ -f "$here/bench/review/$said" ] || continue
         play "$script"
@@ -60,6 +60,17 @@ expect 0 waits_of --of plant.ready --journal "$work/journal" <"$work/units"
 sed 's/accepted 0$/accepted 1/' "$work/journal" >"$work/wrong"
 expect 1 waits_not_legal --journal "$work/wrong" <"$work/units"
 
+# What stands behind an entry, and that there is none of a greater number.
+asked=state
+for number in 0 7 17 26; do
+    expect 0 "state_$number" "$number" --journal "$work/journal" <"$work/units"
+    expect 0 "state_$number" "$number" <"$work/whole"
+done
+expect 2 nothing 27 --journal "$work/journal" <"$work/units"
+expect 2 nothing --journal "$work/journal" <"$work/units"
+expect 2 nothing ten --journal "$work/journal" <"$work/units"
+expect 1 waits_not_legal 7 --journal "$work/wrong" <"$work/units"
+
 play "$here/bench/review/granting.raven"
 asked=access
 expect 0 access --journal "$work/journal" <"$work/units"
@@ -67,8 +78,31 @@ expect 0 access <"$work/whole"
 expect 0 access_by --by interrupts --journal "$work/journal" <"$work/units"
 expect 0 access_of --by nav --of plant.ready.set_true --journal "$work/journal" <"$work/units"
 expect 2 nothing --since tick:1 --journal "$work/journal" <"$work/units"
+expect 0 against --against "$here/bench/review/stricter.list" --journal "$work/journal" <"$work/units"
+expect 0 against --against "$here/bench/review/stricter.list" <"$work/whole"
+expect 0 against_of --of Plant.Valve.Set --against "$here/bench/review/stricter.list" --journal "$work/journal" <"$work/units"
+expect 0 no_difference --against "$here/bench/review/granting.list" --journal "$work/journal" <"$work/units"
+expect 0 no_difference --of Plant.Ready --against "$here/bench/review/stricter.list" --journal "$work/journal" <"$work/units"
 asked="who"
 expect 0 who plant.valve.set --journal "$work/journal" <"$work/units"
+
+play "$here/examples/window.raven"
+asked=whatif
+expect 0 whatif_window "$here/bench/review/stricter.list" --journal "$work/journal" <"$work/units"
+play "$here/examples/queue_of_two.raven"
+expect 0 whatif_queue_of_two "$here/bench/review/stricter.list" --journal "$work/journal" <"$work/units"
+expect 0 whatif_queue_of_two "$here/bench/review/stricter.list" <"$work/whole"
+expect 0 whatif_by --by nav.pilot "$here/bench/review/stricter.list" --journal "$work/journal" <"$work/units"
+expect 0 whatif_nothing "$here/bench/review/same.list" --since tick:1 --journal "$work/journal" <"$work/units"
+expect 1 nothing "$here/bench/review/waits" --journal "$work/journal" <"$work/units"
+expect 4 nothing "$work/none" --journal "$work/journal" <"$work/units"
+expect 2 nothing --journal "$work/journal" <"$work/units"
+asked=hits
+expect 0 hits_by_task --by nav.pilot --journal "$work/journal" <"$work/units"
+expect 0 hits_since_entry --since entry:9 --journal "$work/journal" <"$work/units"
+expect 0 hits_of_operation --of plant.valve.set --journal "$work/journal" <"$work/units"
+sed 's/refused 5 line 0/refused 4 line 0/' "$work/journal" >"$work/wrong"
+expect 1 not_legal --journal "$work/wrong" <"$work/units"
 asked=refusals
 
 script=$here/examples/queue_of_two.raven

@@ -36,15 +36,12 @@ _ravenhost_launcher_flags() {
         hits) echo "--journal --torn --since --by --of --script --host --shape --unit --list" ;;
         whatif) echo "--journal --torn --since --by --of --script --host --shape --unit --list" ;;
         state) echo "--journal --torn --script --host --shape --unit --list" ;;
-        explain) echo "--journal --torn --script --host --shape --unit --list" ;;
-        export) echo "--journal --torn --script --host --shape --unit --list" ;;
-        timeline) echo "--journal --torn --by --of --from --to --text --svg --script --host --shape --unit --list" ;;
     esac
 }
 
 # The subcommands that the launcher adds, and the commands of a run that one of them sends.
 _ravenhost_launcher_subcommands() {
-    echo "new send refusals waits access who hits whatif state explain export timeline"
+    echo "new send refusals waits access who hits whatif state"
 }
 _ravenhost_sent() {
     echo "append remove replace tick halt journal raise load quit"
@@ -88,8 +85,6 @@ _ravenhost_word() {
         access) echo "files" ;;
         hits) echo "files" ;;
         whatif) echo "files" ;;
-        export) echo "files" ;;
-        timeline) echo "files" ;;
     esac
 }
 

@@ -10,6 +10,9 @@ use std::alloc::Global;
 use std::rt::Env;
 use std::{env, io};
 
+// What follows behind what is wrong with a line, as `clap` has it.
+const HINT: &str = "\n\nFor more information, try '--help'.\n";
+
 // What is told of a line that asks nothing: the version on standard output, and usage or help on standard error.
 fn told<R: Print + Eprint>(rt: &R, error: &Error) -> Stop {
     if error.kind() == ErrorKind::DisplayVersion {
@@ -53,10 +56,12 @@ pub fn asked<'a, R: Print + Eprint>(
         Ok(inquiry) => Ok(inquiry),
         Err(Unasked::NoMemory) => Err(Stop::Failed(Failure::Memory)),
         Err(Unasked::Usage(e)) => Err(told(rt, &e)),
+        Err(Unasked::Misused(misuse)) => {
+            let _ = eprint!(rt; "error: {misuse}{HINT}");
+            Err(Stop::Usage)
+        }
         Err(Unasked::Unknown) => {
-            let _ = eprintln!(rt;
-                "ravenreview: no such command, another word than --since takes (entry:N or tick:N), or --torn without --journal; --help lists them"
-            );
+            let _ = eprint!(rt; "error: no such command{HINT}");
             Err(Stop::Usage)
         }
     }

@@ -2,6 +2,8 @@
 #![tactic(auto)]
 
 mod line;
+mod listing;
+mod one_entry;
 mod reviewing;
 mod status;
 

@@ -1,10 +1,14 @@
 //! The subcommands.
 
+use crate::listing::list_of;
+use crate::one_entry::tell;
 use crate::status::Stop;
+use rv_access::AccessList;
 use rv_fault::Failure;
 use rv_inquiry::inquiry::{From, Inquiry, Question};
 use rv_review::{
-    Audited, Filter, Nobody, Since, refusals, refusals_file, rights, rights_file, waits, waits_file,
+    Audited, Filter, Nobody, Since, hits, hits_file, refusals, refusals_file, rights, rights_file,
+    state, state_file, waits, waits_file, what_if, what_if_file,
 };
 use std::alloc::Global;
 use std::fs;
@@ -27,6 +31,11 @@ fn filter_of<'a>(asked: &Inquiry<'a>) -> Filter<'a> {
         by: asked.by,
         of: asked.of,
     }
+}
+
+// The number of the entry that is asked about.
+fn entry_of(asked: &Inquiry<'_>) -> usize {
+    asked.entry.unwrap_or(0) as usize
 }
 
 // Tells of the rest of a line that a crash cut off.
@@ -53,10 +62,19 @@ fn ended<R: Eprint>(rt: &R, audited: Result<Audited, Failure>) -> Result<(), Sto
     }
 }
 
+// The list that is given; `whatif` always is given one.
+fn or_empty(alloc: Global, list: Option<AccessList>) -> AccessList {
+    match list {
+        Some(list) => list,
+        None => AccessList::new(alloc),
+    }
+}
+
 // What is said of the journal that a script brings.
 fn said<I: Read, W: Write>(
     alloc: Global,
     asked: &Inquiry<'_>,
+    list: Option<AccessList>,
     reader: &mut I,
     writer: &mut W,
 ) -> Result<Audited, Failure> {
@@ -64,7 +82,10 @@ fn said<I: Read, W: Write>(
     match asked.question {
         Question::Refusals => refusals(alloc, reader, writer, filter),
         Question::Waits => waits(alloc, reader, writer, filter),
-        Question::Access | Question::Who => rights(alloc, reader, writer, filter),
+        Question::Access | Question::Who => rights(alloc, reader, writer, filter, list),
+        Question::Hits => hits(alloc, reader, writer, filter),
+        Question::WhatIf => what_if(alloc, reader, writer, filter, or_empty(alloc, list)),
+        Question::State => state(alloc, reader, writer, entry_of(asked)),
     }
 }
 
@@ -72,6 +93,7 @@ fn said<I: Read, W: Write>(
 fn said_of_file<I: Read, J: Read, W: Write>(
     alloc: Global,
     asked: &Inquiry<'_>,
+    list: Option<AccessList>,
     reader: &mut I,
     journal: &mut J,
     writer: &mut W,
@@ -83,7 +105,22 @@ fn said_of_file<I: Read, J: Read, W: Write>(
         Question::Refusals => refusals_file(alloc, reader, journal, torn, watch, writer, filter),
         Question::Waits => waits_file(alloc, reader, journal, torn, watch, writer, filter),
         Question::Access | Question::Who => {
-            rights_file(alloc, reader, journal, torn, watch, writer, filter)
+            rights_file(alloc, reader, journal, torn, watch, writer, filter, list)
+        }
+        Question::Hits => hits_file(alloc, reader, journal, torn, watch, writer, filter),
+        Question::WhatIf => what_if_file(
+            alloc,
+            reader,
+            journal,
+            torn,
+            watch,
+            writer,
+            filter,
+            or_empty(alloc, list),
+        ),
+        Question::State => {
+            let entry = entry_of(asked);
+            state_file(alloc, reader, journal, torn, watch, writer, entry)
         }
     }
 }
@@ -94,6 +131,7 @@ fn answer_of_file<R: Files + Eprint, I: Read, W: Write>(
     alloc: Global,
     name: &str,
     asked: &Inquiry<'_>,
+    list: Option<AccessList>,
     reader: &mut I,
     writer: &mut W,
 ) -> Result<(), Stop> {
@@ -104,10 +142,31 @@ fn answer_of_file<R: Files + Eprint, I: Read, W: Write>(
             return Err(Stop::BadFile);
         }
     };
-    ended(rt, said_of_file(alloc, asked, reader, &mut journal, writer))
+    ended(
+        rt,
+        said_of_file(alloc, asked, list, reader, &mut journal, writer),
+    )
 }
 
-/// Answers what is asked of a journal.
+// Answers what is asked of a journal.
+fn answer_into<R: Files + Eprint, I: Read, W: Write>(
+    rt: &R,
+    alloc: Global,
+    asked: &Inquiry<'_>,
+    reader: &mut I,
+    writer: &mut W,
+) -> Result<(), Stop> {
+    let list = match asked.list {
+        Some(name) => Some(list_of(rt, alloc, name)?),
+        None => None,
+    };
+    match asked.journal {
+        Some(name) => answer_of_file(rt, alloc, name, asked, list, reader, writer),
+        None => ended(rt, said(alloc, asked, list, reader, writer)),
+    }
+}
+
+/// Answers what is asked of a journal. That it has no entry of the number that is asked about is an error.
 pub fn answer<R: Files + Eprint, I: Read, W: Write>(
     rt: &R,
     alloc: Global,
@@ -115,8 +174,11 @@ pub fn answer<R: Files + Eprint, I: Read, W: Write>(
     reader: &mut I,
     writer: &mut W,
 ) -> Result<(), Stop> {
-    match asked.journal {
-        Some(name) => answer_of_file(rt, alloc, name, asked, reader, writer),
-        None => ended(rt, said(alloc, asked, reader, writer)),
+    if asked.entry.is_none() {
+        return answer_into(rt, alloc, asked, reader, writer);
     }
+    let mut said: Vec<u8> = Vec::new(alloc);
+    let outcome = answer_into(rt, alloc, asked, reader, &mut said);
+    tell(rt, writer, said.as_slice())?;
+    outcome
 }

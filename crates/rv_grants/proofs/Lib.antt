@@ -1,2 +1,3 @@
+pub mod Agreeing
 pub mod Between
 mod Changing

@@ -1,9 +1,12 @@
 //! Who is granted which call by an access list, by spans of ticks.
 #![tactic(auto)]
 
+mod differing;
+
 ghost use Rattle.std.specs.Prelude.{◌≡◌, ◌++◌, IfOk, OnOk, option_copied, string_bytes};
 ghost use Rattle.rv_grants.specs.Grants.{DecidesBetween, change, decided, decision_text, edges, ends, grants_from, grants_text, is_again, row};
 
+pub use differing::{Both, no_row_where_lists_agree, put_differences};
 use rv_access::{AccessList, Line, decide};
 use rv_spans::sorted;
 use std::alloc::{AllocError, Global};
@@ -42,7 +45,7 @@ impl<'a> Model for Asking<'a> {
 }
 
 // Puts the ticks at which the windows of lines begin and end behind others.
-fn put_ends(ticks: &mut Vec<u64>, lines: &[Line]) -> Result<(), AllocError>
+pub(crate) fn put_ends(ticks: &mut Vec<u64>, lines: &[Line]) -> Result<(), AllocError>
     ensures { OnOk result (ticks.new.items ≡ ticks.old.items ++ ends lines.now) }
 {
     let [line, lines @ ..] = lines else {
@@ -64,8 +67,8 @@ fn edges(alloc: Global, list: &AccessList) -> Result<Vec<u64>, AllocError>
     Ok(sorted(ticks))
 }
 
-// What a line decides, in words; without one the call is denied. Err where memory was refused.
-fn decision_text(alloc: Global, line: Option<&Line>) -> Result<String, AllocError>
+/// What a line decides, in words; without one the call is denied. Err where memory was refused.
+pub fn decision_text(alloc: Global, line: Option<&Line>) -> Result<String, AllocError>
     ensures { IfOk result (λ text. string_bytes text ≡ decision_text (option_copied line.entry)) }
 {
     let Some(line) = line else {
@@ -128,7 +131,7 @@ fn put_change(
 }
 
 // The line that decides a call at a tick.
-fn decided(list: &AccessList, asking: &Asking<'_>, tick: u64) -> usize
+pub(crate) fn decided(list: &AccessList, asking: &Asking<'_>, tick: u64) -> usize
     ensures { result ≡ decided list.now asking.now tick }
 {
     decide(

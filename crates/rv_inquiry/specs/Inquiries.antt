@@ -1,6 +1,6 @@
--- The command line of `ravenreview` (own): each subcommand may be given `--journal FILE` and, with it, `--torn`; `refusals` and `waits`
--- also `--since WHEN`, these two and `access` `--by CALLER` and `--of CALLED`, and `who` the word CALLED. What words come to is what
--- `clap` says of this command.
+-- The command line of `ravenreview` (own): each subcommand may be given `--journal FILE` and, with it, `--torn`; `refusals`, `waits`,
+-- `hits` and `whatif` also `--since WHEN`, these and `access` `--by CALLER` and `--of CALLED`, `who` the word CALLED, and `access`
+-- `--against LIST`. `state` must be given a number N, and `whatif` a LIST. What words come to is what `clap` says of this command.
 use Rattle.std.specs.Prelude.{◌≡◌, ℕ, Bool, true, false, ◌==◌, nat_lt, if◌then◌else◌, List, Option, Some, None, codes, option_map, length}
 use Rattle.std.specs.List.{after_first, before_first, position_or_len}
 use Rattle.std.specs.Borrow.{Bor}
@@ -28,6 +28,14 @@ value_rule name = record (new_rule name) { long = Some name; action = Some Set; 
 abbrev pub word_rule : Text → Rule
 word_rule name = record (new_rule name) { action = Some Set; value_names = 1 }
 
+-- one that must be given
+abbrev pub needed_rule : Text → Rule
+needed_rule name = record (word_rule name) { required = true }
+
+-- another list, by a flag of its own
+abbrev pub list_rule : Rule
+list_rule = record (value_rule (codes "list")) { long = Some (codes "against") }
+
 -- each may be given a file, and that its end was cut off
 abbrev pub with_journal : App → App
 with_journal app = with_rule (with_rule app (value_rule (codes "journal"))) (flag_rule (codes "torn"))
@@ -41,10 +49,17 @@ abbrev pub filtered_app : Text → App
 filtered_app name = with_filter (with_rule (with_journal (new_app name)) (value_rule (codes "since")))
 
 abbrev pub access_app : App
-access_app = with_filter (with_journal (new_app (codes "access")))
+access_app = with_rule (with_filter (with_journal (new_app (codes "access")))) list_rule
 
 abbrev pub who_app : App
 who_app = with_rule (with_journal (new_app (codes "who"))) (word_rule (codes "of"))
+
+-- of one entry its number
+abbrev pub entry_app : Text → App
+entry_app name = with_rule (with_journal (new_app name)) (needed_rule (codes "entry"))
+
+abbrev pub what_if_app : App
+what_if_app = with_rule (filtered_app (codes "whatif")) (needed_rule (codes "list"))
 
 -- the name by which each question is asked
 abbrev pub name_of : Question → Text
@@ -52,6 +67,9 @@ name_of Questions.Refusals = codes "refusals"
 name_of Questions.Waits = codes "waits"
 name_of Questions.Access = codes "access"
 name_of Questions.Who = codes "who"
+name_of Questions.State = codes "state"
+name_of Questions.Hits = codes "hits"
+name_of Questions.WhatIf = codes "whatif"
 
 -- the program, of which one subcommand must be named
 abbrev pub versioned : App
@@ -63,12 +81,19 @@ alone = on_top (λ s. record s { subcommand_required = true }) versioned
 abbrev pub of_entries : App
 of_entries = with_subcommand (with_subcommand alone (filtered_app (codes "refusals")).top) (filtered_app (codes "waits")).top
 
-abbrev pub program : App
-program = with_subcommand (with_subcommand of_entries access_app.top) who_app.top
+abbrev pub of_rights : App
+of_rights = with_subcommand (with_subcommand of_entries access_app.top) who_app.top
 
--- the text of a flag, as a flag
+abbrev pub of_lines : App
+of_lines = with_subcommand (with_subcommand of_rights (filtered_app (codes "hits")).top) what_if_app.top
+
+abbrev pub program : App
+program = with_subcommand of_lines (entry_app (codes "state")).top
+
+-- the text of a flag, as a flag; a subcommand without that flag has it not
 abbrev pub IsFlag : Option Text → Bool → Type 0
-IsFlag text flag = (text ≡ Some (codes "true") → flag ≡ true) × (text ≡ Some (codes "false") → flag ≡ false)
+IsFlag text flag =
+    (text ≡ None → flag ≡ false) × (text ≡ Some (codes "true") → flag ≡ true) × (text ≡ Some (codes "false") → flag ≡ false)
 
 -- since when, by the two parts of a word: `entry` or `tick`, and a number
 abbrev pub from_parts : Text → Option ℕ → Option From
@@ -93,6 +118,11 @@ abbrev pub from_of : Option Text → Option From
 from_of None = Some Froms.Start
 from_of (Some word) = from_word word
 
+-- the number of an entry, by the word that is given, if it is one
+abbrev pub number_of : Option Text → Option (Option ℕ)
+number_of None = Some None
+number_of (Some word) = option_map (λ (n : ℕ). Some n) (natural_of word)
+
 abbrev pub text_in : Option (Bor Text) → Option Text
 text_in word = option_map (λ (w : Bor Text). w.now) word
 
@@ -103,6 +133,8 @@ pub record IsGiven (rows : List Row) (asked : Inquiry) : Type 0 where
   pub since : from_of (first_of (codes "since") rows) ≡ Some asked.since
   pub by : text_in asked.by ≡ first_of (codes "by") rows
   pub of : text_in asked.of ≡ first_of (codes "of") rows
+  pub entry : number_of (first_of (codes "entry") rows) ≡ Some asked.entry
+  pub list : text_in asked.list ≡ first_of (codes "list") rows
 
 -- a subcommand with what it was given is asked
 abbrev pub IsInquiry : Text × List Row → Inquiry → Type 0

@@ -3,7 +3,7 @@
 ghost use Rattle.std.specs.Prelude.{◌≡◌, false, codes, IfOk};
 ghost use Rattle.clap.specs.Words.{app_of, rule_of, with_rule};
 ghost use Rattle.clap.specs.declared.builder.command.Command.TheViews.{out-Command as fields_of};
-ghost use Rattle.rv_inquiry.specs.Inquiries.{flag_rule, value_rule, with_journal, with_filter, word_rule};
+ghost use Rattle.rv_inquiry.specs.Inquiries.{flag_rule, list_rule, needed_rule, value_rule, with_journal, with_filter, word_rule};
 
 use clap::{Arg, ArgAction, Command};
 use std::alloc::{AllocError, Global};
@@ -39,6 +39,26 @@ fn word_arg<'a>(alloc: Global, name: &'a str, value: &'a str, help: &'a str) -> 
     Arg::new(alloc, name)
         .value_name(value)
         .help(help)
+        .action(ArgAction::Set)
+}
+
+// A word that is no flag and has to be given, by the name that help shows.
+fn needed_arg<'a>(alloc: Global, name: &'a str, value: &'a str, help: &'a str) -> Arg<'a>
+    ensures rule { rule_of result ≡ needed_rule name.now }
+    ensures local { result.global ≡ false }
+{
+    word_arg(alloc, name, value, help).required(true)
+}
+
+// The other list that an access list is compared with.
+fn list_arg<'a>(alloc: Global) -> Arg<'a>
+    ensures rule { rule_of result ≡ list_rule }
+    ensures local { result.global ≡ false }
+{
+    Arg::new(alloc, "list")
+        .long("against")
+        .value_name("LIST")
+        .help("Say what the list in this file would grant otherwise, and by which lines")
         .action(ArgAction::Set)
 }
 
@@ -111,4 +131,43 @@ pub fn named<'a>(alloc: Global, command: Command<'a>) -> Result<Command<'a>, All
         "The unit, Unit.Object or Unit.Object.Operation that is called; all of them, if left out",
     );
     command.arg(of)
+}
+
+/// A subcommand that is about the entry of a number.
+pub fn about_entry<'a>(
+    alloc: Global,
+    command: Command<'a>,
+    help: &'a str,
+) -> Result<Command<'a>, AllocError>
+    requires { (fields_of command).has_globals ≡ false }
+    ensures app { IfOk result (λ c. app_of c ≡ with_rule (app_of command.entry) (needed_rule (codes "entry"))) }
+    ensures local { IfOk result (λ c. (fields_of c).has_globals ≡ false) }
+{
+    let entry = needed_arg(alloc, "entry", "N", help);
+    command.arg(entry)
+}
+
+/// A subcommand that is about another list.
+pub fn about_list<'a>(alloc: Global, command: Command<'a>) -> Result<Command<'a>, AllocError>
+    requires { (fields_of command).has_globals ≡ false }
+    ensures app { IfOk result (λ c. app_of c ≡ with_rule (app_of command.entry) (needed_rule (codes "list"))) }
+    ensures local { IfOk result (λ c. (fields_of c).has_globals ≡ false) }
+{
+    let list = needed_arg(
+        alloc,
+        "list",
+        "LIST",
+        "The file of the list that stands in for each list of the journal",
+    );
+    command.arg(list)
+}
+
+/// A subcommand that may compare with another list.
+pub fn against_list<'a>(alloc: Global, command: Command<'a>) -> Result<Command<'a>, AllocError>
+    requires { (fields_of command).has_globals ≡ false }
+    ensures app { IfOk result (λ c. app_of c ≡ with_rule (app_of command.entry) list_rule) }
+    ensures local { IfOk result (λ c. (fields_of c).has_globals ≡ false) }
+{
+    let list = list_arg(alloc);
+    command.arg(list)
 }

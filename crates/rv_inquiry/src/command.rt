@@ -1,84 +1,16 @@
 //! The command line that the program takes.
 
-ghost use Rattle.std.specs.Prelude.{◌≡◌, false, codes, IfOk, IsOkAnd};
+ghost use Rattle.std.specs.Prelude.{◌≡◌, false, IfOk, IsOkAnd};
 ghost use Rattle.clap.specs.Words.{app_of, with_subcommand};
 ghost use Rattle.clap.specs.declared.builder.command.Command.TheViews.{out-Command as fields_of};
-ghost use Rattle.rv_inquiry.specs.Inquiries.{access_app, alone, filtered_app, of_entries, program, who_app};
+ghost use Rattle.rv_inquiry.specs.Inquiries.{alone, of_entries, of_lines, of_rights, program};
 
-use crate::args::{filtered, named, over_journal, since};
+use crate::subcommands::{access, hits, refusals, state, waits, what_if, who};
 use clap::Command;
 use std::alloc::{AllocError, Global};
 
 /// The version of the program, which is that of `ravenhost`.
 pub const VERSION: &str = "1.0.0";
-
-// A subcommand of this name, which may be told which entries are asked for.
-fn filtered_question<'a>(
-    alloc: Global,
-    name: &'a str,
-    about: &'a str,
-    example: &'a str,
-) -> Result<Command<'a>, AllocError>
-    ensures app { IfOk result (λ c. app_of c ≡ filtered_app name.now) }
-    ensures local { IfOk result (λ c. (fields_of c).has_globals ≡ false) }
-{
-    let command = Command::new(alloc, name).about(about).after_help(example);
-    let command = over_journal(alloc, command)?;
-    let command = since(alloc, command)?;
-    filtered(alloc, command)
-}
-
-// The subcommand `refusals`.
-fn refusals<'a>(alloc: Global) -> Result<Command<'a>, AllocError>
-    ensures app { IfOk result (λ c. app_of c ≡ filtered_app (codes "refusals")) }
-    ensures local { IfOk result (λ c. (fields_of c).has_globals ≡ false) }
-{
-    filtered_question(
-        alloc,
-        "refusals",
-        "Say which entries were refused, by which rule and which line of the list",
-        "Example: ravenhost refusals --journal JOURNAL --of Store.Tank < UNITS",
-    )
-}
-
-// The subcommand `waits`.
-fn waits<'a>(alloc: Global) -> Result<Command<'a>, AllocError>
-    ensures app { IfOk result (λ c. app_of c ≡ filtered_app (codes "waits")) }
-    ensures local { IfOk result (λ c. (fields_of c).has_globals ≡ false) }
-{
-    filtered_question(
-        alloc,
-        "waits",
-        "Say who waited in queues and on suspension objects and for how long, and how long objects were held",
-        "Example: ravenhost waits --journal JOURNAL --by Store.Pump < UNITS",
-    )
-}
-
-// The subcommand `access`.
-fn access<'a>(alloc: Global) -> Result<Command<'a>, AllocError>
-    ensures app { IfOk result (λ c. app_of c ≡ access_app) }
-    ensures local { IfOk result (λ c. (fields_of c).has_globals ≡ false) }
-{
-    let command = Command::new(alloc, "access")
-        .about(
-            "Say who may call what by the last list of a journal, from which tick on, and by which line",
-        )
-        .after_help("Example: ravenhost access --journal JOURNAL --by Store < UNITS");
-    let command = over_journal(alloc, command)?;
-    filtered(alloc, command)
-}
-
-// The subcommand `who`.
-fn who<'a>(alloc: Global) -> Result<Command<'a>, AllocError>
-    ensures app { IfOk result (λ c. app_of c ≡ who_app) }
-    ensures local { IfOk result (λ c. (fields_of c).has_globals ≡ false) }
-{
-    let command = Command::new(alloc, "who")
-        .about("Say who may call a unit, an object or an operation, as access does")
-        .after_help("Example: ravenhost who Store.Tank.Fill --journal JOURNAL < UNITS");
-    let command = over_journal(alloc, command)?;
-    named(alloc, command)
-}
 
 // The program, of which no subcommand is named yet.
 fn program_alone<'a>(alloc: Global) -> Command<'a>
@@ -113,11 +45,28 @@ fn of_entries<'a>(alloc: Global) -> Result<Command<'a>, AllocError>
     with_added(command, waits(alloc))
 }
 
-/// The command line that the program takes.
-pub fn command<'a>(alloc: Global) -> Result<Command<'a>, AllocError>
-    ensures { IfOk result (λ c. app_of c ≡ program) }
+// And with those of who may call what.
+fn of_rights<'a>(alloc: Global) -> Result<Command<'a>, AllocError>
+    ensures { IfOk result (λ c. app_of c ≡ of_rights) }
 {
     let command = of_entries(alloc)?;
     let command = with_added(command, access(alloc))?;
     with_added(command, who(alloc))
+}
+
+// And with those of lines and lists.
+fn of_lines<'a>(alloc: Global) -> Result<Command<'a>, AllocError>
+    ensures { IfOk result (λ c. app_of c ≡ of_lines) }
+{
+    let command = of_rights(alloc)?;
+    let command = with_added(command, hits(alloc))?;
+    with_added(command, what_if(alloc))
+}
+
+/// The command line that the program takes.
+pub fn command<'a>(alloc: Global) -> Result<Command<'a>, AllocError>
+    ensures { IfOk result (λ c. app_of c ≡ program) }
+{
+    let command = of_lines(alloc)?;
+    with_added(command, state(alloc))
 }

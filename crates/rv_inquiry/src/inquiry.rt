@@ -1,5 +1,6 @@
 //! What a command line asks: the types.
 
+use crate::misuse::Misuse;
 use clap::Error;
 
 /// Since when entries are asked for.
@@ -20,10 +21,16 @@ pub enum Question {
     Refusals,
     /// Who waited, and for how long.
     Waits,
-    /// Who may call what.
+    /// Who may call what; with another list, where the two differ.
     Access,
     /// Who may call an operation, an object or a unit.
     Who,
+    /// What stands behind an entry.
+    State,
+    /// How often each line of the lists decided.
+    Hits,
+    /// What another list would have decided otherwise.
+    WhatIf,
 }
 
 /// What the words of a command line ask.
@@ -41,15 +48,21 @@ pub struct Inquiry<'a> {
     pub by: Option<&'a str>,
     /// Of what entries are asked for, where that is given.
     pub of: Option<&'a str>,
+    /// The number of the entry that is asked about: always given with `state`, and with no other.
+    pub entry: Option<u64>,
+    /// The name of the file that holds another list: always given with `whatif`; with `access` where the difference is asked for.
+    pub list: Option<&'a str>,
 }
 
 /// Why the words of a command line ask nothing.
 #[derive(Drop)]
-pub enum Unasked {
+pub enum Unasked<'a> {
     /// They are no command line, or ask for help, which this prints.
     Usage(Error),
-    /// There is no subcommand of this name, `--torn` stands without a file, or `--since` has another word than it takes.
+    /// There is no subcommand of this name.
     Unknown,
+    /// A word or a flag is given wrongly: the first of `--torn`, `--since` and N.
+    Misused(Misuse<'a>),
     /// Memory was refused.
     NoMemory,
 }

@@ -4,5 +4,7 @@
 mod args;
 mod command;
 pub mod inquiry;
+pub mod misuse;
 pub mod read;
+mod subcommands;
 mod values;

@@ -1,20 +1,21 @@
 //! What the words of a command line ask.
 
-ghost use Rattle.std.specs.Prelude.{◌≡◌, List, Some, IfSome, IfOk, map};
+ghost use Rattle.std.specs.Prelude.{◌≡◌, List, Some, IfSome, IfOk, codes, map};
 ghost use Rattle.clap.specs.Matches.{found_of};
-ghost use Rattle.clap.specs.Walk.{Row, Text, rows_of};
+ghost use Rattle.clap.specs.Walk.{Row, Text, one_of, rows_of};
 ghost use Rattle.clap.specs.Words.{subcommand_rows_of};
-ghost use Rattle.rv_inquiry.specs.Inquiries.{Asks, IsGiven, IsInquiry, name_of};
+ghost use Rattle.rv_inquiry.specs.Inquiries.{Asks, IsFlag, IsGiven, IsInquiry, name_of};
 
 use crate::command::command;
 use crate::inquiry::{Inquiry, Question, Unasked};
-use crate::values::from_of;
+use crate::misuse::{Given, Misuse};
+use crate::values::{given_number, given_since};
 use clap::ArgMatches;
 use clap::error::ErrorKind;
 use std::alloc::Global;
 
-// What the subcommand of a name asks, if there is one.
-fn question_of(name: &str) -> Option<Question>
+// What the subcommand of a name asks of entries, if it does.
+fn of_entries(name: &str) -> Option<Question>
     ensures { IfSome result (λ question. name.now ≡ name_of question) }
 {
     if name == "refusals" {
@@ -23,49 +24,83 @@ fn question_of(name: &str) -> Option<Question>
     if name == "waits" {
         return Some(Question::Waits);
     }
+    if name == "state" {
+        return Some(Question::State);
+    }
+    None
+}
+
+// What the subcommand of a name asks, if there is one.
+fn question_of(name: &str) -> Option<Question>
+    ensures { IfSome result (λ question. name.now ≡ name_of question) }
+{
     if name == "access" {
         return Some(Question::Access);
     }
     if name == "who" {
         return Some(Question::Who);
     }
-    None
+    if name == "hits" {
+        return Some(Question::Hits);
+    }
+    if name == "whatif" {
+        return Some(Question::WhatIf);
+    }
+    of_entries(name)
 }
 
-// What is asked by what a subcommand was given; none where a flag has no file, or `--since` has another word.
-fn asked_with<'a>(question: Question, words: &ArgMatches<'a>) -> Option<Inquiry<'a>>
-    ensures question { IfSome result (λ asked. asked.question ≡ question) }
-    ensures given { IfSome result (λ asked. IsGiven (rows_of (found_of words.now)) asked) }
+// Whether a last line was cut off, by what a subcommand was given.
+fn given_torn<'a>(words: &ArgMatches<'a>) -> Result<bool, Misuse<'a>>
+    ensures { IfOk result (λ torn. IsFlag (one_of (codes "torn") (rows_of (found_of words.now))) torn) }
 {
-    let journal = words.get_str("journal");
     let takes_torn = words.get_flag("torn");
-    if takes_torn && journal.is_none() {
-        return None;
+    if takes_torn && words.get_str("journal").is_none() {
+        return Err(Misuse::TornAlone);
     }
-    let Some(since) = from_of(words.get_str("since")) else {
-        return None;
-    };
-    Some(Inquiry {
+    Ok(takes_torn)
+}
+
+// What is asked by what a subcommand was given.
+fn asked_with<'a>(question: Question, words: &ArgMatches<'a>) -> Result<Inquiry<'a>, Misuse<'a>>
+    ensures question { IfOk result (λ asked. asked.question ≡ question) }
+    ensures given { IfOk result (λ asked. IsGiven (rows_of (found_of words.now)) asked) }
+{
+    let takes_torn = given_torn(words)?;
+    let since = given_since(words)?;
+    let entry = given_number(words, Given::Entry, "entry")?;
+    Ok(Inquiry {
         question,
-        journal,
+        journal: words.get_str("journal"),
         takes_torn,
         since,
         by: words.get_str("by"),
         of: words.get_str("of"),
+        entry,
+        list: words.get_str("list"),
     })
 }
 
 // What a command line that was read asks.
-fn inquiry_of<'a>(matches: &ArgMatches<'a>) -> Option<Inquiry<'a>>
-    ensures { IfSome result (λ asked. (found : Text × List Row) × (subcommand_rows_of matches.now ≡ Some found) × IsInquiry found asked) }
+fn inquiry_of<'a>(matches: &ArgMatches<'a>) -> Result<Inquiry<'a>, Unasked<'a>>
+    ensures { IfOk result (λ asked. (found : Text × List Row) × (subcommand_rows_of matches.now ≡ Some found) × IsInquiry found asked) }
 {
-    let (name, words) = matches.subcommand()?;
-    let question = question_of(name)?;
-    asked_with(question, words)
+    let Some((name, words)) = matches.subcommand() else {
+        return Err(Unasked::Unknown);
+    };
+    let Some(question) = question_of(name) else {
+        return Err(Unasked::Unknown);
+    };
+    match asked_with(question, words) {
+        Ok(inquiry) => Ok(inquiry),
+        Err(misuse) => Err(Unasked::Misused(misuse)),
+    }
 }
 
 /// What the words of a command line ask, the first of which is the program's name.
-pub fn inquiry<'a>(alloc: Global, words: &'a [&'a str]) -> Result<Inquiry<'a>, Unasked>
+///
+/// # Errors
+/// `Usage`, `Unknown` and `Misused` where the words ask nothing; `NoMemory` where memory was refused.
+pub fn inquiry<'a>(alloc: Global, words: &'a [&'a str]) -> Result<Inquiry<'a>, Unasked<'a>>
     ensures { IfOk result (λ asked. Asks (map (λ w. w.now) words.now) asked) }
 {
     let Ok(command) = command(alloc) else {
@@ -80,8 +115,5 @@ pub fn inquiry<'a>(alloc: Global, words: &'a [&'a str]) -> Result<Inquiry<'a>, U
             return Err(Unasked::Usage(e));
         }
     };
-    match inquiry_of(&matches) {
-        Some(inquiry) => Ok(inquiry),
-        None => Err(Unasked::Unknown),
-    }
+    inquiry_of(&matches)
 }

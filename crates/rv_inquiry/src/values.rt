@@ -1,9 +1,13 @@
 //! What the values of arguments say.
 
-ghost use Rattle.std.specs.Prelude.{◌≡◌, option_map};
-ghost use Rattle.rv_inquiry.specs.Inquiries.{from_of, from_parts};
+ghost use Rattle.std.specs.Prelude.{◌≡◌, Some, IfOk, codes, option_map};
+ghost use Rattle.clap.specs.Matches.{found_of};
+ghost use Rattle.clap.specs.Walk.{first_of, rows_of};
+ghost use Rattle.rv_inquiry.specs.Inquiries.{from_of, from_parts, number_of};
 
 use crate::inquiry::From;
+use crate::misuse::{Given, Misuse};
+use clap::ArgMatches;
 use rv_text::natural_of;
 
 // Since when entries are asked for, by the two parts of a word.
@@ -22,8 +26,8 @@ fn from_parts(kind: &str, number: Option<u64>) -> Option<From>
     None
 }
 
-/// Since when entries are asked for, by the word that was given; none for another word than `entry:N` or `tick:N`.
-pub fn from_of(word: Option<&str>) -> Option<From>
+// Since when entries are asked for, by the word that was given; none for another word than `entry:N` or `tick:N`.
+fn from_of(word: Option<&str>) -> Option<From>
     ensures { result ≡ from_of (option_map (λ w. w.now) word.entry) }
 {
     let Some(word) = word else {
@@ -33,4 +37,51 @@ pub fn from_of(word: Option<&str>) -> Option<From>
         Some((kind, number)) => from_parts(kind, natural_of(number)),
         None => None,
     }
+}
+
+// The number of an entry, by the word that was given; none for another word.
+fn number_of(word: Option<&str>) -> Option<Option<u64>>
+    ensures { result ≡ number_of (option_map (λ w. w.now) word.entry) }
+{
+    let Some(word) = word else {
+        return Some(None);
+    };
+    match natural_of(word) {
+        Some(number) => Some(Some(number)),
+        None => None,
+    }
+}
+
+// What a word says, where it says something; else what is wrong with it.
+fn said_by<'a, T: Drop>(
+    given: Given,
+    word: Option<&'a str>,
+    said: Option<T>,
+) -> Result<T, Misuse<'a>>
+    ensures { IfOk result (λ it. said ≡ Some it) }
+{
+    match said {
+        Some(it) => Ok(it),
+        None => Err(Misuse::Word(given, word.unwrap_or(""))),
+    }
+}
+
+/// Since when entries are asked for, by what a subcommand was given.
+pub fn given_since<'a>(words: &ArgMatches<'a>) -> Result<From, Misuse<'a>>
+    ensures { IfOk result (λ since. from_of (first_of (codes "since") (rows_of (found_of words.now))) ≡ Some since) }
+{
+    let word = words.get_str("since");
+    said_by(Given::Since, word, from_of(word))
+}
+
+/// The number of an entry, by what a subcommand was given under a name.
+pub fn given_number<'a>(
+    words: &ArgMatches<'a>,
+    given: Given,
+    name: &str,
+) -> Result<Option<u64>, Misuse<'a>>
+    ensures { IfOk result (λ number. number_of (first_of name.now (rows_of (found_of words.now))) ≡ Some number) }
+{
+    let word = words.get_str(name);
+    said_by(given, word, number_of(word))
 }

@@ -7,6 +7,7 @@ ghost use Rattle.rv_rights.specs.Rights.{rights_text};
 
 use crate::review::Review;
 use crate::reviewing::{review, review_file};
+use rv_access::AccessList;
 use rv_audit::observer::Watch;
 use rv_fault::Failure;
 use rv_refused::Filter;
@@ -19,7 +20,7 @@ use std::io::{Read, Write};
 impl<'f> Review for Rights<'f> {
     ghost use Rattle.rv_rights.specs.Rights.{rights_text};
 
-    ghost says = { λ begun h. rights_text begun.filter h };
+    ghost says = { λ begun h. rights_text begun.filter begun.other h };
 
     fn text(self, _alloc: Global, catalogue: &Catalogue) -> Result<String, AllocError> {
         self.into_text(catalogue)
@@ -28,7 +29,7 @@ impl<'f> Review for Rights<'f> {
 
 /// Judges the journal that a script brings in a section, without each carriage return that stands before a line feed. Where it is legal,
 /// the rows of who is granted which call by its last list are written, of the callers and calls that a filter takes, and nothing else;
-/// where it isn't, what an audit says.
+/// where it isn't, what an audit says. With another list the rows say where one of the two grants a call and the other doesn't.
 ///
 /// # Errors
 /// As `refusals`.
@@ -37,11 +38,12 @@ pub fn rights<R: Read, W: Write>(
     reader: &mut R,
     writer: &mut W,
     filter: Filter<'_>,
+    other: Option<AccessList>,
 ) -> Result<Audited, Failure>
     ensures { IfSome (R.remaining reader.old) (λ script.
-        AuditsScript true (ReviewsSection (rights_text filter.entry)) (W.contents writer.old) (W.contents writer.new) script result) }
+        AuditsScript true (ReviewsSection (rights_text filter.entry other)) (W.contents writer.old) (W.contents writer.new) script result) }
 {
-    let observer = Rights::new(alloc, filter);
+    let observer = Rights::new(alloc, filter, other);
     review(alloc, reader, writer, observer)
 }
 
@@ -57,10 +59,11 @@ pub fn rights_file<R: Read, J: Read, W: Write, H: Watch>(
     watch: &mut H,
     writer: &mut W,
     filter: Filter<'_>,
+    other: Option<AccessList>,
 ) -> Result<Audited, Failure>
     ensures { IfSome (R.remaining reader.old) (λ script.
-        AuditsScript false (ReviewsFile (rights_text filter.entry) (J.remaining journal.old) takes_torn) (W.contents writer.old) (W.contents writer.new) script result) }
+        AuditsScript false (ReviewsFile (rights_text filter.entry other) (J.remaining journal.old) takes_torn) (W.contents writer.old) (W.contents writer.new) script result) }
 {
-    let observer = Rights::new(alloc, filter);
+    let observer = Rights::new(alloc, filter, other);
     review_file(alloc, reader, journal, takes_torn, watch, writer, observer)
 }

@@ -5,15 +5,21 @@
 //! can't be read twice, and a file may change between two reads.
 #![tactic(auto)]
 
+mod changed;
+mod decided;
 mod granted;
 mod refused;
 mod review;
 mod reviewing;
+mod stated;
 mod waited;
 
+pub use changed::{what_if, what_if_file};
+pub use decided::{hits, hits_file};
 pub use granted::{rights, rights_file};
 pub use refused::{refusals, refusals_file};
 pub use rv_audit::observer::{Nobody, Watch};
 pub use rv_refused::{Filter, Since};
 pub use rv_verdict::Audited;
+pub use stated::{state, state_file};
 pub use waited::{waits, waits_file};

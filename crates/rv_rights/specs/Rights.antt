@@ -8,6 +8,7 @@ use Rattle.rv_shape.specs.Names.{operation_names}
 use Rattle.rv_shape.specs.Shape.{Shape}
 use Rattle.rv_history.specs.History.{History, force}
 use Rattle.rv_refused.specs.Filters.{FilterText, takes_of}
+use Rattle.rv_grants.specs.Differences.{differences_text}
 use Rattle.rv_grants.specs.Grants.{Call, grants_text}
 
 -- a call of a target by a unit, if there is such an operation
@@ -18,9 +19,14 @@ call_of caller (OnProtected site) =
 call_of caller (OnSuspension unit object operation) =
     Some (record { caller = caller; unit = unit; object = object; operation = suspension_operation_name operation })
 
-abbrev pub grants_of : List Words → Option Call → List ℕ
-grants_of list None = []
-grants_of list (Some call) = grants_text list call
+-- what a list grants of a call; with another list, where one of the two grants it and the other doesn't
+abbrev pub told_of : List Words → Option (List Words) → Call → List ℕ
+told_of list None call = grants_text list call
+told_of list (Some other) call = differences_text list other call
+
+abbrev pub grants_of : List Words → Option (List Words) → Option Call → List ℕ
+grants_of list other None = []
+grants_of list other (Some call) = told_of list other call
 
 -- without a word each unit is taken
 abbrev pub takes_unit : Option (List ℕ) → List ℕ → Bool
@@ -28,14 +34,14 @@ takes_unit None unit = true
 takes_unit (Some word) unit = is_same_name word unit
 
 -- what a unit is granted of a target, from which tick on
-abbrev pub rights_of : FilterText → List Words → Target → List ℕ → List ℕ
-rights_of filter list called caller = if takes_unit filter.by caller then grants_of list (call_of caller called) else []
+abbrev pub rights_of : FilterText → List Words → Option (List Words) → Target → List ℕ → List ℕ
+rights_of filter list other called caller = if takes_unit filter.by caller then grants_of list other (call_of caller called) else []
 
 -- what units are
-abbrev pub rights_of_units : FilterText → List Words → Target → List Shape → List ℕ
-rights_of_units filter list called [] = []
-rights_of_units filter list called (shape ∷ shapes) =
-    rights_of filter list called shape.name ++ rights_of_units filter list called shapes
+abbrev pub rights_of_units : FilterText → List Words → Option (List Words) → Target → List Shape → List ℕ
+rights_of_units filter list other called [] = []
+rights_of_units filter list other called (shape ∷ shapes) =
+    rights_of filter list other called shape.name ++ rights_of_units filter list other called shapes
 
 -- a handler, which a line may call (C.3)
 abbrev pub is_handled : Target → Bool
@@ -44,19 +50,19 @@ is_handled (OnProtected site) = is_handler site.operation.kind
 is_handled (OnSuspension unit object operation) = false
 
 -- and what the lines are
-abbrev pub rights_of_lines : FilterText → List Words → Target → List ℕ
-rights_of_lines filter list called = if is_handled called then rights_of filter list called (codes "Interrupts") else []
+abbrev pub rights_of_lines : FilterText → List Words → Option (List Words) → Target → List ℕ
+rights_of_lines filter list other called = if is_handled called then rights_of filter list other called (codes "Interrupts") else []
 
 -- what all are granted of an operation, if that is taken
-abbrev pub rights_at : FilterText → List Words → List Shape → Target → List ℕ
-rights_at filter list shapes called =
-    if takes_of filter.of called then rights_of_units filter list called shapes ++ rights_of_lines filter list called else []
+abbrev pub rights_at : FilterText → List Words → Option (List Words) → List Shape → Target → List ℕ
+rights_at filter list other shapes called =
+    if takes_of filter.of called then rights_of_units filter list other called shapes ++ rights_of_lines filter list other called else []
 
 -- of the first so many operations of an object
-abbrev pub rights_on : FilterText → List Words → List Shape → ℕ → ℕ → List ℕ
-rights_on filter list shapes object zero = []
-rights_on filter list shapes object (suc operation) =
-    rights_on filter list shapes object operation ++ rights_at filter list shapes (target shapes object (suc operation))
+abbrev pub rights_on : FilterText → List Words → Option (List Words) → List Shape → ℕ → ℕ → List ℕ
+rights_on filter list other shapes object zero = []
+rights_on filter list other shapes object (suc operation) =
+    rights_on filter list other shapes object operation ++ rights_at filter list other shapes (target shapes object (suc operation))
 
 -- how many an object has, if there is one
 abbrev pub operation_count : Option UnitObject → ℕ
@@ -64,12 +70,22 @@ operation_count None = 0
 operation_count (Some at) = length (operation_names at.object)
 
 -- of the first so many objects
-abbrev pub rights_below : FilterText → List Words → List Shape → ℕ → List ℕ
-rights_below filter list shapes zero = []
-rights_below filter list shapes (suc object) =
-    rights_below filter list shapes object
-    ++ rights_on filter list shapes (suc object) (operation_count (place shapes (suc object)))
+abbrev pub rights_below : FilterText → List Words → Option (List Words) → List Shape → ℕ → List ℕ
+rights_below filter list other shapes zero = []
+rights_below filter list other shapes (suc object) =
+    rights_below filter list other shapes object
+    ++ rights_on filter list other shapes (suc object) (operation_count (place shapes (suc object)))
 
--- of all, by the list in force behind a history and the units that it loaded
-abbrev pub rights_text : FilterText → History → List ℕ
-rights_text filter h = rights_below filter (force h) h.shapes (length (all_objects h.shapes))
+-- that there is no difference, where nothing is said
+abbrev pub or_no_text : List ℕ → List ℕ
+or_no_text [] = codes "no difference" ++ 10 ∷ []
+or_no_text (byte ∷ bytes) = byte ∷ bytes
+
+-- so of two lists
+abbrev pub or_no_difference : Option (List Words) → List ℕ → List ℕ
+or_no_difference None text = text
+or_no_difference (Some other) text = or_no_text text
+
+-- of all, by the list in force behind a history and the units that it loaded; with another list, by both
+abbrev pub rights_text : FilterText → Option (List Words) → History → List ℕ
+rights_text filter other h = or_no_difference other (rights_below filter (force h) other h.shapes (length (all_objects h.shapes)))

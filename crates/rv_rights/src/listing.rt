@@ -1,12 +1,12 @@
 //! The rows of a list over the units that are loaded.
 
-ghost use Rattle.std.specs.Prelude.{◌≡◌, ◌++◌, OnOk, codes, length, option_map, string_bytes, suc};
+ghost use Rattle.std.specs.Prelude.{◌≡◌, ◌++◌, OnOk, codes, length, option_copied, option_map, string_bytes, suc};
 ghost use Rattle.rv_shape.specs.Catalogue.{all_objects, place, target};
 ghost use Rattle.rv_shape.specs.Readers.{target_of};
-ghost use Rattle.rv_rights.specs.Rights.{call_of, grants_of, is_handled, operation_count, rights_at, rights_below, rights_of, rights_of_lines, rights_of_units, rights_on, takes_unit};
+ghost use Rattle.rv_rights.specs.Rights.{call_of, grants_of, is_handled, operation_count, rights_at, rights_below, rights_of, rights_of_lines, rights_of_units, rights_on, takes_unit, told_of};
 
 use rv_access::AccessList;
-use rv_grants::{Asking, put_grants};
+use rv_grants::{Asking, Both, put_differences, put_grants};
 use rv_refused::Filter;
 use rv_shape::actor::Callee;
 use rv_shape::catalogue::Catalogue;
@@ -25,22 +25,41 @@ fn takes_unit(by: Option<&str>, unit: &str) -> bool
     }
 }
 
-// Puts what a unit is granted of a target behind a text.
+// Puts what a list grants of a call behind a text; with another list, where one of the two grants it and the other doesn't.
+fn put_told(
+    alloc: Global,
+    text: &mut String,
+    list: &AccessList,
+    other: Option<&AccessList>,
+    asking: &Asking<'_>,
+) -> Result<(), AllocError>
+    ensures { OnOk result (string_bytes text.new ≡ string_bytes text.old ++ told_of list.now (option_copied other.entry) asking.now) }
+{
+    match other {
+        Some(other) => put_differences(alloc, text, Both { one: list, other }, asking),
+        None => put_grants(alloc, text, list, asking),
+    }
+}
+
+// The same of a call of a target by a unit, if there is such an operation.
 fn put_grants_of(
     alloc: Global,
     text: &mut String,
     list: &AccessList,
+    other: Option<&AccessList>,
     callee: &Callee<'_>,
     caller: &str,
 ) -> Result<(), AllocError>
-    ensures { OnOk result (string_bytes text.new ≡ string_bytes text.old ++ grants_of list.now (call_of caller.now (target_of callee.now))) }
+    ensures { OnOk result (string_bytes text.new ≡ string_bytes text.old
+        ++ grants_of list.now (option_copied other.entry) (call_of caller.now (target_of callee.now))) }
 {
     match *callee {
         Callee::Nowhere => Ok(()),
-        Callee::Protected(shape, object, operation) => put_grants(
+        Callee::Protected(shape, object, operation) => put_told(
             alloc,
             text,
             list,
+            other,
             &Asking {
                 caller,
                 unit: shape.name(),
@@ -50,10 +69,11 @@ fn put_grants_of(
         ),
         Callee::Suspension(shape, object, operation) => {
             let operation = format!(in alloc; "{operation}")?;
-            put_grants(
+            put_told(
                 alloc,
                 text,
                 list,
+                other,
                 &Asking {
                     caller,
                     unit: shape.name(),
@@ -71,13 +91,14 @@ fn put_rights_of(
     text: &mut String,
     filter: &Filter<'_>,
     list: &AccessList,
+    other: Option<&AccessList>,
     callee: &Callee<'_>,
     caller: &str,
 ) -> Result<(), AllocError>
-    ensures { OnOk result (string_bytes text.new ≡ string_bytes text.old ++ rights_of filter.now list.now (target_of callee.now) caller.now) }
+    ensures { OnOk result (string_bytes text.new ≡ string_bytes text.old ++ rights_of filter.now list.now (option_copied other.entry) (target_of callee.now) caller.now) }
 {
     if takes_unit(filter.by, caller) {
-        return put_grants_of(alloc, text, list, callee, caller);
+        return put_grants_of(alloc, text, list, other, callee, caller);
     }
     Ok(())
 }
@@ -88,16 +109,17 @@ fn put_rights_of_units(
     text: &mut String,
     filter: &Filter<'_>,
     list: &AccessList,
+    other: Option<&AccessList>,
     callee: &Callee<'_>,
     shapes: &[UnitShape],
 ) -> Result<(), AllocError>
-    ensures { OnOk result (string_bytes text.new ≡ string_bytes text.old ++ rights_of_units filter.now list.now (target_of callee.now) shapes.now) }
+    ensures { OnOk result (string_bytes text.new ≡ string_bytes text.old ++ rights_of_units filter.now list.now (option_copied other.entry) (target_of callee.now) shapes.now) }
 {
     let [shape, shapes @ ..] = shapes else {
         return Ok(());
     };
-    put_rights_of(alloc, text, filter, list, callee, shape.name())?;
-    put_rights_of_units(alloc, text, filter, list, callee, shapes)
+    put_rights_of(alloc, text, filter, list, other, callee, shape.name())?;
+    put_rights_of_units(alloc, text, filter, list, other, callee, shapes)
 }
 
 // Whether a target is a handler (C.3).
@@ -117,12 +139,13 @@ fn put_rights_of_lines(
     text: &mut String,
     filter: &Filter<'_>,
     list: &AccessList,
+    other: Option<&AccessList>,
     callee: &Callee<'_>,
 ) -> Result<(), AllocError>
-    ensures { OnOk result (string_bytes text.new ≡ string_bytes text.old ++ rights_of_lines filter.now list.now (target_of callee.now)) }
+    ensures { OnOk result (string_bytes text.new ≡ string_bytes text.old ++ rights_of_lines filter.now list.now (option_copied other.entry) (target_of callee.now)) }
 {
     if is_handled(callee) {
-        return put_rights_of(alloc, text, filter, list, callee, "Interrupts");
+        return put_rights_of(alloc, text, filter, list, other, callee, "Interrupts");
     }
     Ok(())
 }
@@ -133,16 +156,17 @@ fn put_rights_at(
     text: &mut String,
     filter: &Filter<'_>,
     list: &AccessList,
+    other: Option<&AccessList>,
     shapes: &[UnitShape],
     callee: &Callee<'_>,
 ) -> Result<(), AllocError>
-    ensures { OnOk result (string_bytes text.new ≡ string_bytes text.old ++ rights_at filter.now list.now shapes.now (target_of callee.now)) }
+    ensures { OnOk result (string_bytes text.new ≡ string_bytes text.old ++ rights_at filter.now list.now (option_copied other.entry) shapes.now (target_of callee.now)) }
 {
     if !filter.takes_of(alloc, callee)? {
         return Ok(());
     }
-    put_rights_of_units(alloc, text, filter, list, callee, shapes)?;
-    put_rights_of_lines(alloc, text, filter, list, callee)
+    put_rights_of_units(alloc, text, filter, list, other, callee, shapes)?;
+    put_rights_of_lines(alloc, text, filter, list, other, callee)
 }
 
 // How many operations an object has, if there is one of this number.
@@ -162,16 +186,17 @@ fn put_rights_on(
     text: &mut String,
     filter: &Filter<'_>,
     list: &AccessList,
+    other: Option<&AccessList>,
     catalogue: &Catalogue,
     object: usize,
 ) -> Result<(), AllocError>
     ensures { OnOk result (string_bytes text.new ≡ string_bytes text.old
-        ++ rights_on filter.now list.now catalogue.now object (operation_count (place catalogue.now object))) }
+        ++ rights_on filter.now list.now (option_copied other.entry) catalogue.now object (operation_count (place catalogue.now object))) }
 {
     let count = operation_count(catalogue, object);
     for operation in 0..count {
         let callee = catalogue.callee(object, operation + 1);
-        put_rights_at(alloc, text, filter, list, catalogue.shapes(), &callee)?;
+        put_rights_at(alloc, text, filter, list, other, catalogue.shapes(), &callee)?;
     }
     Ok(())
 }
@@ -182,14 +207,15 @@ pub fn put_rights(
     text: &mut String,
     filter: &Filter<'_>,
     list: &AccessList,
+    other: Option<&AccessList>,
     catalogue: &Catalogue,
 ) -> Result<(), AllocError>
     ensures { OnOk result (string_bytes text.new ≡ string_bytes text.old
-        ++ rights_below filter.now list.now catalogue.now (length (all_objects catalogue.now))) }
+        ++ rights_below filter.now list.now (option_copied other.entry) catalogue.now (length (all_objects catalogue.now))) }
 {
     let count = catalogue.objects();
     for object in 0..count {
-        put_rights_on(alloc, text, filter, list, catalogue, object + 1)?;
+        put_rights_on(alloc, text, filter, list, other, catalogue, object + 1)?;
     }
     Ok(())
 }

@@ -1,11 +1,16 @@
-use Rattle.std.proofs.Common.{List, ℕ, length, ap, ◌∙◌, ◌++◌}
-use Rattle.std.specs.Prelude.{string_bytes}
+use Rattle.std.proofs.Common.{◌≡◌, List, ℕ, Bool, Option, length, sym, ap, ◌∙◌, ◌++◌, if◌then◌else◌}
+use Rattle.std.proofs.lemmas.Result.{IfOk-weaker}
+use Rattle.std.specs.Prelude.{option_copied, string_bytes}
+use Rattle.rv_access.specs.Words.{Words}
 use Rattle.rv_shape.specs.Catalogue.{all_objects}
-use Rattle.rv_rights.specs.Rights.{rights_below}
+use Rattle.rv_rights.specs.Rights.{or_no_text, rights_below, rights_text}
 use Rattle.rv_rights.proofs.Keeping.{all_listed}
 use Rattle.rv_rights.proofs.rights.Rights.into_text.Goals as goal
 
 pub returns : goal.returns
-returns c = λ filter h names follows.
-    all_listed filter c.args.self h c.args.catalogue.now (string_bytes c.put_rights.new.text) names follows
-    (c.in_ok-put_rights.ensures ∙ ap (λ (bs : List ℕ). bs ++ rights_below c.args.self.filter c.args.self.list c.args.catalogue.now (length (all_objects c.args.catalogue.now))) c.new-text.ensures.bytes)
+returns c = λ filter other h names follows.
+    IfOk-weaker c.or_no_difference.result (λ said. string_bytes said ≡ (if c.is_some.result then or_no_text (string_bytes c.put_rights.new.text) else string_bytes c.put_rights.new.text)) (λ said. string_bytes said ≡ rights_text filter other h)
+    (λ said is. all_listed filter other c.args.self h c.args.catalogue.now (string_bytes c.put_rights.new.text) (string_bytes said) names follows
+    (c.in_ok-put_rights.ensures ∙ ap (λ (bs : List ℕ). bs ++ rights_below c.args.self.filter c.args.self.list (option_copied c.as_ref.result) c.args.catalogue.now (length (all_objects c.args.catalogue.now))) c.new-text.ensures.bytes
+    ∙ ap (λ (o : Option (List Words)). rights_below c.args.self.filter c.args.self.list o c.args.catalogue.now (length (all_objects c.args.catalogue.now))) c.as_ref.ensures.value)
+    (is ∙ ap (λ (b : Bool). if b then or_no_text (string_bytes c.put_rights.new.text) else string_bytes c.put_rights.new.text) c.is_some.ensures)) c.or_no_difference.ensures

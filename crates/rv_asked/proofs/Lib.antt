@@ -1,0 +1,4 @@
+mod Finding
+mod Unset
+pub mod Staying
+pub mod Timing

@@ -1,0 +1,53 @@
+//! Words and flags that are given wrongly.
+
+use std::fmt;
+
+/// What may be given wrongly.
+#[derive(Clone, Copy, Drop)]
+pub enum Given {
+    /// Since when entries are asked for.
+    Since,
+    /// The number of an entry.
+    Entry,
+}
+
+impl Given {
+    // How help shows it.
+    fn shown(self) -> &'static str {
+        match self {
+            Given::Since => "--since <WHEN>",
+            Given::Entry => "<N>",
+        }
+    }
+
+    // What it takes.
+    fn takes(self) -> &'static str {
+        match self {
+            Given::Since => "entry:N or tick:N",
+            Given::Entry => "the number of an entry",
+        }
+    }
+}
+
+/// What is wrong with a word or a flag. Shown as a sentence for whoever gave it.
+#[derive(Clone, Copy, Drop)]
+pub enum Misuse<'a> {
+    /// It is this word, which stands for nothing there.
+    Word(Given, &'a str),
+    /// `--torn` stands without `--journal`.
+    TornAlone,
+}
+
+impl fmt::Display for Misuse<'_> {
+    fn fmt<W: fmt::Write>(&self, f: &mut fmt::Formatter<W>) -> fmt::Result {
+        match self {
+            Misuse::Word(given, word) => write!(
+                f,
+                "invalid value '{word}' for '{}': {}",
+                given.shown(),
+                given.takes()
+            ),
+            Misuse::TornAlone => write!(f, "'--torn' needs '--journal <FILE>'"),
+        }
+    }
+}

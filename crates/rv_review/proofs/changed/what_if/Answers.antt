@@ -1,0 +1,14 @@
+use Rattle.std.proofs.Common.{List, subst}
+use Rattle.std.specs.Prelude.{IfSome, true}
+use Rattle.rv_access.specs.Words.{Words}
+use Rattle.rv_refused.specs.Filters.{FilterText}
+use Rattle.rv_whatif.specs.Changes.{whatif_text}
+use Rattle.rv_verdict.specs.Audits.{AuditsScript}
+use Rattle.rv_review.specs.Reviews.{ReviewsSection}
+use Rattle.rv_review.proofs.changed.what_if.Goals as goal
+
+pub returns : goal.returns
+returns g c =
+    subst (λ (list : List Words). IfSome (g.R.Read.remaining c.args.reader.now) (λ script. AuditsScript true (ReviewsSection (whatif_text c.args.filter list)) (g.W.Write.contents c.args.writer.now) (g.W.Write.contents c.review.new.writer) script c.review.result)) c.new-observer.ensures.list
+    (subst (λ (filter : FilterText). IfSome (g.R.Read.remaining c.args.reader.now) (λ script. AuditsScript true (ReviewsSection (whatif_text filter c.new-observer.result.list)) (g.W.Write.contents c.args.writer.now) (g.W.Write.contents c.review.new.writer) script c.review.result)) c.new-observer.ensures.filter
+    (c.review.ensures (λ limits units. c.new-observer.ensures.begins limits)))

@@ -1,0 +1,3 @@
+mod Counting
+mod Rowing
+pub mod Steps
