@@ -17,7 +17,8 @@ fn add_line(told: &mut String, line: Option<String>) -> Result<(), AllocError> {
 }
 
 // What is told of a journal in a file of its own.
-fn told_of_file(alloc: Global, text: &str, journal: &[u8]) -> Result<String, Failure> {
+fn told_of_file(alloc: Global, script: &[u8], journal: &[u8]) -> Result<String, Failure> {
+    let text = text_of(script)?;
     let (limits, given) = script_of(alloc, text, false)?;
     let mut told = String::new(alloc);
     let why = why_unread(alloc, limits, given.units(), journal)?;
@@ -28,10 +29,10 @@ fn told_of_file(alloc: Global, text: &str, journal: &[u8]) -> Result<String, Fai
 /// What is told of the journal that a script brings, or of the one in a file of its own, each on a line: why it is unreadable, and which
 /// sections were passed over.
 pub fn told_below(alloc: Global, script: &[u8], file: &Option<Vec<u8>>) -> Result<String, Failure> {
-    let text = text_of(script)?;
     if let Some(journal) = file {
-        return told_of_file(alloc, text, journal.as_slice());
+        return told_of_file(alloc, script, journal.as_slice());
     }
+    let text = text_of(script)?;
     let (limits, given) = script_of(alloc, text, true)?;
     let journal = unit_text(alloc, given.journal())?;
     let mut told = String::new(alloc);
