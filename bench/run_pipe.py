@@ -24,6 +24,7 @@ import time
 
 TOP = os.path.dirname(os.path.dirname(os.path.abspath(__file__)))
 LIMIT = 60  # the longest that an answer may take, in seconds
+NO_HANDLER = "warning: Int_3 has no handler\n"  # what is told before `raise 3` is answered `unattached`
 
 # A plant, and a task that makes a call at each tick until the call is denied: the units of a row of the gate.
 with open(os.path.join(TOP, "crates/thread_rows/data/right_taken_away_while_a_task_loops.run"), encoding="utf-8") as row:
@@ -686,7 +687,8 @@ def converse(console, name, note):
                             ("journal", pages[1]), ("journal", pages[2]), ("journal 3", pages[0].split("\n", 2)[2] + pages[1]),
                             ("journal", ""), ("frob", "bad command\n"), ("help me", "bad command\n"), ("List", "bad command\n"),
                             ("append allow x", "list BadWord at line 1\n"), ("remove 2", "accepted 0\n"),
-                            ("replace 1 allow Post Post.Gate Pass", "accepted 0\n"), ("raise 3", "unattached\n"), ("halt", "accepted 0\n")):
+                            ("replace 1 allow Post Post.Gate Pass", "accepted 0\n"), ("raise 3", (NO_HANDLER if note else "") + "unattached\n"),
+                            ("halt", "accepted 0\n")):
         expect(f"{name}: {command}", console.ask(command), f"{command}\n{answer}")
     status = console.ask("status")
     expect_that(f"{name}: status behind halt", status.startswith("status\nclock 7, halted\n") and "\nlist version 4, lines 1\n" in status, status)
@@ -822,7 +824,7 @@ ADVISED = (
     ("remove 2", "badline", "the list has 1 lines"), ("replace 7 allow a a.b c", "badline", "the list has 1 lines"),
     ("remove 0", "badline", "the list has 1 lines"), ("append allow x", "list BadWord at line 1", ""),
     ("raise 10", "bad command", "raise takes the number of a line, 0 to 9"), ("raise", "bad command", "raise takes the number of a line, 0 to 9"),
-    ("raise 3", "unattached", ""), ("journal 0", "bad command", "journal takes the number of an entry, from 1 on"),
+    ("raise 3", "unattached", NO_HANDLER), ("journal 0", "bad command", "journal takes the number of an entry, from 1 on"),
     ("journal", "bad command", "journal takes the number of an entry, from 1 on"),
     ("status", "bad command", "only run --console takes status"), ("list", "bad command", "only run --console takes list"),
     ("help me", "bad command", "only run --console takes help"), ("frob", "bad command", ""), ("", "bad command", ""), ("Status", "bad command", ""),
@@ -841,7 +843,8 @@ def advised(program):
     run = Run(program, script, ("--notes", "always"))
     for command, answer, note in ADVISED:
         expect(command, run.ask(command), answer)
-        expect(f"what is told of {command!r}", told_now(run), f"note: {note}\n" if note else "")
+        told = note if note in ("", NO_HANDLER) else f"note: {note}\n"
+        expect(f"what is told of {command!r}", told_now(run), told)
     run.end()
     for words in ((), ("--tick", "3600000"), ("--tick", "3600000", "--notes", "never")):
         run = Run(program, script, words)
