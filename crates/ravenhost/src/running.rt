@@ -174,14 +174,7 @@ where
     };
     let mut source = Listening { rt, feed, stop };
     let mut input = opened_input(alloc, given.bytes.as_slice())?;
-    let before = told_of(
-        rt,
-        alloc,
-        telling,
-        words.wants_run,
-        &mut source,
-        &mut input,
-    )?;
+    let before = told_of(rt, alloc, telling, words.wants_run, &mut source, &mut input)?;
     let mut follower = Follower::new(
         alloc,
         source,

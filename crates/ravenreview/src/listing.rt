@@ -5,9 +5,8 @@ use rv_access::{AccessList, ListFault, read_list};
 use rv_fault::Failure;
 use rv_script::{ReadError, TextError, read_script, text_of};
 use std::alloc::Global;
-use std::fmt;
-use std::fs;
 use std::rt::Files;
+use std::{fmt, fs};
 
 // Tells what stands against a file, which then ends the program so.
 fn told<R: Eprint, E: fmt::Display>(rt: &R, name: &str, error: &E, stop: Stop) -> Stop {

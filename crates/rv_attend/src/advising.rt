@@ -74,8 +74,9 @@ fn lines_of(bytes: &[u8]) -> usize {
 // Tells that the unit text behind a `load` lacks its end, so that it is thrown away.
 fn tell_endless<E: Write>(alloc: Global, behind: &[u8], errors: &mut E) {
     let lines = lines_of(behind);
-    if let Ok(text) = format!(in alloc; "note: no @end: {lines} lines of a unit are thrown away\n")
-    {
+    if let Ok(text) = format!(in alloc;
+        "note: no @end: {lines} lines of a unit are thrown away\n"
+    ) {
         let _ = say(errors, text.as_str());
     }
 }

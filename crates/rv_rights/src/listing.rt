@@ -196,7 +196,15 @@ fn put_rights_on(
     let count = operation_count(catalogue, object);
     for operation in 0..count {
         let callee = catalogue.callee(object, operation + 1);
-        put_rights_at(alloc, text, filter, list, other, catalogue.shapes(), &callee)?;
+        put_rights_at(
+            alloc,
+            text,
+            filter,
+            list,
+            other,
+            catalogue.shapes(),
+            &callee,
+        )?;
     }
     Ok(())
 }
