@@ -60,6 +60,24 @@ expect 0 waits_of --of plant.ready --journal "$work/journal" <"$work/units"
 sed 's/accepted 0$/accepted 1/' "$work/journal" >"$work/wrong"
 expect 1 waits_not_legal --journal "$work/wrong" <"$work/units"
 
+# What stands behind an entry, and why it was answered so: of each number there is one, and of the next none.
+asked=state
+for number in 0 7 17 26; do
+    expect 0 "state_$number" "$number" --journal "$work/journal" <"$work/units"
+    expect 0 "state_$number" "$number" <"$work/whole"
+done
+expect 2 nothing 27 --journal "$work/journal" <"$work/units"
+expect 2 nothing --journal "$work/journal" <"$work/units"
+expect 2 nothing ten --journal "$work/journal" <"$work/units"
+expect 1 waits_not_legal 7 --journal "$work/wrong" <"$work/units"
+asked=explain
+for number in 1 3 4 5 6 9 14 17 20 23 25; do
+    expect 0 "explain_$number" "$number" --journal "$work/journal" <"$work/units"
+    expect 0 "explain_$number" "$number" <"$work/whole"
+done
+expect 2 nothing 0 --journal "$work/journal" <"$work/units"
+expect 2 nothing 27 --journal "$work/journal" <"$work/units"
+
 play "$here/bench/review/granting.raven"
 asked=access
 expect 0 access --journal "$work/journal" <"$work/units"
@@ -69,6 +87,27 @@ expect 0 access_of --by nav --of plant.ready.set_true --journal "$work/journal" 
 expect 2 nothing --since tick:1 --journal "$work/journal" <"$work/units"
 asked="who"
 expect 0 who plant.valve.set --journal "$work/journal" <"$work/units"
+
+# Each rule by which an entry of the examples is refused, and each entry as a line of JSON, of which the journal's bytes can be made again.
+for script in "$here"/examples/*.raven "$here"/bench/review/*.raven; do
+    name=$(basename "$script" .raven)
+    play "$script"
+    asked=refusals
+    "$review" refusals --journal "$work/journal" <"$work/units" 2>/dev/null | sed 's/ .*//' >"$work/refused"
+    asked=explain
+    while read -r number; do
+        "$review" explain "$number" --journal "$work/journal" <"$work/units" || differs "explain $number of $name"
+    done <"$work/refused" >"$work/said"
+    [ ! -s "$work/refused" ] || cmp -s "$work/said" "$here/bench/review/explain_refused_$name" ||
+        differs "explain_refused_$name: $(diff "$work/said" "$here/bench/review/explain_refused_$name" | head -n 3)"
+    "$review" export --journal "$work/journal" <"$work/units" >"$work/lines" || differs "export of $name"
+    "$review" export <"$work/whole" | cmp -s - "$work/lines" || differs "export of $name in a section"
+    python3 "$here/bench/review/journal_of.py" <"$work/lines" | cmp -s - "$work/journal" ||
+        differs "export of $name: the journal can't be made of it again"
+done
+play "$here/bench/review/waiting.raven"
+asked=export
+expect 0 export --journal "$work/journal" <"$work/units"
 asked=refusals
 
 script=$here/examples/queue_of_two.raven

@@ -2,6 +2,7 @@
 #![tactic(auto)]
 
 mod line;
+mod one_entry;
 mod reviewing;
 mod status;
 

@@ -1,10 +1,12 @@
 //! The subcommands.
 
+use crate::one_entry::tell;
 use crate::status::Stop;
 use rv_fault::Failure;
 use rv_inquiry::inquiry::{From, Inquiry, Question};
 use rv_review::{
-    Audited, Filter, Nobody, Since, refusals, refusals_file, rights, rights_file, waits, waits_file,
+    Audited, Filter, Nobody, Since, explain, explain_file, export, export_file, refusals,
+    refusals_file, rights, rights_file, state, state_file, waits, waits_file,
 };
 use std::alloc::Global;
 use std::fs;
@@ -27,6 +29,11 @@ fn filter_of<'a>(asked: &Inquiry<'a>) -> Filter<'a> {
         by: asked.by,
         of: asked.of,
     }
+}
+
+// The number of the entry that is asked about.
+fn entry_of(asked: &Inquiry<'_>) -> usize {
+    asked.entry.unwrap_or(0) as usize
 }
 
 // Tells of the rest of a line that a crash cut off.
@@ -65,6 +72,10 @@ fn said<I: Read, W: Write>(
         Question::Refusals => refusals(alloc, reader, writer, filter),
         Question::Waits => waits(alloc, reader, writer, filter),
         Question::Access | Question::Who => rights(alloc, reader, writer, filter),
+        Question::State => state(alloc, reader, writer, entry_of(asked)),
+        Question::Explain => explain(alloc, reader, writer, entry_of(asked)),
+        Question::Export => export(alloc, reader, writer),
+        _ => rights(alloc, reader, writer, filter),
     }
 }
 
@@ -85,6 +96,16 @@ fn said_of_file<I: Read, J: Read, W: Write>(
         Question::Access | Question::Who => {
             rights_file(alloc, reader, journal, torn, watch, writer, filter)
         }
+        Question::State => {
+            let entry = entry_of(asked);
+            state_file(alloc, reader, journal, torn, watch, writer, entry)
+        }
+        Question::Explain => {
+            let entry = entry_of(asked);
+            explain_file(alloc, reader, journal, torn, watch, writer, entry)
+        }
+        Question::Export => export_file(alloc, reader, journal, torn, watch, writer),
+        _ => rights_file(alloc, reader, journal, torn, watch, writer, filter),
     }
 }
 
@@ -107,8 +128,8 @@ fn answer_of_file<R: Files + Eprint, I: Read, W: Write>(
     ended(rt, said_of_file(alloc, asked, reader, &mut journal, writer))
 }
 
-/// Answers what is asked of a journal.
-pub fn answer<R: Files + Eprint, I: Read, W: Write>(
+// Answers what is asked of a journal.
+fn answer_into<R: Files + Eprint, I: Read, W: Write>(
     rt: &R,
     alloc: Global,
     asked: &Inquiry<'_>,
@@ -119,4 +140,21 @@ pub fn answer<R: Files + Eprint, I: Read, W: Write>(
         Some(name) => answer_of_file(rt, alloc, name, asked, reader, writer),
         None => ended(rt, said(alloc, asked, reader, writer)),
     }
+}
+
+/// Answers what is asked of a journal. That it has no entry of the number that is asked about is an error.
+pub fn answer<R: Files + Eprint, I: Read, W: Write>(
+    rt: &R,
+    alloc: Global,
+    asked: &Inquiry<'_>,
+    reader: &mut I,
+    writer: &mut W,
+) -> Result<(), Stop> {
+    if asked.entry.is_none() {
+        return answer_into(rt, alloc, asked, reader, writer);
+    }
+    let mut said: Vec<u8> = Vec::new(alloc);
+    let outcome = answer_into(rt, alloc, asked, reader, &mut said);
+    tell(rt, writer, said.as_slice())?;
+    outcome
 }

@@ -21,17 +21,19 @@ pub enum Stop {
     BadFile,
     /// The journal isn't that of a legal history, which was said.
     NotLegal,
+    /// The journal has no entry of the number that is asked about, which was said.
+    NoEntry,
 }
 
-/// The status of the program: 0 an answer was given, 1 a refused script or a journal that isn't legal, 2 usage or help, 3 want of
-/// memory, 4 a failed read or write.
+/// The status of the program: 0 an answer was given, 1 a refused script or a journal that isn't legal, 2 usage, help or a number
+/// that no entry has, 3 want of memory, 4 a failed read or write.
 pub fn status_of(outcome: &Result<(), Stop>) -> u8
     ensures { result ≡ status_of outcome.now }
 {
     match outcome {
         Ok(()) | Err(Stop::Told) => 0,
         Err(Stop::Failed(Failure::Refused(_)) | Stop::NotLegal) => 1,
-        Err(Stop::Usage) => 2,
+        Err(Stop::Usage | Stop::NoEntry) => 2,
         Err(Stop::Failed(Failure::Memory)) => 3,
         Err(Stop::Failed(Failure::Io(_)) | Stop::BadFile) => 4,
     }

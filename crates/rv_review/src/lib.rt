@@ -9,6 +9,9 @@ mod granted;
 mod refused;
 mod review;
 mod reviewing;
+mod stated;
+mod telling;
+mod told;
 mod waited;
 
 pub use granted::{rights, rights_file};
@@ -16,4 +19,6 @@ pub use refused::{refusals, refusals_file};
 pub use rv_audit::observer::{Nobody, Watch};
 pub use rv_refused::{Filter, Since};
 pub use rv_verdict::Audited;
+pub use stated::{state, state_file};
+pub use told::{explain, explain_file, export, export_file};
 pub use waited::{waits, waits_file};

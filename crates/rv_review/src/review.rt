@@ -30,8 +30,8 @@ pub trait Review: Observer + Drop {
             IfOk result (λ text. string_bytes text ≡ says begun h) };
 }
 
-// Whether a verdict is that of a legal journal.
-fn is_legal(verdict: &Verdict) -> bool
+/// Whether a verdict is that of a legal journal.
+pub fn is_legal(verdict: &Verdict) -> bool
     ensures { result ≡ is_legal verdict.now }
 {
     match verdict {

@@ -22,7 +22,7 @@ use rv_lasting::calls::Calls;
 use rv_lasting::entries::{begun_by, delay_by, started_by, waiting_by, woken_by};
 use rv_lasting::lines::put_ended;
 use rv_lasting::rows::put_rows;
-use rv_lasting::track::Track;
+use rv_lasting::track::{Begun, Track};
 use rv_reading::deed::Deed;
 use rv_refused::Filter;
 use rv_shape::catalogue::Catalogue;
@@ -73,6 +73,20 @@ impl<'f> Waits<'f> {
             tick: 0,
             text: String::new(alloc),
         }
+    }
+
+    /// The bodies that began and haven't ended, the newest first (9.5.1).
+    pub fn bodies(&self) -> &[Begun]
+        ensures { result.now ≡ self.now.bodies.begun }
+    {
+        self.bodies.begun()
+    }
+
+    /// The delays that began and haven't ended, the newest first (9.6).
+    pub fn delays(&self) -> &[Begun]
+        ensures { result.now ≡ self.now.delays.begun }
+    {
+        self.delays.begun()
     }
 
     // Looks at what an entry of this number says of waits.

@@ -1,0 +1,7 @@
+use Rattle.std.proofs.Common.{◌≡◌, ◌++◌}
+use Rattle.std.specs.Prelude.{string_bytes}
+use Rattle.rv_state.specs.States.{queues_below}
+use Rattle.rv_state.proofs.waiters.put_queues.Given as goal
+
+abbrev pub invariant-loop-place : goal.invariant-loop-place
+invariant-loop-place l = string_bytes l.text ≡ string_bytes l.initial.text ++ queues_below l.host l.place

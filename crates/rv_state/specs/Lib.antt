@@ -1,0 +1,4 @@
+pub mod Behind
+pub mod Following
+pub mod Kept
+pub mod States
