@@ -13,10 +13,10 @@ _ravenhost_subcommands() {
 _ravenhost_flags() {
     case $1 in
         "") echo "-h --help -V --version" ;;
-        play) echo "--all --explain --notes --warnings-are-errors --color -h --help" ;;
-        check) echo "--explain --script --notes --warnings-are-errors --color -h --help" ;;
-        run) echo "--journal --sync --explain --halt-below --quota --tick --stop-by --console --notes --warnings-are-errors --color -h --help" ;;
-        audit) echo "--journal --torn --explain --color -h --help" ;;
+        play) echo "--all --explain --no-explain --notes --warnings-are-errors --color -h --help" ;;
+        check) echo "--explain --no-explain --script --notes --warnings-are-errors --color -h --help" ;;
+        run) echo "--journal --sync --explain --no-explain --halt-below --quota --tick --stop-by --console --end-status --sections-end --notes --warnings-are-errors --color -h --help" ;;
+        audit) echo "--journal --torn --explain --notes --color -h --help" ;;
         manual) echo "-h --help" ;;
     esac
 }
@@ -67,8 +67,6 @@ _ravenhost_value() {
         --by) echo "nothing" ;;
         --of) echo "nothing" ;;
         --against) echo "files" ;;
-        --from) echo "nothing" ;;
-        --to) echo "nothing" ;;
     esac
 }
 

@@ -31,9 +31,13 @@ fn is_shown(notes: When, are_errors: bool, is_watched: bool) -> bool {
     }
 }
 
-// Whether faults are explained: where that is asked for, and to somebody at a terminal, unless no notes are to be told.
-fn is_explained(explains: bool, notes: When, is_watched: bool) -> bool {
-    explains || (is_watched && notes != When::Never)
+// Whether faults are explained: where that isn't said, to somebody at a terminal, unless no notes are to be told.
+fn is_explained(faults: When, notes: When, is_watched: bool) -> bool {
+    match faults {
+        When::Always => true,
+        When::Never => false,
+        When::Auto => is_watched && notes != When::Never,
+    }
 }
 
 /// What is told, by what was chosen: unless that says otherwise, notes and explanations where somebody waits at a terminal, and
@@ -43,20 +47,8 @@ pub fn telling_of(chosen: &Selection<'_>, is_watched: bool, has_colors: bool) ->
         is_shown: is_shown(chosen.notes, chosen.are_errors, is_watched),
         tells: is_shown(chosen.notes, false, is_watched),
         are_errors: chosen.are_errors,
-        explains: is_explained(chosen.explains, chosen.notes, is_watched),
+        explains: is_explained(chosen.faults, chosen.notes, is_watched),
         is_coloured: is_shown(chosen.color, false, has_colors),
-    }
-}
-
-/// What is told of an audit, which has no flag for notes: they are told, and a script's fault is explained, where somebody waits at a
-/// terminal. Its flag `--explain` is for ends.
-pub fn of_audit(telling: Telling, is_watched: bool) -> Telling {
-    Telling {
-        is_shown: is_watched,
-        tells: is_watched,
-        are_errors: false,
-        explains: is_watched,
-        is_coloured: telling.is_coloured,
     }
 }
 

@@ -1,6 +1,6 @@
 //! Why a command, or a unit text behind `load`, is refused, for people.
 
-use rv_explain::explain;
+use rv_explain::{Explanation, explain, explain_command};
 use rv_fault::{ScriptFault, What};
 use rv_input::{MOST_BYTES, load_bytes};
 use rv_shell::Order;
@@ -9,13 +9,13 @@ use rv_step::reading::StepError;
 use std::alloc::Global;
 use std::io::Write;
 
-/// What an input gave so far, as a script: explanations look back at it, and count its lines. Past the greatest length of a
-/// script, or where memory is refused, no more is kept, and nothing is explained.
+/// What an input gave so far, as a script: its lines are counted, and what stands against a unit text is explained over it. Past
+/// the greatest length of a script, or where memory is refused, no more is kept, and of unit texts nothing is explained.
 #[derive(Drop)]
 pub(crate) struct Given {
     alloc: Global,
     bytes: Vec<u8>,
-    // How many line feeds there are among them.
+    // How many line feeds there were.
     lines: usize,
     is_whole: bool,
     // The line of the last command, where that is a `load` whose unit text was kept behind it.
@@ -37,6 +37,18 @@ fn fault_of(read: &Result<Order, StepError>) -> Option<What> {
     }
 }
 
+// Tells a fault with what it means, where there is memory for the words.
+fn tell<E: Write>(
+    alloc: Global,
+    fault: ScriptFault,
+    explanation: Explanation<'_>,
+    errors: &mut E,
+) {
+    if let Ok(text) = format!(in alloc; "{fault}\n{explanation}") {
+        let _ = say(errors, text.as_str());
+    }
+}
+
 impl Given {
     /// Nothing came yet.
     pub(crate) fn new(alloc: Global) -> Given {
@@ -51,12 +63,12 @@ impl Given {
 
     /// Keeps what was read.
     pub(crate) fn keep(&mut self, bytes: &[u8]) {
+        self.lines = self.lines.saturating_add(line_feeds(bytes));
         if bytes.len() > MOST_BYTES.saturating_sub(self.bytes.len()) {
             self.is_whole = false;
         }
         if self.is_whole {
             self.is_whole = self.bytes.extend_from_slice(bytes).is_ok();
-            self.lines = self.lines.saturating_add(line_feeds(bytes));
         }
     }
 
@@ -76,16 +88,14 @@ impl Given {
         }
     }
 
-    // Explains a fault of the line of this number.
-    fn tell<E: Write>(&self, line: usize, what: What, errors: &mut E) {
+    // Explains a fault of a unit text behind the line of this number.
+    fn tell_text<E: Write>(&self, line: usize, what: What, errors: &mut E) {
         if !self.is_whole {
             return;
         }
         let fault = ScriptFault { line, what };
         let explanation = explain(self.alloc, self.bytes.as_slice(), fault);
-        if let Ok(text) = format!(in self.alloc; "{fault}\n{explanation}") {
-            let _ = say(errors, text.as_str());
-        }
+        tell(self.alloc, fault, explanation, errors);
     }
 
     /// Keeps a command that was read so, behind which these bytes come of the input, and explains what stands against its line.
@@ -102,14 +112,16 @@ impl Given {
             self.keep_text(number, behind);
         }
         if let Some(what) = fault_of(read) {
-            self.tell(number, what, errors);
+            let fault = ScriptFault { line: number, what };
+            let explanation = explain_command(self.alloc, number, line, what);
+            tell(self.alloc, fault, explanation, errors);
         }
     }
 
     /// Explains what stands against the unit text of the last command, where that was kept.
     pub(crate) fn explain_text<E: Write>(&self, what: What, errors: &mut E) {
         if let Some(line) = self.load {
-            self.tell(line, what, errors);
+            self.tell_text(line, what, errors);
         }
     }
 }

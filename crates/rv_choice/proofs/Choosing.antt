@@ -8,7 +8,7 @@ use Rattle.rv_choice.specs.declared.misuse.Misuse.{Misuse}
 use Rattle.rv_choice.specs.declared.selection.Choice.{Choice}
 use Rattle.rv_choice.specs.declared.selection.Choice.TheVariants.{Play, Check, Run, Audit, AuditFile, Manual}
 use Rattle.rv_choice.specs.declared.selection.Selection.{Selection}
-use Rattle.rv_choice.specs.Choices.{IsFlag, IsJournal, IsSelected, IsSelection, IsUnnamed, IsWrong, Names, Wrong, audit_of, color_wrong, line_of, or_else, program, run_wrong, script_wrong, torn_wrong, wrong_in}
+use Rattle.rv_choice.specs.Choices.{IsFlag, IsJournal, IsSelected, IsSelection, IsUnnamed, IsWrong, Names, Wrong, audit_of, line_of, or_else, program, run_wrong, script_wrong, torn_wrong, wrong_in}
 
 -- The plain lines.
 
@@ -95,9 +95,6 @@ script_in = option_map (λ (p : Text × List Row). script_wrong p.1)
 abbrev run_in : Option (Text × List Row) → Option (Option Wrong)
 run_in = option_map (λ (p : Text × List Row). run_wrong p.1)
 
-abbrev color_in : Option (Text × List Row) → Option (Option Wrong)
-color_in = option_map (λ (p : Text × List Row). color_wrong p.1)
-
 play_right : (name : Text) (all : Bool) → script_in (subcommand_of program (name ∷ line_of (Play all))) ≡ Some None
 unfolding clap_on_literals
 play_right name true = refl
@@ -112,14 +109,14 @@ run_right : (name : Text) → run_in (subcommand_of program (name ∷ line_of Ru
 unfolding clap_on_literals
 run_right name = refl
 
-audit_color : (name : Text) → color_in (subcommand_of program (name ∷ line_of Audit)) ≡ Some None
+audit_right : (name : Text) → script_in (subcommand_of program (name ∷ line_of Audit)) ≡ Some None
 unfolding clap_on_literals
-audit_color name = refl
+audit_right name = refl
 
-file_color : (name : Text) (torn : Bool) → color_in (subcommand_of program (name ∷ line_of (AuditFile torn))) ≡ Some None
+file_right : (name : Text) (torn : Bool) → script_in (subcommand_of program (name ∷ line_of (AuditFile torn))) ≡ Some None
 unfolding clap_on_literals
-file_color name true = refl
-file_color name false = refl
+file_right name true = refl
+file_right name false = refl
 
 -- what is said of all that was found is so of this
 of_found : (f : Text × List Row → Option Wrong) (q : Option (Text × List Row)) (found : Text × List Row) → q ≡ Some found → option_map f q ≡ Some None → f found ≡ None
@@ -244,12 +241,12 @@ right name Audit found wrong e w is =
     let torn : given.0 ≡ false = given.1.1 (row_found (codes "torn") (Some (flag_text false)) _ found e (no_torn name)) in
     let alone : torn_wrong (is_some (first_of (codes "journal") found.1)) given.0 ≡ None =
     ap₂ (λ (f : Option Text) (t : Bool). torn_wrong (is_some f) t) (file_found None _ found e (no_file name)) torn in
-    something wrong _ given.2 (ap₂ or_else alone (of_found (λ p. color_wrong p.1) _ found e (audit_color name)))
+    something wrong _ given.2 (ap₂ or_else alone (of_found (λ p. script_wrong p.1) _ found e (audit_right name)))
 right name (AuditFile torn) found wrong e w is =
     let given = is.3 w in
     let alone : torn_wrong (is_some (first_of (codes "journal") found.1)) given.0 ≡ None =
     ap (λ (f : Option Text). torn_wrong (is_some f) given.0) (file_found (Some (codes "J")) _ found e (some_file name torn)) in
-    something wrong _ given.2 (ap₂ or_else alone (of_found (λ p. color_wrong p.1) _ found e (file_color name torn)))
+    something wrong _ given.2 (ap₂ or_else alone (of_found (λ p. script_wrong p.1) _ found e (file_right name torn)))
 right name Manual found wrong e w is = something wrong _ (is.4 w) refl
 
 -- its name is one

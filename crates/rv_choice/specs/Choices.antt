@@ -1,7 +1,8 @@
 -- The command line (own): `play`, which may be given `--all`, `check`, which may be given `--script`, and `run`, which may be
 -- given `--journal FILE` and, with it, `--sync HOW`, `--halt-below N`, `--quota N`, `--tick MS`, `--stop-by PIPE`, `--console`,
--- `--end-status` and `--sections-end`, all three with `--notes WHEN` and `--warnings-are-errors`; and `audit`, which
--- may be given `--journal FILE` and, with it, `--torn`. Each may be given `--explain`, `--color WHEN` and the FILE of its script.
+-- `--end-status` and `--sections-end`, all three with `--no-explain` and `--warnings-are-errors`; and `audit`, which
+-- may be given `--journal FILE` and, with it, `--torn`. Each may be given `--explain`, `--notes WHEN`, `--color WHEN` and the FILE of
+-- its script.
 -- Beside them `manual`, which may be given the name of one of them. What words come to is what `clap` says of this command.
 use Rattle.std.specs.Prelude.{◌≡◌, ℕ, Bool, true, false, ◌&&◌, nat_le, nat_lt, if◌then◌else◌, List, [], ◌∷◌, Option, Some, None, is_some, codes, option_map, Result, Ok, Err}
 use Rattle.std.specs.Str.{bytes_eq}
@@ -34,6 +35,10 @@ flag_rule name = record (new_rule name) { long = Some name; action = Some SetTru
 abbrev pub explain_rule : Rule
 explain_rule = flag_rule (codes "explain")
 
+-- what asks for explanations of faults, and what asks for none
+abbrev pub with_explanations : App → App
+with_explanations app = with_rule (with_rule app explain_rule) (flag_rule (codes "no-explain"))
+
 -- when notes are told
 abbrev pub notes_rule : Rule
 notes_rule = record (new_rule (codes "notes")) { long = Some (codes "notes"); action = Some Set; value_names = 1 }
@@ -59,10 +64,10 @@ abbrev pub with_file : App → App
 with_file app = with_rule app (word_rule (codes "file"))
 
 abbrev pub playing : App
-playing = with_file (with_color (with_notes (with_rule (with_rule (new_app (codes "play")) (flag_rule (codes "all"))) explain_rule)))
+playing = with_file (with_color (with_notes (with_explanations (with_rule (new_app (codes "play")) (flag_rule (codes "all"))))))
 
 abbrev pub checked : App
-checked = with_file (with_color (with_notes (with_rule (with_rule (new_app (codes "check")) explain_rule) (flag_rule (codes "script")))))
+checked = with_file (with_color (with_notes (with_rule (with_explanations (new_app (codes "check"))) (flag_rule (codes "script")))))
 
 -- the name of a file, and when it is synced
 abbrev pub file_rule : Rule
@@ -73,7 +78,7 @@ sync_rule = record (new_rule (codes "sync")) { long = Some (codes "sync"); actio
 
 -- `run`, which may keep its journal in a file
 abbrev pub keeping : App
-keeping = with_rule (with_rule (with_rule (new_app (codes "run")) file_rule) sync_rule) explain_rule
+keeping = with_explanations (with_rule (with_rule (new_app (codes "run")) file_rule) sync_rule)
 
 -- which may be told what to do as its journal fills
 abbrev pub guarding : App
@@ -99,7 +104,7 @@ abbrev pub judging : App
 judging = with_rule (with_rule (new_app (codes "audit")) file_rule) (flag_rule (codes "torn"))
 
 abbrev pub audited : App
-audited = with_file (with_color (with_rule judging explain_rule))
+audited = with_file (with_color (with_rule (with_rule judging explain_rule) notes_rule))
 
 -- `manual`, which may be told the subcommand that it is of
 abbrev pub manual : App
@@ -159,21 +164,44 @@ when_of (Some word) =
     else if bytes_eq word (codes "never") then Some Whens.Never
     else None
 
--- when they are told, and whether they are errors, by what a subcommand was given
+-- when notes are told, by what a subcommand was given
+abbrev pub TellsNotes : List Row → When → Type 0
+TellsNotes rows notes = when_of (first_of (codes "notes") rows) ≡ Some notes
+
+-- and whether they are errors
 abbrev pub Tells : List Row → When → Bool → Type 0
-Tells rows notes errors = (when_of (first_of (codes "notes") rows) ≡ Some notes) × IsFlag (one_of (codes "warnings-are-errors") rows) errors
+Tells rows notes errors = TellsNotes rows notes × IsFlag (one_of (codes "warnings-are-errors") rows) errors
 
--- the same, for `play`, `check` and `run`
+-- the same by a subcommand: in an audit they are none
 abbrev pub IsNoted : Text × List Row → Choice → When → Bool → Type 0
-IsNoted found (Play all) notes errors = Tells found.1 notes errors
-IsNoted found (Check whole) notes errors = Tells found.1 notes errors
-IsNoted found Run notes errors = Tells found.1 notes errors
-IsNoted found choice notes errors = errors ≡ false
+IsNoted found Audit notes errors = TellsNotes found.1 notes × (errors ≡ false)
+IsNoted found (AuditFile torn) notes errors = TellsNotes found.1 notes × (errors ≡ false)
+IsNoted found Manual notes errors = errors ≡ false
+IsNoted found choice notes errors = Tells found.1 notes errors
 
--- whether a script's fault, or for `audit` the ends of bodies, are explained
-abbrev pub IsExplaining : Text × List Row → Choice → Bool → Type 0
-IsExplaining found Manual explains = explains ≡ false
-IsExplaining found choice explains = IsFlag (one_of (codes "explain") found.1) explains
+-- when faults are explained, by the flag that asks for that and the one that asks for nothing
+abbrev pub explained_when : Bool → Bool → When
+explained_when always true = Whens.Never
+explained_when true false = Always
+explained_when false false = Auto
+
+abbrev pub Explains : List Row → When → Type 0
+Explains rows when =
+    (always : Bool) × (never : Bool) × IsFlag (one_of (codes "explain") rows) always
+    × IsFlag (one_of (codes "no-explain") rows) never × (when ≡ explained_when always never)
+
+-- the same by a subcommand: in an audit a script's fault is explained when notes are told
+abbrev pub IsExplaining : Text × List Row → Choice → When → Type 0
+IsExplaining found Audit when = TellsNotes found.1 when
+IsExplaining found (AuditFile torn) when = TellsNotes found.1 when
+IsExplaining found Manual when = when ≡ Auto
+IsExplaining found choice when = Explains found.1 when
+
+-- whether the ends of bodies are explained, which `audit` alone can do
+abbrev pub ExplainsEnds : Text × List Row → Choice → Bool → Type 0
+ExplainsEnds found Audit ends = IsFlag (one_of (codes "explain") found.1) ends
+ExplainsEnds found (AuditFile torn) ends = IsFlag (one_of (codes "explain") found.1) ends
+ExplainsEnds found choice ends = ends ≡ false
 
 -- when there are colours, by the word that is given
 abbrev pub IsColored : Text × List Row → Choice → When → Type 0
@@ -335,7 +363,7 @@ run_wrong rows = or_else (beside_wrong rows) (script_wrong rows)
 
 -- and with `audit`
 abbrev pub audit_wrong : Bool → List Row → Option Wrong
-audit_wrong torn rows = or_else (torn_wrong (is_some (first_of (codes "journal") rows)) torn) (color_wrong rows)
+audit_wrong torn rows = or_else (torn_wrong (is_some (first_of (codes "journal") rows)) torn) (script_wrong rows)
 
 abbrev pub IsAuditWrong : List Row → Option Wrong → Type 0
 IsAuditWrong rows wrong = (torn : Bool) × IsFlag (one_of (codes "torn") rows) torn × (wrong ≡ audit_wrong torn rows)
@@ -354,12 +382,12 @@ IsUnnamed name =
     × (name ≡ codes "manual" → ⊥)
 
 -- a subcommand with what it was given is selected: a choice, with a file that is judged where there is one, what becomes of notes,
--- when there are colours, whether there are explanations, what a run does beside its commands, the file of its script, and what a
--- manual is of
+-- when there are colours, when faults are explained and whether ends are, what a run does beside its commands, the file of its
+-- script, and what a manual is of
 abbrev pub IsSelection : Text × List Row → Selection → Type 0
 IsSelection found chosen =
     Names found chosen.choice × IsJournal found (option_map (λ name. name.now) chosen.journal)
-    × IsNoted found chosen.choice chosen.notes chosen.are_errors × IsExplaining found chosen.choice chosen.explains
+    × IsNoted found chosen.choice chosen.notes chosen.are_errors × IsExplaining found chosen.choice chosen.faults × ExplainsEnds found chosen.choice chosen.ends
     × IsRunning found chosen.choice (words_of chosen.run) × IsColored found chosen.choice chosen.color
     × IsScript found chosen.choice (option_map (λ name. name.now) chosen.file)
     × IsSubject found chosen.choice (option_map (λ name. name.now) chosen.subject)

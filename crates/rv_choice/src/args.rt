@@ -3,7 +3,7 @@
 ghost use Rattle.std.specs.Prelude.{◌≡◌, false, IfOk, codes};
 ghost use Rattle.clap.specs.Words.{app_of, rule_of, with_rule};
 ghost use Rattle.clap.specs.declared.builder.command.Command.TheViews.{out-Command as fields_of};
-ghost use Rattle.rv_choice.specs.Choices.{file_rule, flag_rule, notes_rule, sync_rule, value_rule, with_color, with_file, with_notes, word_rule};
+ghost use Rattle.rv_choice.specs.Choices.{file_rule, flag_rule, notes_rule, sync_rule, value_rule, with_color, with_explanations, with_file, with_notes, word_rule};
 
 use clap::{Arg, ArgAction, Command};
 use std::alloc::{AllocError, Global};
@@ -39,17 +39,26 @@ pub fn explain_flag<'a>(alloc: Global, help: &'a str) -> Arg<'a>
     flag(alloc, "explain", help)
 }
 
-// When notes on lists are told.
-fn notes_flag<'a>(alloc: Global) -> Arg<'a>
+/// A subcommand over a script, whose fault may be explained always, or never.
+pub fn explained<'a>(alloc: Global, command: Command<'a>) -> Result<Command<'a>, AllocError>
+    requires { (fields_of command).has_globals ≡ false }
+    ensures app { IfOk result (λ c. app_of c ≡ with_explanations (app_of command.entry)) }
+    ensures local { IfOk result (λ c. (fields_of c).has_globals ≡ false) }
+{
+    let silent = flag(
+        alloc,
+        "no-explain",
+        "Explain no fault, at a terminal either; it goes before --explain",
+    );
+    command.arg(explain_flag(alloc, FAULT_HELP))?.arg(silent)
+}
+
+// When notes are told.
+fn notes_flag<'a>(alloc: Global, help: &'a str) -> Arg<'a>
     ensures rule { rule_of result ≡ notes_rule }
     ensures local { result.global ≡ false }
 {
-    valued(
-        alloc,
-        "notes",
-        "WHEN",
-        "Tell of lines of lists that can't be meant so and of calls that can never start, on standard error: auto (at a terminal), always or never",
-    )
+    valued(alloc, "notes", "WHEN", help)
 }
 
 // When standard error has colours.
@@ -138,6 +147,15 @@ pub fn with_value<'a>(
     command.arg(valued(alloc, name, value, help))
 }
 
+/// A subcommand that judges journals, which may be told when notes are told.
+pub fn told<'a>(alloc: Global, command: Command<'a>) -> Result<Command<'a>, AllocError>
+    requires { (fields_of command).has_globals ≡ false }
+    ensures app { IfOk result (λ c. app_of c ≡ with_rule (app_of command.entry) notes_rule) }
+    ensures local { IfOk result (λ c. (fields_of c).has_globals ≡ false) }
+{
+    command.arg(notes_flag(alloc, UNREAD_HELP))
+}
+
 /// A subcommand that looks at lists: it may be told when notes on them are told, and that they are errors.
 pub fn noted<'a>(alloc: Global, command: Command<'a>) -> Result<Command<'a>, AllocError>
     requires { (fields_of command).has_globals ≡ false }
@@ -149,7 +167,7 @@ pub fn noted<'a>(alloc: Global, command: Command<'a>) -> Result<Command<'a>, All
         "warnings-are-errors",
         "End with status 1 before the first step or thread where such a note is due",
     );
-    command.arg(notes_flag(alloc))?.arg(are_errors)
+    command.arg(notes_flag(alloc, NOTES_HELP))?.arg(are_errors)
 }
 
 /// A subcommand that may be told when standard error has colours.
@@ -164,6 +182,14 @@ pub fn coloured<'a>(alloc: Global, command: Command<'a>) -> Result<Command<'a>, 
 /// Where a script is read from.
 pub const SCRIPT_HELP: &str = "Read the script from this file, in place of standard input";
 
-/// What is explained of a refused script.
-pub const FAULT_HELP: &str =
+// What notes tell of a script.
+const NOTES_HELP: &str =
+    "Tell of lines of lists that can't be meant so and of calls that can never start, on standard error: auto (at a terminal), always or never";
+
+// What they tell of a journal.
+const UNREAD_HELP: &str =
+    "Say on standard error why a line is unreadable, and explain a script's fault: auto (at a terminal), always or never";
+
+// What is explained of a refused script.
+const FAULT_HELP: &str =
     "Below a fault, show the line with its place, and say what the fault means; at a terminal this is done unless --notes is never";

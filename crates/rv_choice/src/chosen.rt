@@ -5,13 +5,13 @@ ghost use Rattle.clap.specs.Words.{subcommand_rows_of, takes};
 ghost use Rattle.clap.specs.Matches.{found_of};
 ghost use Rattle.clap.specs.Walk.{Row, Text, first_of, one_of, rows_of};
 ghost use Rattle.rv_choice.specs.declared.chosen.Unchosen.TheVariants as Unchosen;
-ghost use Rattle.rv_choice.specs.Choices.{Chooses, IsAuditWrong, IsFlag, IsSelected, IsSelection, IsUnnamed, Lacks, Tells, line_of, named_file, program, run_wrong, script_wrong, when_of, words_of, wrong_in};
+ghost use Rattle.rv_choice.specs.Choices.{Chooses, Explains, IsAuditWrong, IsSelected, IsSelection, IsUnnamed, Lacks, Tells, line_of, named_file, program, run_wrong, script_wrong, when_of, words_of, wrong_in};
 
 use crate::command::command;
 use crate::misuse::Misuse;
 use crate::run_words::run_words;
 use crate::selection::{Choice, NO_RUN, RunWords, Selection, When};
-use crate::words::{audit_of, color_of, script_of, subject_of, telling_of};
+use crate::words::{audit_of, faults_of, script_of, shown_of, subject_of};
 use clap::error::ErrorKind;
 use clap::{ArgMatches, Error};
 use std::alloc::Global;
@@ -23,7 +23,8 @@ pub enum Unchosen<'a> {
     Usage(Error),
     /// There is no subcommand of this name.
     NoCommand,
-    /// A flag is given wrongly: the first of `--sync`, `--tick`, `--halt-below`, `--quota`, `--notes` and `--color`, or of `--torn` and `--color`.
+    /// A flag is given wrongly: the first of `--sync`, `--tick`, `--halt-below`, `--quota`, `--notes` and `--color`, or of `--torn`, `--notes`
+    /// and `--color`.
     Misused(Misuse<'a>),
     /// Memory was refused.
     NoMemory,
@@ -38,26 +39,23 @@ fn script_chosen<'a>(
 ) -> Result<Selection<'a>, Misuse<'a>>
     ensures given { IfOk result (λ chosen. (chosen.choice ≡ choice) × (chosen.journal ≡ None) × (chosen.subject ≡ None) × (words_of chosen.run ≡ words_of run.entry)) }
     ensures told { IfOk result (λ chosen. Tells (rows_of (found_of words.now)) chosen.notes chosen.are_errors) }
-    ensures explained { IfOk result (λ chosen. IsFlag (one_of (codes "explain") (rows_of (found_of words.now))) chosen.explains) }
+    ensures explained { IfOk result (λ chosen. Explains (rows_of (found_of words.now)) chosen.faults × (chosen.ends ≡ false)) }
     ensures coloured { IfOk result (λ chosen. when_of (first_of (codes "color") (rows_of (found_of words.now))) ≡ Some chosen.color) }
     ensures file { IfOk result (λ chosen. option_map (λ n. n.now) chosen.file ≡ named_file (first_of (codes "file") (rows_of (found_of words.now)))) }
     ensures wrong { wrong_in result ≡ script_wrong (rows_of (found_of words.now)) }
 {
-    let told = match telling_of(words) {
-        Ok(told) => told,
-        Err(misuse) => return Err(misuse),
-    };
-    let color = match color_of(words) {
-        Ok(color) => color,
+    let (notes, color) = match shown_of(words) {
+        Ok(shown) => shown,
         Err(misuse) => return Err(misuse),
     };
     Ok(Selection {
         choice,
-        notes: told.0,
+        notes,
         color,
-        are_errors: told.1,
+        are_errors: words.get_flag("warnings-are-errors"),
         journal: None,
-        explains: words.get_flag("explain"),
+        faults: faults_of(words),
+        ends: false,
         run,
         file: script_of(words),
         subject: None,
@@ -101,17 +99,18 @@ fn audit_chosen<'a>(words: &ArgMatches<'a>) -> Result<Selection<'a>, Misuse<'a>>
         Ok(choice) => choice,
         Err(misuse) => return Err(misuse),
     };
-    let color = match color_of(words) {
-        Ok(color) => color,
+    let (notes, color) = match shown_of(words) {
+        Ok(shown) => shown,
         Err(misuse) => return Err(misuse),
     };
     Ok(Selection {
         choice,
-        notes: When::Never,
+        notes,
         color,
         are_errors: false,
         journal,
-        explains: words.get_flag("explain"),
+        faults: notes,
+        ends: words.get_flag("explain"),
         run: NO_RUN,
         file: script_of(words),
         subject: None,
@@ -128,7 +127,8 @@ fn manual_chosen<'a>(words: &ArgMatches<'a>) -> Selection<'a>
         color: When::Auto,
         are_errors: false,
         journal: None,
-        explains: false,
+        faults: When::Auto,
+        ends: false,
         run: NO_RUN,
         file: None,
         subject: subject_of(words),

@@ -5,9 +5,7 @@ ghost use Rattle.clap.specs.Words.{app_of};
 ghost use Rattle.clap.specs.declared.builder.command.Command.TheViews.{out-Command as fields_of};
 ghost use Rattle.rv_choice.specs.Choices.{attending, consoled, ending, guarding, keeping, running};
 
-use crate::args::{
-    FAULT_HELP, coloured, explain_flag, file_arg, flag, noted, sync_arg, with_file, with_value,
-};
+use crate::args::{coloured, explained, file_arg, flag, noted, sync_arg, with_file, with_value};
 use clap::Command;
 use std::alloc::{AllocError, Global};
 
@@ -20,12 +18,12 @@ fn keeping_subcommand<'a>(alloc: Global) -> Result<Command<'a>, AllocError>
         alloc,
         "Write the journal into this file as it comes; the file must be new or empty",
     );
-    Command::new(alloc, "run")
+    let command = Command::new(alloc, "run")
         .about("Run the host of a script, and serve the commands that follow its line @run")
         .after_help("Example: ravenhost run examples/plant.raven")
         .arg(journal)?
-        .arg(sync_arg(alloc))?
-        .arg(explain_flag(alloc, FAULT_HELP))
+        .arg(sync_arg(alloc))?;
+    explained(alloc, command)
 }
 
 // The same, which may be told what to do as its journal fills.

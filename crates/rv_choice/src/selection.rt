@@ -20,7 +20,7 @@ pub enum Choice {
     Manual,
 }
 
-/// When notes are told, or colours shown, on standard error.
+/// When notes are told, faults explained, or colours shown, on standard error.
 #[derive(Clone, Copy, Debug, Drop, PartialEq, Eq)]
 pub enum When {
     /// Where standard error is a terminal.
@@ -100,8 +100,10 @@ pub struct Selection<'a> {
     pub are_errors: bool,
     /// The name of the file that holds a journal, where one is given.
     pub journal: Option<&'a str>,
-    /// Whether a script's fault, or the ends of bodies in a journal, are explained.
-    pub explains: bool,
+    /// When a script's fault is explained, and in a run a command that is refused.
+    pub faults: When,
+    /// Whether the ends of bodies in a journal are explained.
+    pub ends: bool,
     /// What a run does beside its commands.
     pub run: RunWords<'a>,
     /// The name of the file that the script is read from, in place of standard input, where one is given.

@@ -6,7 +6,8 @@ ghost use Rattle.clap.specs.declared.builder.command.Command.TheViews.{out-Comma
 ghost use Rattle.rv_choice.specs.Choices.{audited, checked, judging, manual, playing};
 
 use crate::args::{
-    FAULT_HELP, SCRIPT_HELP, coloured, explain_flag, file_arg, flag, noted, subject_arg, with_file,
+    SCRIPT_HELP, coloured, explain_flag, explained, file_arg, flag, noted, subject_arg, told,
+    with_file,
 };
 use clap::Command;
 use std::alloc::{AllocError, Global};
@@ -24,8 +25,8 @@ pub fn play_subcommand<'a>(alloc: Global) -> Result<Command<'a>, AllocError>
     let command = Command::new(alloc, "play")
         .about("Carry out a script, and print its journal")
         .after_help("Example: ravenhost play --all examples/first.raven")
-        .arg(all)?
-        .arg(explain_flag(alloc, FAULT_HELP))?;
+        .arg(all)?;
+    let command = explained(alloc, command)?;
     let command = noted(alloc, command)?;
     let command = coloured(alloc, command)?;
     with_file(alloc, command, SCRIPT_HELP)
@@ -38,8 +39,8 @@ pub fn check_subcommand<'a>(alloc: Global) -> Result<Command<'a>, AllocError>
 {
     let command = Command::new(alloc, "check")
         .about("Say of each section of a script whether it is well formed")
-        .after_help("Example: ravenhost check --script --explain examples/first.raven")
-        .arg(explain_flag(alloc, FAULT_HELP))?;
+        .after_help("Example: ravenhost check --script --explain examples/first.raven");
+    let command = explained(alloc, command)?;
     let whole = flag(
         alloc,
         "script",
@@ -72,7 +73,7 @@ fn judging_subcommand<'a>(alloc: Global) -> Result<Command<'a>, AllocError>
     command.arg(torn)
 }
 
-/// The same, which may be told to explain ends.
+/// The same, which may be told to explain ends, and when to tell notes.
 pub fn audit_subcommand<'a>(alloc: Global) -> Result<Command<'a>, AllocError>
     ensures app { IfOk result (λ c. app_of c ≡ audited) }
     ensures local { IfOk result (λ c. (fields_of c).has_globals ≡ false) }
@@ -83,6 +84,7 @@ pub fn audit_subcommand<'a>(alloc: Global) -> Result<Command<'a>, AllocError>
         "Also say whether each body ended as its text means on the entries since it started",
     );
     let command = command.arg(explain)?;
+    let command = told(alloc, command)?;
     let command = coloured(alloc, command)?;
     with_file(alloc, command, SCRIPT_HELP)
 }

@@ -1,9 +1,9 @@
-//! What the words of a subcommand say: notes, colours, the files of its script and of `audit`.
+//! What the words of a subcommand say: notes, colours, explanations, the files of its script and of `audit`.
 
 ghost use Rattle.std.specs.Prelude.{◌≡◌, IfOk, codes, option_map};
 ghost use Rattle.clap.specs.Matches.{found_of};
 ghost use Rattle.clap.specs.Walk.{first_of, rows_of};
-ghost use Rattle.rv_choice.specs.Choices.{Tells, audit_of, color_wrong, named_file, notes_wrong, torn_wrong, when_of, when_wrong, wrong_in};
+ghost use Rattle.rv_choice.specs.Choices.{Explains, TellsNotes, audit_of, color_wrong, explained_when, named_file, notes_wrong, script_wrong, torn_wrong, when_of, when_wrong, wrong_in};
 
 use crate::misuse::{Flag, Misuse, said_by};
 use crate::selection::{Choice, When};
@@ -51,24 +51,56 @@ fn given_when<'a>(words: &ArgMatches<'a>, flag: Flag, name: &str) -> Result<When
     said_by(flag, word, when_of(word))
 }
 
-/// When notes are told, and whether they are errors, by what a subcommand was given.
-pub fn telling_of<'a>(words: &ArgMatches<'a>) -> Result<(When, bool), Misuse<'a>>
-    ensures ok { IfOk result (λ t. Tells (rows_of (found_of words.now)) t.0 t.1) }
+// When notes are told, by what a subcommand was given.
+fn notes_of<'a>(words: &ArgMatches<'a>) -> Result<When, Misuse<'a>>
+    ensures ok { IfOk result (λ notes. TellsNotes (rows_of (found_of words.now)) notes) }
     ensures wrong { wrong_in result ≡ notes_wrong (rows_of (found_of words.now)) }
 {
-    let are_errors = words.get_flag("warnings-are-errors");
-    match given_when(words, Flag::Notes, "notes") {
-        Ok(notes) => Ok((notes, are_errors)),
-        Err(misuse) => Err(misuse),
-    }
+    given_when(words, Flag::Notes, "notes")
 }
 
-/// When standard error has colours, by what a subcommand was given.
-pub fn color_of<'a>(words: &ArgMatches<'a>) -> Result<When, Misuse<'a>>
+// When standard error has colours, by what a subcommand was given.
+fn color_of<'a>(words: &ArgMatches<'a>) -> Result<When, Misuse<'a>>
     ensures ok { IfOk result (λ color. when_of (first_of (codes "color") (rows_of (found_of words.now))) ≡ Some color) }
     ensures wrong { wrong_in result ≡ color_wrong (rows_of (found_of words.now)) }
 {
     given_when(words, Flag::Color, "color")
+}
+
+/// When notes are told, and when standard error has colours, by what a subcommand was given.
+pub fn shown_of<'a>(words: &ArgMatches<'a>) -> Result<(When, When), Misuse<'a>>
+    ensures notes { IfOk result (λ shown. TellsNotes (rows_of (found_of words.now)) shown.0) }
+    ensures color { IfOk result (λ shown. when_of (first_of (codes "color") (rows_of (found_of words.now))) ≡ Some shown.1) }
+    ensures wrong { wrong_in result ≡ script_wrong (rows_of (found_of words.now)) }
+{
+    let notes = match notes_of(words) {
+        Ok(notes) => notes,
+        Err(misuse) => return Err(misuse),
+    };
+    match color_of(words) {
+        Ok(color) => Ok((notes, color)),
+        Err(misuse) => Err(misuse),
+    }
+}
+
+// When faults are explained, by whether that is asked for, and whether nothing is.
+fn explained_when(always: bool, never: bool) -> When
+    ensures { result ≡ explained_when always never }
+{
+    if never {
+        When::Never
+    } else if always {
+        When::Always
+    } else {
+        When::Auto
+    }
+}
+
+/// When faults are explained, by what a subcommand over a script was given.
+pub fn faults_of(words: &ArgMatches<'_>) -> When
+    ensures { Explains (rows_of (found_of words.now)) result }
+{
+    explained_when(words.get_flag("explain"), words.get_flag("no-explain"))
 }
 
 // The file of this name; the name `-` is that of standard input.

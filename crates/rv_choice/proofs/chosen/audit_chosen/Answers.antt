@@ -4,8 +4,7 @@ use Rattle.clap.specs.Matches.{found_of}
 use Rattle.clap.specs.Walk.{Row, Text, first_of, one_of, rows_of}
 use Rattle.clap.proofs.WalkLemmas.{first_value-rows, one_text-rows}
 use Rattle.rv_choice.specs.declared.selection.Choice.{Choice}
-use Rattle.rv_choice.specs.declared.selection.When.TheVariants.{Never}
-use Rattle.rv_choice.specs.Choices.{IsColored, IsExplaining, IsFlag, IsNoted, IsRunning, IsScript, IsSubject, Wrong, audit_of, color_wrong, no_run, or_else, torn_wrong, wrong_of}
+use Rattle.rv_choice.specs.Choices.{ExplainsEnds, IsColored, IsExplaining, IsFlag, IsNoted, IsRunning, IsScript, IsSubject, Wrong, audit_of, no_run, or_else, script_wrong, torn_wrong, wrong_of}
 use Rattle.rv_choice.proofs.Choosing.{audit_named, by_audit, is_some_map}
 use Rattle.rv_choice.proofs.chosen.audit_chosen.Goals as goal
 
@@ -20,10 +19,10 @@ returns-in-Err-clause-wrong c =
     let has : c.is_some.result ≡ is_some (first_of (codes "journal") rows) =
     c.is_some.ensures ∙ (sym (is_some_map (λ s. s.now) c.get_str-journal.result) ∙ ap is_some journal) in
     let alone : Some (wrong_of c.in-Err.misuse) ≡ torn_wrong (is_some (first_of (codes "journal") rows)) torn = c.in-Err.ensures.wrong ∙ ap (λ (b : Bool). torn_wrong b torn) has in
-    (torn, flag, ap (λ (o : Option Wrong). or_else o (color_wrong rows)) alone)
+    (torn, flag, ap (λ (o : Option Wrong). or_else o (script_wrong rows)) alone)
 
-pub returns-in-Err-color_of-clause-wrong : goal.returns-in-Err-color_of-clause-wrong
-returns-in-Err-color_of-clause-wrong c =
+pub returns-in-Err-shown_of-clause-wrong : goal.returns-in-Err-shown_of-clause-wrong
+returns-in-Err-shown_of-clause-wrong c =
     let given = found_of c.args.words.now in
     let rows = rows_of given in
     let torn = c.get_flag.result in
@@ -33,7 +32,7 @@ returns-in-Err-color_of-clause-wrong c =
     let has : c.is_some.result ≡ is_some (first_of (codes "journal") rows) =
     c.is_some.ensures ∙ (sym (is_some_map (λ s. s.now) c.get_str-journal.result) ∙ ap is_some journal) in
     let none : None ≡ torn_wrong (is_some (first_of (codes "journal") rows)) torn = c.in-Ok.ensures.wrong ∙ ap (λ (b : Bool). torn_wrong b torn) has in
-    (torn, flag, c.in-Err-color_of.ensures.wrong ∙ ap (λ (o : Option Wrong). or_else o (color_wrong rows)) none)
+    (torn, flag, c.in-Err-shown_of.ensures.wrong ∙ ap (λ (o : Option Wrong). or_else o (script_wrong rows)) none)
 
 pub returns-clause-wrong : goal.returns-clause-wrong
 returns-clause-wrong c =
@@ -46,7 +45,7 @@ returns-clause-wrong c =
     let has : c.is_some.result ≡ is_some (first_of (codes "journal") rows) =
     c.is_some.ensures ∙ (sym (is_some_map (λ s. s.now) c.get_str-journal.result) ∙ ap is_some journal) in
     let none : None ≡ torn_wrong (is_some (first_of (codes "journal") rows)) torn = c.in-Ok.ensures.wrong ∙ ap (λ (b : Bool). torn_wrong b torn) has in
-    (torn, flag, c.in-Ok-color_of.ensures.wrong ∙ ap (λ (o : Option Wrong). or_else o (color_wrong rows)) none)
+    (torn, flag, c.in-Ok-shown_of.ensures.wrong ∙ ap (λ (o : Option Wrong). or_else o (script_wrong rows)) none)
 
 pub returns-clause-ok : goal.returns-clause-ok
 returns-clause-ok c =
@@ -62,10 +61,11 @@ returns-clause-ok c =
     (sym (c.get_str-journal.ensures ∙ first_value-rows given (codes "journal"))) in (
       named.0,
       named.1,
-      by_audit found c.in-Ok.choice (λ (it : Choice). IsNoted found it Never false) refl named.0 refl (λ t. refl),
-      by_audit found c.in-Ok.choice (λ (it : Choice). IsExplaining found it c.get_flag-2.result) refl named.0 explains (λ t. explains),
+      by_audit found c.in-Ok.choice (λ (it : Choice). IsNoted found it c.in-Ok-shown_of.notes false) refl named.0 (c.in-Ok-shown_of.ensures.notes, refl) (λ t. (c.in-Ok-shown_of.ensures.notes, refl)),
+      by_audit found c.in-Ok.choice (λ (it : Choice). IsExplaining found it c.in-Ok-shown_of.notes) refl named.0 c.in-Ok-shown_of.ensures.notes (λ t. c.in-Ok-shown_of.ensures.notes),
+      by_audit found c.in-Ok.choice (λ (it : Choice). ExplainsEnds found it c.get_flag-2.result) refl named.0 explains (λ t. explains),
       by_audit found c.in-Ok.choice (λ (it : Choice). IsRunning found it no_run) refl named.0 refl (λ t. refl),
-      by_audit found c.in-Ok.choice (λ (it : Choice). IsColored found it c.in-Ok-color_of.color) refl named.0 c.in-Ok-color_of.ensures.ok (λ t. c.in-Ok-color_of.ensures.ok),
+      by_audit found c.in-Ok.choice (λ (it : Choice). IsColored found it c.in-Ok-shown_of.color) refl named.0 c.in-Ok-shown_of.ensures.color (λ t. c.in-Ok-shown_of.ensures.color),
       by_audit found c.in-Ok.choice (λ (it : Choice). IsScript found it (option_map (λ n. n.now) c.script_of.result)) refl named.0 c.script_of.ensures (λ t. c.script_of.ensures),
       by_audit found c.in-Ok.choice (λ (it : Choice). IsSubject found it None) refl named.0 refl (λ t. refl),
     )
