@@ -410,9 +410,25 @@ def notes_on_long_lists(hands: Hands) -> None:
     hands.due("notes on long lists take at most ten times the check", told <= 10 * alone, (alone, told))
 
 
+def many_bad_commands(hands: Hands) -> None:
+    """Of 16,000 lines that are no commands each is explained by its own line: twice as many take at most three times as long."""
+
+    def seconds(count: int) -> float:
+        before = os.times()
+        done = hands.asked(["run", "--explain", "--notes", "never"], b"@list\n@run\n" + b"raise 10\n" * count + b"quit\n")
+        after = os.times()
+        hands.due(f"{count} lines are answered", done.stdout == b"bad command\n" * count + b"entries 1\n", done.stdout[-100:])
+        hands.due(f"{count} lines are explained", done.stderr.count(b"\n  = raise takes the number of an interrupt line, 0 .. 9\n") == count, done.stderr[-300:])
+        return after.children_user + after.children_system - before.children_user - before.children_system
+
+    half, whole = min(seconds(8_000) for _ in range(3)), min(seconds(16_000) for _ in range(3))
+    hands.due("explanations of commands grow with their number alone", whole <= 3 * half, (half, whole))
+
+
 CASES: tuple[Callable[[Hands], None], ...] = (
     two_runs_on_one_file, journals_that_others_change, streams_that_are_closed, limits_on_files, wrong_command_lines, texts_that_are_sent,
-    senders_at_once, wrong_sends, scripts_to_the_wrong_command, hostile_parts, parts_that_are_taken, faults_of_parts, runs_of_parts, notes_on_long_lists)
+    senders_at_once, wrong_sends, scripts_to_the_wrong_command, hostile_parts, parts_that_are_taken, faults_of_parts, runs_of_parts, notes_on_long_lists,
+    many_bad_commands)
 
 
 def main(words: list[str]) -> int:

@@ -851,6 +851,10 @@ def advised(program):
         for command, answer, _ in ADVISED:
             expect(f"{command} with {words}", run.ask(command), answer)
         expect(f"what is told with {words}", run.end()[1:], ("", 0))
+    # Where a note and an explanation would say the same, one of them is told.
+    _, err, _ = Run(program, script, ("--notes", "always", "--explain")).end("raise 10\nstatus\nquit\n")
+    expect_that("raise is explained, and no note says it", (err.count("note: raise takes"), err.count(" = raise takes the number")) == (0, 1), err)
+    expect_that("a note says who takes status, and no explanation", (err.count("note: only run --console"), err.count("status is no command")) == (1, 0), err)
     full = "@list\n" + "".join(f"allow U{number} U{number}.O P\n" for number in range(512)) + "@run\n"
     run = Run(program, full, ("--notes", "always"))
     for command in ("append allow a a.b c", "remove 513"):

@@ -1,5 +1,6 @@
 //! What is told of a command before it is carried out: what it lacks, and the notes on what it brings.
 
+use crate::attention::Attention;
 use rv_access::Change;
 use rv_advice::{change_advice, ticks_advice, word_advice};
 use rv_fault::text_unit;
@@ -25,6 +26,14 @@ fn tell<E: Write>(note: Result<Option<String>, AllocError>, errors: &mut E) {
     }
 }
 
+/// Whether a line that is no command begins with a word that a console takes alone: notes say so, and no explanation does.
+pub(crate) fn is_of_console(line: &str) -> bool {
+    match next_word(line) {
+        Some((word, _)) => word == "help" || word == "list" || word == "status",
+        None => false,
+    }
+}
+
 // Tells who takes the first word of a line that is no command.
 fn tell_word<E: Write>(alloc: Global, line: &str, has_console: bool, errors: &mut E) {
     if let Some((word, _)) = next_word(line) {
@@ -32,17 +41,20 @@ fn tell_word<E: Write>(alloc: Global, line: &str, has_console: bool, errors: &mu
     }
 }
 
-/// Tells what a command line that was read so lacks whatever the host is at: how many ticks go by at once, or a console.
+/// Tells what a command line that was read so lacks whatever the host is at: how many ticks go by at once, a console, or, where no
+/// explanation says it, what its word takes.
 pub(crate) fn tell_plain<E: Write>(
     alloc: Global,
+    asked: &Attention,
     line: &str,
     read: &Result<Order, StepError>,
-    has_console: bool,
     errors: &mut E,
 ) {
     match read {
         Ok(Order::Tick(ticks)) => tell(ticks_advice(alloc, *ticks), errors),
-        Err(StepError::BadStep) => tell_word(alloc, line, has_console, errors),
+        Err(StepError::BadStep) if !asked.explains || is_of_console(line) => {
+            tell_word(alloc, line, asked.console.is_some(), errors)
+        }
         _ => {}
     }
 }

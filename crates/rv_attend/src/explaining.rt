@@ -38,12 +38,7 @@ fn fault_of(read: &Result<Order, StepError>) -> Option<What> {
 }
 
 // Tells a fault with what it means, where there is memory for the words.
-fn tell<E: Write>(
-    alloc: Global,
-    fault: ScriptFault,
-    explanation: Explanation<'_>,
-    errors: &mut E,
-) {
+fn tell<E: Write>(alloc: Global, fault: ScriptFault, explanation: Explanation<'_>, errors: &mut E) {
     if let Ok(text) = format!(in alloc; "{fault}\n{explanation}") {
         let _ = say(errors, text.as_str());
     }

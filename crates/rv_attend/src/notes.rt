@@ -3,7 +3,7 @@
 ghost use Rattle.std.specs.Prelude.{◌≡◌};
 ghost use Rattle.rv_attend.specs.Chores.{Chores};
 
-use crate::advising::{is_told_over, tell_over, tell_plain};
+use crate::advising::{is_of_console, is_told_over, tell_over, tell_plain};
 use crate::attention::Attention;
 use crate::follower::Follower;
 use crate::viewing::view_of;
@@ -47,7 +47,7 @@ fn tell_command<T: Wait, E: Write>(
     ensures chores { Chores session.old.staff.control session.new.staff.control }
     ensures crew { session.new.staff.crew ≡ session.old.staff.crew }
 {
-    tell_plain(session.alloc, line, read, asked.console.is_some(), errors);
+    tell_plain(session.alloc, asked, line, read, errors);
     match read {
         Ok(order) if is_told_over(order) => {
             let alloc = session.alloc;
@@ -76,7 +76,12 @@ fn tell_if<T: Wait, E: Write>(
     }
 }
 
-// Explains what stands against a command, where that is asked for.
+// Whether notes say of a command line that was read so all that is wrong with it.
+fn is_noted(asked: &Attention, line: &str, read: &Result<Order, StepError>) -> bool {
+    asked.tells && matches!(read, Err(StepError::BadStep)) && is_of_console(line)
+}
+
+// Explains what stands against a command, where that is asked for; what notes say isn't said again.
 fn explain_if<E: Write, T, F>(
     follower: &mut Follower<'_, T, F>,
     input: &Input,
@@ -89,7 +94,12 @@ fn explain_if<E: Write, T, F>(
     ensures room { follower.new.room ≡ follower.old.room }
     ensures source { follower.new.source ≡ follower.old.source }
 {
-    if follower.asked.explains {
+    if !follower.asked.explains {
+        return;
+    }
+    if is_noted(&follower.asked, line, read) {
+        follower.given.keep_line(line);
+    } else {
         follower.given.explain(line, read, input.ahead(), errors);
     }
 }
