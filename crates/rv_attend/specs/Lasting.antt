@@ -7,7 +7,8 @@ use Rattle.rv_input.specs.Coming.{Reading}
 use Rattle.rv_keep.specs.Keeping.{Known}
 use Rattle.rv_staff.specs.Staffs.{Staffed}
 use Rattle.rv_attend.specs.Chores.{Chores}
-use Rattle.rv_attend.specs.Going.{CommandComes, HaltIsDue, Terms}
+use Rattle.rv_attend.specs.Going.{CommandComes, HaltIsDue, Terms, terms}
+use Rattle.rv_attend.specs.declared.follower.Follower.{Follower}
 use Rattle.rv_attend.specs.KeepingRuns.{KeepsOn}
 use Rattle.rv_run.specs.declared.command.Goes.{Goes}
 use Rattle.rv_run.specs.declared.command.Goes.TheVariants.{On, Out}
@@ -22,6 +23,11 @@ pub record State : Type 0 where
 
 abbrev pub at : Staffed → Known → ℕ → Terms → State
 at staff file next terms = record { staff = staff; file = file; next = next; terms = terms }
+
+-- the same of an operator and threads beside a follower, by what its file has
+module _ {T F : Type 0} where
+  abbrev pub standing : (F → Known) → Staffed → Follower T F → State
+  standing contents staff follower = at staff (contents follower.keeper.file) follower.keeper.next (terms follower.asked follower.room.capacity)
 
 -- What stands in the file goes on with the journal, what the operator has seen grows, and the same is asked of the run.
 abbrev pub Lasts : {X : Type 0} → State → State → Result X KeptFailure → Type 0

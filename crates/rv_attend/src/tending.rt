@@ -5,8 +5,7 @@ ghost use Rattle.std.specs.Io.KnownBytes.{Keeps};
 ghost use Rattle.rv_follow.specs.Following.{Later};
 ghost use Rattle.rv_attend.specs.Attending.{Attends, Grows};
 ghost use Rattle.rv_attend.specs.Chores.{Chores};
-ghost use Rattle.rv_attend.specs.Going.{terms};
-ghost use Rattle.rv_attend.specs.Lasting.{GoesFor, Tends, at};
+ghost use Rattle.rv_attend.specs.Lasting.{GoesFor, Tends, standing};
 ghost use Rattle.rv_feed.specs.Hearing.{HearsOn, heard, told};
 ghost use Rattle.rv_run.specs.Staging.{stage};
 ghost use Rattle.rv_staff.specs.Saying.{Known};
@@ -50,12 +49,12 @@ fn wait_prompted<T: Wait + Clock, W: Write, E: Write, F: Write>(
     input: &mut Input,
     outputs: &mut Outputs<W, E>,
 ) -> Result<Goes, KeptFailure>
-    ensures tends { Tends (at session.old.staff (F.contents follower.old.keeper.file) follower.old.keeper.next (terms follower.old.asked follower.old.room.capacity))
-        (at session.new.staff (F.contents follower.new.keeper.file) follower.new.keeper.next (terms follower.new.asked follower.new.room.capacity)) result }
+    ensures tends { Tends (standing F.contents session.old.staff follower.old)
+        (standing F.contents session.new.staff follower.new) result }
     ensures grows { Grows input.old input.new }
     ensures hears { IfOk result (λ _. HearsOn (heard follower.old.source.feed) (heard follower.new.source.feed) input.old input.new) }
-    ensures goes { IfOk result (GoesFor (at session.old.staff (F.contents follower.old.keeper.file) follower.old.keeper.next (terms follower.old.asked follower.old.room.capacity))
-        (at session.new.staff (F.contents follower.new.keeper.file) follower.new.keeper.next (terms follower.new.asked follower.new.room.capacity)) input.new (heard follower.new.source.feed) (told follower.new.source.stop)) }
+    ensures goes { IfOk result (GoesFor (standing F.contents session.old.staff follower.old)
+        (standing F.contents session.new.staff follower.new) input.new (heard follower.new.source.feed) (told follower.new.source.stop)) }
     ensures silent { follower.old.asked.console ≡ None → W.contents outputs.new.writer ≡ W.contents outputs.old.writer }
 {
     match wait_caught_up(rt, session, follower, input, &mut outputs.errors) {
@@ -76,13 +75,13 @@ pub(crate) fn attend<T: Wait + Clock, W: Write, E: Write, F: Write>(
     input: &mut Input,
     outputs: &mut Outputs<W, E>,
 ) -> Result<Goes, KeptFailure>
-    ensures tends { Tends (at session.old.staff (F.contents follower.old.keeper.file) follower.old.keeper.next (terms follower.old.asked follower.old.room.capacity))
-        (at session.new.staff (F.contents follower.new.keeper.file) follower.new.keeper.next (terms follower.new.asked follower.new.room.capacity)) result }
+    ensures tends { Tends (standing F.contents session.old.staff follower.old)
+        (standing F.contents session.new.staff follower.new) result }
     ensures attends { (left : Known) → follower.old.asked.console ≡ None
         → Attends (stage session.old.staff (W.contents outputs.old.writer) input.old left) (stage session.new.staff (W.contents outputs.new.writer) input.new left) }
     ensures hears { IfOk result (λ _. HearsOn (heard follower.old.source.feed) (heard follower.new.source.feed) input.old input.new) }
-    ensures goes { IfOk result (GoesFor (at session.old.staff (F.contents follower.old.keeper.file) follower.old.keeper.next (terms follower.old.asked follower.old.room.capacity))
-        (at session.new.staff (F.contents follower.new.keeper.file) follower.new.keeper.next (terms follower.new.asked follower.new.room.capacity)) input.new (heard follower.new.source.feed) (told follower.new.source.stop)) }
+    ensures goes { IfOk result (GoesFor (standing F.contents session.old.staff follower.old)
+        (standing F.contents session.new.staff follower.new) input.new (heard follower.new.source.feed) (told follower.new.source.stop)) }
 {
     match do_chores(rt, session, follower, &mut outputs.errors) {
         Ok(round) => match hand_on(&follower.asked, round.goes, &mut outputs.writer) {

@@ -2,8 +2,8 @@
 
 ghost use Rattle.std.specs.Prelude.{◌≡◌, ◌⊎◌, IfOk, IfSome};
 ghost use Rattle.rv_attend.specs.Attending.{Grows};
-ghost use Rattle.rv_attend.specs.Going.{CommandComes, UnlessStopped, terms};
-ghost use Rattle.rv_attend.specs.Lasting.{GoesFor, Halts, Tends, at};
+ghost use Rattle.rv_attend.specs.Going.{CommandComes, UnlessStopped};
+ghost use Rattle.rv_attend.specs.Lasting.{GoesFor, Halts, Tends, standing};
 ghost use Rattle.rv_attend.specs.declared.waiting.Heard.TheVariants.{Command};
 ghost use Rattle.rv_feed.specs.Hearing.{HearsOn, IsStopped, heard, told};
 ghost use Rattle.rv_feed.specs.declared.feed.Came.TheVariants.{Over};
@@ -126,11 +126,11 @@ fn do_once<T: Wait + Clock, E: Write, F: Write>(
     errors: &mut E,
     millis: &mut u64,
 ) -> Result<Option<Goes>, KeptFailure>
-    ensures tends { Tends (at session.old.staff (F.contents follower.old.keeper.file) follower.old.keeper.next (terms follower.old.asked follower.old.room.capacity))
-        (at session.new.staff (F.contents follower.new.keeper.file) follower.new.keeper.next (terms follower.new.asked follower.new.room.capacity)) result }
+    ensures tends { Tends (standing F.contents session.old.staff follower.old)
+        (standing F.contents session.new.staff follower.new) result }
     ensures feed { follower.new.source.feed ≡ follower.old.source.feed }
-    ensures ends { IfOk result (λ goes. IfSome goes (λ ends. (ends ≡ Out) × (Halts (at session.old.staff (F.contents follower.old.keeper.file) follower.old.keeper.next (terms follower.old.asked follower.old.room.capacity))
-        (at session.new.staff (F.contents follower.new.keeper.file) follower.new.keeper.next (terms follower.new.asked follower.new.room.capacity)) ⊎ IsStopped (told follower.new.source.stop)))) }
+    ensures ends { IfOk result (λ goes. IfSome goes (λ ends. (ends ≡ Out) × (Halts (standing F.contents session.old.staff follower.old)
+        (standing F.contents session.new.staff follower.new) ⊎ IsStopped (told follower.new.source.stop)))) }
 {
     match do_round(rt, session, follower, errors) {
         Ok(round) => {
@@ -183,12 +183,12 @@ fn wait_once<T: Wait + Clock, E: Write, F: Write>(
     errors: &mut E,
     millis: &mut u64,
 ) -> Result<Option<Goes>, KeptFailure>
-    ensures tends { Tends (at session.old.staff (F.contents follower.old.keeper.file) follower.old.keeper.next (terms follower.old.asked follower.old.room.capacity))
-        (at session.new.staff (F.contents follower.new.keeper.file) follower.new.keeper.next (terms follower.new.asked follower.new.room.capacity)) result }
+    ensures tends { Tends (standing F.contents session.old.staff follower.old)
+        (standing F.contents session.new.staff follower.new) result }
     ensures grows { Grows input.old input.new }
     ensures hears { IfOk result (λ _. HearsOn (heard follower.old.source.feed) (heard follower.new.source.feed) input.old input.new) }
-    ensures goes { IfOk result (λ goes. IfSome goes (GoesFor (at session.old.staff (F.contents follower.old.keeper.file) follower.old.keeper.next (terms follower.old.asked follower.old.room.capacity))
-        (at session.new.staff (F.contents follower.new.keeper.file) follower.new.keeper.next (terms follower.new.asked follower.new.room.capacity)) input.new (heard follower.new.source.feed) (told follower.new.source.stop))) }
+    ensures goes { IfOk result (λ goes. IfSome goes (GoesFor (standing F.contents session.old.staff follower.old)
+        (standing F.contents session.new.staff follower.new) input.new (heard follower.new.source.feed) (told follower.new.source.stop))) }
 {
     let most = next_wait(rt, &follower.pace, *millis);
     match hear(&mut follower.source, input, most) {
@@ -220,12 +220,12 @@ pub(crate) fn wait_command<T: Wait + Clock, E: Write, F: Write>(
     input: &mut Input,
     errors: &mut E,
 ) -> Result<Goes, KeptFailure>
-    ensures tends { Tends (at session.old.staff (F.contents follower.old.keeper.file) follower.old.keeper.next (terms follower.old.asked follower.old.room.capacity))
-        (at session.new.staff (F.contents follower.new.keeper.file) follower.new.keeper.next (terms follower.new.asked follower.new.room.capacity)) result }
+    ensures tends { Tends (standing F.contents session.old.staff follower.old)
+        (standing F.contents session.new.staff follower.new) result }
     ensures grows { Grows input.old input.new }
     ensures hears { IfOk result (λ _. HearsOn (heard follower.old.source.feed) (heard follower.new.source.feed) input.old input.new) }
-    ensures goes { IfOk result (GoesFor (at session.old.staff (F.contents follower.old.keeper.file) follower.old.keeper.next (terms follower.old.asked follower.old.room.capacity))
-        (at session.new.staff (F.contents follower.new.keeper.file) follower.new.keeper.next (terms follower.new.asked follower.new.room.capacity)) input.new (heard follower.new.source.feed) (told follower.new.source.stop)) }
+    ensures goes { IfOk result (GoesFor (standing F.contents session.old.staff follower.old)
+        (standing F.contents session.new.staff follower.new) input.new (heard follower.new.source.feed) (told follower.new.source.stop)) }
 {
     if has_command(input) {
         return Ok(unless_stopped(&mut follower.source, Goes::On));
@@ -250,12 +250,12 @@ pub(crate) fn wait_caught_up<T: Wait + Clock, E: Write, F: Write>(
     input: &mut Input,
     errors: &mut E,
 ) -> Result<Goes, KeptFailure>
-    ensures tends { Tends (at session.old.staff (F.contents follower.old.keeper.file) follower.old.keeper.next (terms follower.old.asked follower.old.room.capacity))
-        (at session.new.staff (F.contents follower.new.keeper.file) follower.new.keeper.next (terms follower.new.asked follower.new.room.capacity)) result }
+    ensures tends { Tends (standing F.contents session.old.staff follower.old)
+        (standing F.contents session.new.staff follower.new) result }
     ensures grows { Grows input.old input.new }
     ensures hears { IfOk result (λ _. HearsOn (heard follower.old.source.feed) (heard follower.new.source.feed) input.old input.new) }
-    ensures goes { IfOk result (GoesFor (at session.old.staff (F.contents follower.old.keeper.file) follower.old.keeper.next (terms follower.old.asked follower.old.room.capacity))
-        (at session.new.staff (F.contents follower.new.keeper.file) follower.new.keeper.next (terms follower.new.asked follower.new.room.capacity)) input.new (heard follower.new.source.feed) (told follower.new.source.stop)) }
+    ensures goes { IfOk result (GoesFor (standing F.contents session.old.staff follower.old)
+        (standing F.contents session.new.staff follower.new) input.new (heard follower.new.source.feed) (told follower.new.source.stop)) }
 {
     match wait_command(rt, session, follower, input, errors) {
         Ok(Goes::On) if follower.asked.console.is_some() => {

@@ -4,8 +4,8 @@ use Rattle.rv_feed.specs.Hearing.{HearsOn, heard, told}
 use Rattle.rv_feed.specs.declared.pair.Feed.{Feed}
 use Rattle.rv_feed.proofs.Heard.{hears_none}
 use Rattle.rv_run.specs.declared.command.Goes.TheVariants.{Out}
-use Rattle.rv_attend.specs.Going.{Terms, terms}
-use Rattle.rv_attend.specs.Lasting.{at}
+use Rattle.rv_attend.specs.Going.{Terms}
+use Rattle.rv_attend.specs.Lasting.{standing}
 use Rattle.rv_attend.proofs.Attended.{attends, grows_same, keeps_silent}
 use Rattle.rv_attend.proofs.Chores.{chores_on}
 use Rattle.rv_attend.proofs.GoingOn.{goes_after, if_ok}
@@ -50,9 +50,9 @@ pub returns-in-On-clause-goes : goal.returns-in-On-clause-goes
 returns-in-On-clause-goes g c =
     if_ok c.wait_prompted.result _ _
     (λ goes why.
-    goes_after (at c.args.session.now.staff (g.F.Write.contents c.args.follower.now.keeper.file) c.args.follower.now.keeper.next (terms c.args.follower.now.asked c.args.follower.now.room.capacity))
-    (at c.do_chores.new.session.staff (g.F.Write.contents c.do_chores.new.follower.keeper.file) c.do_chores.new.follower.keeper.next (terms c.do_chores.new.follower.asked c.do_chores.new.follower.room.capacity))
-    (at c.wait_prompted.new.session.staff (g.F.Write.contents c.wait_prompted.new.follower.keeper.file) c.wait_prompted.new.follower.keeper.next (terms c.wait_prompted.new.follower.asked c.wait_prompted.new.follower.room.capacity)) c.wait_prompted.new.input
+    goes_after (standing g.F.Write.contents c.args.session.now.staff c.args.follower.now)
+    (standing g.F.Write.contents c.do_chores.new.session.staff c.do_chores.new.follower)
+    (standing g.F.Write.contents c.wait_prompted.new.session.staff c.wait_prompted.new.follower) c.wait_prompted.new.input
     (heard c.wait_prompted.new.follower.source.feed) (told c.wait_prompted.new.follower.source.stop) goes c.do_chores.ensures.tends.1 why)
     c.wait_prompted.ensures.goes
 

@@ -1,8 +1,7 @@
 use Rattle.std.proofs.Common.{◌∙◌, refl, sym, ap, subst}
 use Rattle.rv_feed.specs.Hearing.{HearsOn, heard, told}
 use Rattle.rv_feed.specs.declared.pair.Feed.{Feed}
-use Rattle.rv_attend.specs.Going.{terms}
-use Rattle.rv_attend.specs.Lasting.{at}
+use Rattle.rv_attend.specs.Lasting.{standing}
 use Rattle.rv_attend.proofs.Chores.{chores_on}
 use Rattle.rv_attend.proofs.GoingOn.{caught_up}
 use Rattle.rv_attend.proofs.waiting.wait_caught_up.Goals as goal
@@ -22,9 +21,9 @@ returns-in-Ok-clause-hears g c =
 
 pub returns-in-Ok-clause-goes : goal.returns-in-Ok-clause-goes
 returns-in-Ok-clause-goes g c =
-    caught_up (at c.args.session.now.staff (g.F.Write.contents c.args.follower.now.keeper.file) c.args.follower.now.keeper.next (terms c.args.follower.now.asked c.args.follower.now.room.capacity))
-    (at c.wait_command.new.session.staff (g.F.Write.contents c.wait_command.new.follower.keeper.file) c.wait_command.new.follower.keeper.next (terms c.wait_command.new.follower.asked c.wait_command.new.follower.room.capacity))
-    (at c.do_chores.new.session.staff (g.F.Write.contents c.do_chores.new.follower.keeper.file) c.do_chores.new.follower.keeper.next (terms c.do_chores.new.follower.asked c.do_chores.new.follower.room.capacity)) c.wait_command.new.input
+    caught_up (standing g.F.Write.contents c.args.session.now.staff c.args.follower.now)
+    (standing g.F.Write.contents c.wait_command.new.session.staff c.wait_command.new.follower)
+    (standing g.F.Write.contents c.do_chores.new.session.staff c.do_chores.new.follower) c.wait_command.new.input
     (heard c.wait_command.new.follower.source.feed) (heard c.do_chores.new.follower.source.feed) (told c.do_chores.new.follower.source.stop) c.in-Ok.round.goes
     c.wait_command.ensures.tends.1 (ap heard c.do_chores.ensures.feed) (rw c.in-Ok-On.field-0-is at c.in-Ok-On.ensures.goes) c.in-Ok.ensures.ends
 

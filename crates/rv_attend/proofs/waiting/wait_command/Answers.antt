@@ -3,8 +3,7 @@ use Rattle.rv_feed.specs.Hearing.{HearsOn, heard, told}
 use Rattle.rv_feed.specs.declared.pair.Feed.{Feed}
 use Rattle.rv_feed.proofs.Heard.{hears_none, hears_on}
 use Rattle.rv_input.specs.Whole.{HasCommand}
-use Rattle.rv_attend.specs.Going.{terms}
-use Rattle.rv_attend.specs.Lasting.{at}
+use Rattle.rv_attend.specs.Lasting.{standing}
 use Rattle.rv_attend.proofs.Attended.{grows_on, grows_same}
 use Rattle.rv_attend.proofs.Chores.{chores_on, no_chores}
 use Rattle.rv_attend.proofs.GoingOn.{goes_after, goes_unless, goes_with}
@@ -22,8 +21,8 @@ returns-then-has_command-clause-hears g c = hears_none _ _ _ _ (ap heard c.unles
 pub returns-then-has_command-clause-goes : goal.returns-then-has_command-clause-goes
 returns-then-has_command-clause-goes g c =
     let has : HasCommand c.args.input.now = search rules in
-    goes_with (at c.args.session.now.staff (g.F.Write.contents c.args.follower.now.keeper.file) c.args.follower.now.keeper.next (terms c.args.follower.now.asked c.args.follower.now.room.capacity))
-    (at c.args.session.now.staff (g.F.Write.contents c.args.follower.now.keeper.file) c.args.follower.now.keeper.next (terms c.args.follower.now.asked c.args.follower.now.room.capacity)) c.args.input.now
+    goes_with (standing g.F.Write.contents c.args.session.now.staff c.args.follower.now)
+    (standing g.F.Write.contents c.args.session.now.staff c.args.follower.now) c.args.input.now
     (heard c.unless_stopped.new.source.feed) (told c.args.follower.now.source.stop) (told c.unless_stopped.new.source.stop) c.unless_stopped.result
     c.unless_stopped.ensures.goes has
 
@@ -60,14 +59,14 @@ returns-in-Ok-Some-clause-hears g c =
 
 pub returns-in-Ok-Some-clause-goes : goal.returns-in-Ok-Some-clause-goes
 returns-in-Ok-Some-clause-goes g c =
-    goes_unless (at c.args.session.now.staff (g.F.Write.contents c.args.follower.now.keeper.file) c.args.follower.now.keeper.next (terms c.args.follower.now.asked c.args.follower.now.room.capacity))
-    (at c.wait_once.new.session.staff (g.F.Write.contents c.wait_once.new.follower.keeper.file) c.wait_once.new.follower.keeper.next (terms c.wait_once.new.follower.asked c.wait_once.new.follower.room.capacity)) c.wait_once.new.input
+    goes_unless (standing g.F.Write.contents c.args.session.now.staff c.args.follower.now)
+    (standing g.F.Write.contents c.wait_once.new.session.staff c.wait_once.new.follower) c.wait_once.new.input
     (heard c.wait_once.new.follower.source.feed) (heard c.unless_stopped-in-Ok-Some.new.source.feed) (told c.wait_once.new.follower.source.stop)
     (told c.unless_stopped-in-Ok-Some.new.source.stop) c.in-Ok-Some.goes c.unless_stopped-in-Ok-Some.result (ap heard c.unless_stopped-in-Ok-Some.ensures.feed)
     c.unless_stopped-in-Ok-Some.ensures.goes
-    (goes_after (at c.args.session.now.staff (g.F.Write.contents c.args.follower.now.keeper.file) c.args.follower.now.keeper.next (terms c.args.follower.now.asked c.args.follower.now.room.capacity))
-    (at c.loop.session.staff (g.F.Write.contents c.loop.follower.keeper.file) c.loop.follower.keeper.next (terms c.loop.follower.asked c.loop.follower.room.capacity))
-    (at c.wait_once.new.session.staff (g.F.Write.contents c.wait_once.new.follower.keeper.file) c.wait_once.new.follower.keeper.next (terms c.wait_once.new.follower.asked c.wait_once.new.follower.room.capacity)) c.wait_once.new.input
+    (goes_after (standing g.F.Write.contents c.args.session.now.staff c.args.follower.now)
+    (standing g.F.Write.contents c.loop.session.staff c.loop.follower)
+    (standing g.F.Write.contents c.wait_once.new.session.staff c.wait_once.new.follower) c.wait_once.new.input
     (heard c.wait_once.new.follower.source.feed) (told c.wait_once.new.follower.source.stop) c.in-Ok-Some.goes c.loop.invariant.tends.1
     (rw c.in-Ok-Some.field-0-is at c.in-Ok-Some.ensures.goes))
 

@@ -1,14 +1,13 @@
 use Rattle.std.specs.Prelude.{Ok}
 use Rattle.rv_feed.specs.Hearing.{HearsOn, heard}
 use Rattle.rv_attend.specs.Attending.{Grows}
-use Rattle.rv_attend.specs.Going.{terms}
-use Rattle.rv_attend.specs.Lasting.{Tends, at}
+use Rattle.rv_attend.specs.Lasting.{Tends, standing}
 use Rattle.rv_attend.proofs.waiting.wait_command.Given as goal
 
 abbrev pub invariant-loop : goal.invariant-loop
 invariant-loop g l = record {
-  tends : Tends {X = Unit {0}} (at l.fn.session.staff (g.F.Write.contents l.fn.follower.keeper.file) l.fn.follower.keeper.next (terms l.fn.follower.asked l.fn.follower.room.capacity))
-      (at l.session.staff (g.F.Write.contents l.follower.keeper.file) l.follower.keeper.next (terms l.follower.asked l.follower.room.capacity)) (Ok tt);
+  tends : Tends {X = Unit {0}} (standing g.F.Write.contents l.fn.session.staff l.fn.follower)
+      (standing g.F.Write.contents l.session.staff l.follower) (Ok tt);
   grows : Grows l.fn.input l.input;
   hears : HearsOn (heard l.fn.follower.source.feed) (heard l.follower.source.feed) l.fn.input l.input;
 }
