@@ -7,9 +7,10 @@ A script from FILE is as from standard input: of rows and examples, for each sub
 standard input. A FILE that can't be opened or read is named, with status 4. `run FILE` serves the commands that FILE has, and then
 those of standard input; where FILE has no line `@run`, nothing of standard input. Each flag that is given wrongly is named with its
 word and what it takes, the first of several in the order of the contracts. `manual` prints what `help` does, on standard output, and
-that is what stands in crates/ravenhost/usage.
+that is what stands in crates/ravenhost/usage. At a terminal and elsewhere a fault is explained, and notes are told, as the flags say.
 """
 import os
+import pty
 import subprocess
 import sys
 import tempfile
@@ -55,6 +56,18 @@ class Asked:
     def start(self, *words: str, given: bytes = b"") -> Told:
         done = subprocess.run([str(self.program), *words], input=given, capture_output=True, cwd=self.folder, timeout=SECONDS, check=False)
         return Told(done.returncode, done.stdout, done.stderr)
+
+    def at_terminal(self, *words: str, given: bytes = b"") -> bytes:
+        """What a start tells where its standard error is a terminal."""
+        near, far = pty.openpty()
+        subprocess.run([str(self.program), *words], input=given, stdout=subprocess.DEVNULL, stderr=far, cwd=self.folder, timeout=SECONDS, check=False)
+        os.close(far)
+        try:
+            told = os.read(near, 65536)
+        except OSError:  # (nothing was told)
+            told = b""
+        os.close(near)
+        return told.replace(b"\r\n", b"\n")
 
     def due(self, name: str, seen: object, wanted: object) -> None:
         self.parts += 1
@@ -162,7 +175,7 @@ def misuses(asked: Asked) -> None:
             is_told(said, "run", f"{flag}={word}", *beside)
             if not word.startswith("-"):
                 is_told(said, "run", flag, word, *beside)
-    for command in ("play", "check", "run"):
+    for command in ("play", "check", "run", "audit"):
         is_told("invalid value 'x' for '--notes <WHEN>': auto, always or never", command, "--notes", "x")
     for command in ("play", "check", "run", "audit"):
         is_told("invalid value 'blue' for '--color <WHEN>': auto, always or never", command, "--color", "blue")
@@ -204,6 +217,37 @@ def manuals(asked: Asked) -> None:
     asked.due("no subcommand", (none.status, none.out, none.err), (2, b"", (USAGE / "none").read_bytes()))
 
 
+# What says when a fault is explained: always, never, or as the terminal has it.
+ALWAYS = (("--explain",), ("--explain", "--notes", "never"), ("--explain", "--notes", "always"))
+NEVER = (("--no-explain",), ("--no-explain", "--explain"), ("--no-explain", "--notes", "always"), ("--notes", "never"))
+BY_TERMINAL = ((), ("--notes", "auto"), ("--notes", "always"))
+
+
+def explanations(asked: Asked) -> None:
+    """When faults are explained, and when notes of an audit are told."""
+    faulty = b"@list\nalow * * *\n"
+    fault = b"script line 1: list BadWord at line 1\n"
+    explained = fault + b" --> 2:1\n"
+
+    def is_as(what: str, told: bytes, is_explained: bool) -> None:
+        asked.due(what, told.startswith(explained) if is_explained else told == fault, True)
+
+    for command in ("play", "check", "run"):
+        for flags, at_terminal, elsewhere in ((ALWAYS, True, True), (NEVER, False, False), (BY_TERMINAL, True, False)):
+            for words in flags:
+                given = (command, *words, "--color", "never")
+                is_as(f"{given} at a terminal", asked.at_terminal(*given, given=faulty), at_terminal)
+                is_as(f"{given} elsewhere", asked.start(*given, given=faulty).err, elsewhere)
+    unreadable = b"@journal\n1 nonsense\n"
+    for words, at_terminal, elsewhere in (((), True, False), (("--notes", "auto"), True, False), (("--notes", "always"), True, True),
+                                          (("--notes", "never"), False, False)):
+        given = ("audit", *words, "--color", "never")
+        is_as(f"{given} of a faulty script at a terminal", asked.at_terminal(*given, given=faulty), at_terminal)
+        is_as(f"{given} of a faulty script elsewhere", asked.start(*given, given=faulty).err, elsewhere)
+        asked.due(f"{given} of a journal at a terminal", asked.at_terminal(*given, given=unreadable).startswith(b"note: line 1: "), at_terminal)
+        asked.due(f"{given} of a journal elsewhere", asked.start(*given, given=unreadable).err.startswith(b"note: line 1: "), elsewhere)
+
+
 def main() -> int:
     out = TOP / "crates" / "ravenhost" / "out"
     programs = [Path(word) for word in sys.argv[1:]] or [place for place in (out / "ravenhost", out / "trial" / "ravenhost") if place.exists()][:1]
@@ -212,7 +256,7 @@ def main() -> int:
         return 2
     faults = 0
     os.environ.pop("NO_COLOR", None)
-    for part in (files, journals, not_read, runs, misuses, manuals):
+    for part in (files, journals, not_read, runs, misuses, manuals, explanations):
         with tempfile.TemporaryDirectory() as folder:
             asked = Asked(programs[0].resolve(), Path(folder))
             part(asked)
