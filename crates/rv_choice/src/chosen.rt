@@ -1,6 +1,6 @@
 //! What the words of a command line choose.
 
-ghost use Rattle.std.specs.Prelude.{◌≡◌, ◌∷◌, List, true, Some, None, IfSome, IfNone, IfOk, IfErr, codes, map, option_map};
+ghost use Rattle.std.specs.Prelude.{◌≡◌, ◌∷◌, List, false, true, Some, None, IfSome, IfNone, IfOk, IfErr, codes, map, option_map};
 ghost use Rattle.clap.specs.Words.{subcommand_rows_of, takes};
 ghost use Rattle.clap.specs.Matches.{found_of};
 ghost use Rattle.clap.specs.Walk.{Row, Text, first_of, one_of, rows_of};

@@ -61,11 +61,11 @@ returns-clause-ok c =
     (sym (c.get_str-journal.ensures ∙ first_value-rows given (codes "journal"))) in (
       named.0,
       named.1,
-      by_audit found c.in-Ok.choice (λ (it : Choice). IsNoted found it c.in-Ok-shown_of.notes false) refl named.0 (c.in-Ok-shown_of.ensures.notes, refl) (λ t. (c.in-Ok-shown_of.ensures.notes, refl)),
-      by_audit found c.in-Ok.choice (λ (it : Choice). IsExplaining found it c.in-Ok-shown_of.notes) refl named.0 c.in-Ok-shown_of.ensures.notes (λ t. c.in-Ok-shown_of.ensures.notes),
+      by_audit found c.in-Ok.choice (λ (it : Choice). IsNoted found it c.in-Ok-shown_of.shown.0 false) refl named.0 (c.in-Ok-shown_of.ensures.notes, refl) (λ t. (c.in-Ok-shown_of.ensures.notes, refl)),
+      by_audit found c.in-Ok.choice (λ (it : Choice). IsExplaining found it c.in-Ok-shown_of.shown.0) refl named.0 c.in-Ok-shown_of.ensures.notes (λ t. c.in-Ok-shown_of.ensures.notes),
       by_audit found c.in-Ok.choice (λ (it : Choice). ExplainsEnds found it c.get_flag-2.result) refl named.0 explains (λ t. explains),
       by_audit found c.in-Ok.choice (λ (it : Choice). IsRunning found it no_run) refl named.0 refl (λ t. refl),
-      by_audit found c.in-Ok.choice (λ (it : Choice). IsColored found it c.in-Ok-shown_of.color) refl named.0 c.in-Ok-shown_of.ensures.color (λ t. c.in-Ok-shown_of.ensures.color),
+      by_audit found c.in-Ok.choice (λ (it : Choice). IsColored found it c.in-Ok-shown_of.shown.1) refl named.0 c.in-Ok-shown_of.ensures.color (λ t. c.in-Ok-shown_of.ensures.color),
       by_audit found c.in-Ok.choice (λ (it : Choice). IsScript found it (option_map (λ n. n.now) c.script_of.result)) refl named.0 c.script_of.ensures (λ t. c.script_of.ensures),
       by_audit found c.in-Ok.choice (λ (it : Choice). IsSubject found it None) refl named.0 refl (λ t. refl),
     )
