@@ -8,7 +8,7 @@ use Rattle.rv_choice.specs.declared.misuse.Misuse.{Misuse}
 use Rattle.rv_choice.specs.declared.selection.Choice.{Choice}
 use Rattle.rv_choice.specs.declared.selection.Choice.TheVariants.{Play, Check, Run, Audit, AuditFile, Manual}
 use Rattle.rv_choice.specs.declared.selection.Selection.{Selection}
-use Rattle.rv_choice.specs.Choices.{IsFlag, IsJournal, IsSelected, IsSelection, IsUnnamed, IsWrong, Names, Wrong, audit_of, line_of, or_else, program, run_wrong, script_wrong, torn_wrong, wrong_in}
+use Rattle.rv_choice.specs.Choices.{IsAuditWrong, IsFlag, IsJournal, IsSelected, IsSelection, IsUnnamed, IsWrong, Names, Wrong, audit_of, line_of, or_else, program, run_wrong, script_wrong, torn_wrong, wrong_in}
 
 -- The plain lines.
 
@@ -320,3 +320,7 @@ check_wrongs rows wrong e =
 pub run_wrongs : (rows : List Row) (wrong : Option Wrong) → wrong ≡ run_wrong rows → IsWrong (codes "run", rows) wrong
 run_wrongs rows wrong e =
     (λ w. absurd (play_no_run (sym w)), λ w. absurd (check_no_run (sym w)), λ _. e, λ w. absurd (run_no_audit w), λ w. absurd (run_no_manual w))
+
+pub audit_wrongs : (rows : List Row) (wrong : Option Wrong) → IsAuditWrong rows wrong → IsWrong (codes "audit", rows) wrong
+audit_wrongs rows wrong e =
+    (λ w. absurd (play_no_audit (sym w)), λ w. absurd (check_no_audit (sym w)), λ w. absurd (run_no_audit (sym w)), λ _. e, λ w. absurd (audit_no_manual w))
