@@ -17,12 +17,13 @@ use Rattle.rv_misfit.proofs.Options.{never, same}
 -- a name's number is one of those of a list of names
 number_within : (name : List ℕ) (n : ℕ) (names : List (List ℕ)) (k : ℕ) → number_from name n names ≡ Some k → (i : ℕ) × (k ≡ n + i) × (i < length names)
 number_within name n [] k e = never k e
-number_within name n (first ∷ names) k e = by_test (is_same_name name first) e
+number_within name n (first ∷ names) k e = by_test (is_same_name name first) (number_within name (n + 1) names k) e
   where
-    by_test : (b : Bool) → (if b then Some n else number_from name (n + 1) names) ≡ Some k → (i : ℕ) × (k ≡ n + i) × (i < length (first ∷ names))
-    by_test true f = let is = same n k f in (0, omega (arith, is), omega arith)
-    by_test false f =
-        let more = number_within name (n + 1) names k f in
+    by_test : (b : Bool) → (number_from name (n + 1) names ≡ Some k → (i : ℕ) × (k ≡ n + 1 + i) × (i < length names)) → (if b then Some n else number_from name (n + 1) names) ≡ Some k →
+        (i : ℕ) × (k ≡ n + i) × (i < length (first ∷ names))
+    by_test true behind f = let is = same n k f in (0, omega (arith, is), omega arith)
+    by_test false behind f =
+        let more = behind f in
         let is = more.1 in let less = more.2 in
         (suc more.0, omega (arith, is), omega (arith, less))
 
@@ -69,10 +70,11 @@ task_there shapes name actor e =
     let found = get_within (all_tasks shapes) k.0 (omega (arith, less, many)) in
     let high : (actor == 0) ≡ false = grind (arith, nat_tests, is) in
     let past : nat_lt actor 11 ≡ false = grind (arith, nat_tests, is) in
-    let back : actor - 11 ≡ k.0 = omega (arith, is) in
-    (found.0,
-    (λ i. if high i then Operator else (if past i then Line (actor - 1) else task_of (slice_get (all_tasks shapes) (actor - 11))))
-    ∙ ap (λ n. task_of (slice_get (all_tasks shapes) n)) back ∙ ap task_of found.1)
+    let back : actor - 11 ≡ k.0 = omega (arith, is) in (
+      found.0,
+      (λ i. if high i then Operator else (if past i then Line (actor - 1) else task_of (slice_get (all_tasks shapes) (actor - 11))))
+          ∙ ap (λ n. task_of (slice_get (all_tasks shapes) n)) back ∙ ap task_of found.1,
+    )
 
 -- a line
 pub line_there : (shapes : List Shape) (line : ℕ) → line ≤ 9 → who shapes (line + 1) ≡ Line (line + 1 - 1)

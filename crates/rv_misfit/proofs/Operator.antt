@@ -4,7 +4,7 @@ use Rattle.std.specs.Prelude.{length, ◌==◌, ◌&&◌, slice_get}
 use Rattle.std.specs.List.{filter}
 use Rattle.std.proofs.lemmas.Bool.{and_parts, false≢true}
 use Rattle.rv_access.specs.Words.{Words}
-use Rattle.rv_event.specs.Past.{held, mode, mode_by, or_else, or_settling, stance, stance_of, to_settle, under_way, unsettled}
+use Rattle.rv_event.specs.Past.{held, mode, mode_by, names, or_else, or_settling, stance, stance_of, to_settle, under_way, unsettled}
 use Rattle.rv_event.specs.Recorded.{recorded}
 use Rattle.rv_event.specs.declared.entry.Body.{Body}
 use Rattle.rv_event.specs.declared.entry.Entry.{Entry}
@@ -57,21 +57,20 @@ own_free h a Halt w is f = refl
 
 legal_free : (c : Limits) (past : List Entry) (shapes : List Shape) (lists : List (List Words)) → IsLegal c past shapes lists → stance 0 past ≡ Free
 legal_free c [] shapes lists l = refl
-legal_free c (Asked a r w ∷ past) shapes lists l = by_test (a == 0) refl
+legal_free c (Asked a r w ∷ past) shapes lists l = by_test (a == 0) (legal_free c past shapes lists l.0) refl
   where
     h : History
     h = record { limits = c; past = past; shapes = shapes; lists = lists }
 
-    before : stance 0 past ≡ Free
-    before = legal_free c past shapes lists l.0
+    unsaid_of : stance 0 past ≡ Free → names 0 (Asked a r w) ≡ false
+    unsaid_of before = unnamed h a r w 0 l.0 l.1 (ap is_queued before)
 
-    by_test : (b : Bool) → (a == 0) ≡ b → stance 0 (Asked a r w ∷ past) ≡ Free
-    by_test true own =
+    by_test : (b : Bool) → stance 0 past ≡ Free → (a == 0) ≡ b → stance 0 (Asked a r w ∷ past) ≡ Free
+    by_test true before own =
         let is : who shapes a ≡ Operator = ap (who shapes) (same_number a 0 own) in
         let left : stance_of (Asked a r w) ≡ Free = own_free h a r w is (answered h a r w l.1).fits_in in
-        ap (λ s. or_else s (stance 0 past)) (own_said 0 (Asked a r w) (unnamed h a r w 0 l.0 l.1 (ap is_queued before)) own) ∙ left
-    by_test false other =
-        ap (λ s. or_else s (stance 0 past)) (unsaid 0 (Asked a r w) (apart_of 0 (Asked a r w) other (unnamed h a r w 0 l.0 l.1 (ap is_queued before)))) ∙ before
+        ap (λ s. or_else s (stance 0 past)) (own_said 0 (Asked a r w) (unsaid_of before) own) ∙ left
+    by_test false before other = ap (λ s. or_else s (stance 0 past)) (unsaid 0 (Asked a r w) (apart_of 0 (Asked a r w) other (unsaid_of before))) ∙ before
 legal_free c (Load ∷ past) shapes lists l = legal_free c past l.0 lists l.3
 legal_free c (ListChange ∷ past) shapes lists l = legal_free c past shapes l.0 l.3
 

@@ -56,7 +56,7 @@ task_asks t u r = refl
 asks_alike : (asker : Asker) (w : Who) (r : Request) → IsLike asker w → may_ask w r ≡ may_ask (sort_of asker) r
 asks_alike Operator w r is = ap (λ v. may_ask v r) is
 asks_alike (Line line) w r is = ap (λ v. may_ask v r) is.1 ∙ line_asks is.0 line r
-asks_alike (Task name) w r is = ap (λ v. may_ask v r) is.1 ∙ task_asks is.0 _ r
+asks_alike (Task name) w r is = ap (λ v. may_ask v r) is.1 ∙ task_asks is.0 (record { unit = name.unit; task = record { name = name.name; priority = 0 } }) r
 
 aside : (h : History) (asker : Asker) (actor : ℕ) → mode h.shapes 0 h.past ≡ Modes.Idle → actor_of h.shapes asker ≡ Some actor → IsLike asker (who h.shapes actor) → IsAside h actor
 aside h Operator actor idle e is = record { idle = λ none. ap (λ n. mode h.shapes n h.past) (sym (same 0 actor e)) ∙ idle }

@@ -22,6 +22,22 @@ fn call_misfit(catalogue: &Catalogue, called: Called, values: &[i64]) -> Option<
     callee_misfit(called, &callee, values)
 }
 
+// Why the call that a request is never fits; of another request nothing is said.
+fn requested_misfit(catalogue: &Catalogue, request: &Option<Request>) -> Option<Misfit>
+    ensures { result ≡ named_misfit catalogue.now request.now }
+{
+    match request {
+        Some(Request::Call(object, operation, values)) => {
+            let called = Called {
+                object: *object,
+                operation: *operation,
+            };
+            call_misfit(catalogue, called, values.as_slice())
+        }
+        _ => None,
+    }
+}
+
 // Why the call that is asked for never fits, where what it names is loaded. Err where memory was refused.
 fn named_misfit(
     alloc: Global,
@@ -30,12 +46,9 @@ fn named_misfit(
 ) -> Result<Option<Misfit>, AllocError>
     ensures { IfOk result (λ found. found ≡ named_misfit catalogue.now (request_of catalogue.now asked.now)) }
 {
-    match request_of(alloc, catalogue, asked)? {
-        Some(Request::Call(object, operation, values)) => {
-            let called = Called { object, operation };
-            Ok(call_misfit(catalogue, called, values.as_slice()))
-        }
-        _ => Ok(None),
+    match request_of(alloc, catalogue, asked) {
+        Ok(request) => Ok(requested_misfit(catalogue, &request)),
+        Err(e) => Err(e),
     }
 }
 

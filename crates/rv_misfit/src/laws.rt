@@ -22,7 +22,6 @@ ghost use Rattle.rv_misfit.specs.Misfits.{misfit_of};
 ghost use Rattle.rv_misfit.specs.declared.misfit.Misfit.{Misfit};
 
 /// A request of which it is told fits its actor on no history over these units on which the operator is idle, legal or not.
-#[tactic(auto, using(crate::proofs::Told::told_unfit))]
 pub fn told_requests_never_fit()
     ensures { (h : History) (lines actor : ℕ) (step : StepWords) (request : Request) (misfit : Misfit) →
         mode h.shapes operator h.past ≡ Idle → IsAsked h.shapes step actor request →

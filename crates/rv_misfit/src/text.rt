@@ -1,7 +1,7 @@
 //! Why a step never fits, for people.
 
 ghost use Rattle.std.specs.Prelude.{◌≡◌, IfOk, string_bytes};
-ghost use Rattle.rv_shape.specs.Catalogue.{target};
+ghost use Rattle.rv_shape.specs.Catalogue.{dotted, target};
 ghost use Rattle.rv_shape.specs.Readers.{target_of};
 ghost use Rattle.rv_misfit.specs.Telling as says;
 
@@ -22,6 +22,13 @@ fn counted(alloc: Global, count: usize, noun: &str) -> Result<String, AllocError
     }
 }
 
+// An object of a unit, as `Unit.Object`. Err where memory was refused.
+fn object_text(alloc: Global, unit: &str, object: &str) -> Result<String, AllocError>
+    ensures { IfOk result (λ text. string_bytes text ≡ dotted unit.now object.now) }
+{
+    format!(in alloc; "{unit}.{object}")
+}
+
 // What a call is a call of, as `Unit.Object.Operation`. Err where memory was refused.
 fn callee_text(alloc: Global, callee: &Callee<'_>) -> Result<String, AllocError>
     ensures { IfOk result (λ text. string_bytes text ≡ says.target_text (target_of callee.now)) }
@@ -29,15 +36,15 @@ fn callee_text(alloc: Global, callee: &Callee<'_>) -> Result<String, AllocError>
     match *callee {
         Callee::Nowhere => String::from_str(alloc, "?"),
         Callee::Protected(shape, object, operation) => {
-            let unit = shape.name();
-            let object = object.name();
+            let object = object_text(alloc, shape.name(), object.name())?;
+            let object = object.as_str();
             let operation = operation.name();
-            format!(in alloc; "{unit}.{object}.{operation}")
+            format!(in alloc; "{object}.{operation}")
         }
         Callee::Suspension(shape, object, operation) => {
-            let unit = shape.name();
-            let object = object.name();
-            format!(in alloc; "{unit}.{object}.{operation}")
+            let object = object_text(alloc, shape.name(), object.name())?;
+            let object = object.as_str();
+            format!(in alloc; "{object}.{operation}")
         }
     }
 }
