@@ -1,5 +1,5 @@
 -- What somebody may ask at no time fits it in no mode.
-use Rattle.std.proofs.Common.{◌≡◌, ◌⊎◌, inl, inr, ℕ, Bool, true, false, refl, ap, sym}
+use Rattle.std.proofs.Common.{◌≡◌, ◌⊎◌, inl, inr, ℕ, Bool, false, refl, ap, sym}
 use Rattle.std.specs.Prelude.{length, ◌&&◌}
 use Rattle.std.proofs.lemmas.Bool.{and_cases, and_left, and_right, false≢true}
 use Rattle.rv_event.specs.Past.{held, innermost, mode}

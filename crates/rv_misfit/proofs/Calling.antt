@@ -1,6 +1,6 @@
 -- Where nothing is told of a call whose names are loaded, its values fit.
-use Rattle.std.proofs.Common.{◌≡◌, ℕ, Bool, true, false, List, [], ◌∷◌, ℤ, Some, None, Option, refl, ap, sym, subst, ◌∙◌}
-use Rattle.std.specs.Prelude.{nat_lt, ◌&&◌, if◌then◌else◌}
+use Rattle.std.proofs.Common.{◌≡◌, ℕ, Bool, true, false, List, [], ◌∷◌, ℤ, Some, None, refl, ap, sym, subst, ◌∙◌}
+use Rattle.std.specs.Prelude.{if◌then◌else◌}
 use Rattle.std.proofs.lemmas.Bool.{and_from, false≢true}
 use Rattle.rv_event.specs.ReadBack.{IsThere}
 use Rattle.rv_event.specs.declared.entry.Request.TheVariants as Requests
@@ -14,7 +14,7 @@ use Rattle.rv_step.specs.Names.{DottedWord}
 use Rattle.rv_step.specs.StepText.{StepWords}
 use Rattle.rv_step.specs.declared.step.Asked.TheVariants.{Call}
 use Rattle.rv_step.specs.declared.step.Asker.{Asker}
-use Rattle.rv_misfit.specs.Misfits.{asked_misfit, call_misfit, has_bodies, misfit_of, named_misfit, ranges_at, sort_of}
+use Rattle.rv_misfit.specs.Misfits.{asked_misfit, has_bodies, misfit_of, named_misfit, ranges_at, sort_of}
 use Rattle.rv_misfit.specs.declared.misfit.Misfit.TheVariants.{NotOperator}
 use Rattle.rv_misfit.proofs.Named.{target_there}
 use Rattle.rv_misfit.proofs.Options.{bind, same}

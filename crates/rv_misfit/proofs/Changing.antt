@@ -1,29 +1,26 @@
 -- Where it is told that a change is never made, there is no such list after it, or one that is too long.
-use Rattle.std.proofs.Common.{◌≡◌, ℕ, ◌+◌, ◌<◌, ◌≤◌, Bool, true, false, List, [], ◌∷◌, ◌++◌, length, Some, None, Option, refl, ap, sym, arith, ◌∙◌, length-append}
-use Rattle.std.specs.Prelude.{ℤ, nat_le, nat_lt, ◌&&◌, if◌then◌else◌}
+use Rattle.std.proofs.Common.{◌≡◌, ℕ, ◌+◌, Bool, true, false, List, [], ◌∷◌, ◌++◌, length, Some, None, refl, ap, sym, arith, ◌∙◌, length-append}
+use Rattle.std.specs.Prelude.{ℤ, nat_lt, if◌then◌else◌}
 use Rattle.std.proofs.lemmas.Bool.Decides.{nat_tests}
 use Rattle.rv_access.specs.Changes.{at_line, changed}
 use Rattle.rv_access.specs.Words.{Words}
 use Rattle.rv_access.specs.declared.change.Change.{Change}
 use Rattle.rv_access.specs.declared.change.Change.TheVariants.{Whole, Append, Remove, Replace}
 use Rattle.rv_event.specs.Past.{halted}
-use Rattle.rv_event.specs.declared.entry.Answer.{Answer}
 use Rattle.rv_event.specs.declared.entry.Answer.TheVariants.{BadLine, Halted}
 use Rattle.rv_event.specs.declared.entry.Entry.TheVariants.{ListChange}
 use Rattle.rv_history.specs.Due.{gate, nothing_more, within}
 use Rattle.rv_history.specs.History.{History, force}
-use Rattle.rv_history.specs.Legal.{after_list, due_list, line_limit}
+use Rattle.rv_history.specs.Legal.{due_list, line_limit}
 use Rattle.rv_history.specs.Owed.{has_room}
 use Rattle.rv_history.specs.Steps.{after_change, due_change}
-use Rattle.rv_misfit.specs.Misfits.{asked_misfit, change_misfit, has_line, line_misfit, misfit_of}
+use Rattle.rv_misfit.specs.Misfits.{asked_misfit, change_misfit, has_line, misfit_of}
 use Rattle.rv_misfit.specs.declared.misfit.Misfit.{Misfit}
 use Rattle.rv_misfit.specs.declared.misfit.Misfit.TheVariants.{ListFull, NoLine}
 use Rattle.rv_misfit.proofs.Options.{never, told}
 use Rattle.rv_step.specs.StepText.{StepWords}
-use Rattle.rv_step.specs.declared.step.Asked.{Asked}
 use Rattle.rv_step.specs.declared.step.Asked.TheVariants.{Change as Changes}
-use Rattle.std.specs.Prelude.{Result, Ok, Err}
-use Rattle.rv_access.specs.declared.fault.ListFault.{ListFault}
+use Rattle.std.specs.Prelude.{Ok}
 
 no_line : (n : ℕ) (list after : List Words) → has_line (length list) n ≡ false → at_line n list after ≡ None
 no_line n list after e = by_first (nat_lt 0 n) refl

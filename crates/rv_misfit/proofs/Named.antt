@@ -4,7 +4,7 @@ use Rattle.std.specs.Prelude.{nat_lt, ◌==◌, slice_get, if◌then◌else◌}
 use Rattle.std.proofs.lemmas.Bool.Decides.{nat_tests}
 use Rattle.std.proofs.lemmas.List.{length-map}
 use Rattle.rv_event.specs.ReadBack.{IsThere}
-use Rattle.rv_shape.specs.Catalogue.{UnitObject, UnitTask, Who, Line, Operator, Task, all_tasks, at_object, at_operation, at_suspension, at_unit_object, first_task, numbered, place, suspension_operation_name, suspension_operations, target, task_of, who}
+use Rattle.rv_shape.specs.Catalogue.{UnitObject, UnitTask, Line, Operator, Task, all_tasks, at_object, at_operation, at_suspension, at_unit_object, first_task, numbered, place, suspension_operation_name, suspension_operations, target, task_of, who}
 use Rattle.rv_shape.specs.Names.{number_from, operation_names, operation_number, operation_number_in, task_name, task_number}
 use Rattle.rv_shape.specs.Objects.{OperationShape}
 use Rattle.rv_shape.specs.Shape.{Shape}

@@ -1,11 +1,10 @@
 -- On a legal history the operator is idle: it holds nothing, has nothing to settle, and waits for nothing.
-use Rattle.std.proofs.Common.{◌≡◌, ℕ, Bool, true, false, List, [], ◌∷◌, Some, None, Option, refl, ap, sym, ◌∙◌, cond}
-use Rattle.std.specs.Prelude.{length, ◌==◌, ◌&&◌, slice_get}
+use Rattle.std.proofs.Common.{◌≡◌, ℕ, Bool, true, false, List, [], ◌∷◌, None, refl, ap, sym, ◌∙◌, cond}
+use Rattle.std.specs.Prelude.{length, ◌==◌, slice_get}
 use Rattle.std.specs.List.{filter}
 use Rattle.std.proofs.lemmas.Bool.{and_parts, false≢true}
 use Rattle.rv_access.specs.Words.{Words}
 use Rattle.rv_event.specs.Past.{held, mode, mode_by, names, or_else, or_settling, stance, stance_of, to_settle, under_way, unsettled}
-use Rattle.rv_event.specs.Recorded.{recorded}
 use Rattle.rv_event.specs.declared.entry.Body.{Body}
 use Rattle.rv_event.specs.declared.entry.Entry.{Entry}
 use Rattle.rv_event.specs.declared.entry.Entry.TheVariants.{Asked, Load, ListChange}
@@ -14,7 +13,6 @@ use Rattle.rv_event.specs.declared.entry.Recorded.{Recorded}
 use Rattle.rv_event.specs.declared.entry.Request.{Request}
 use Rattle.rv_event.specs.declared.entry.Request.TheVariants.{Call, Complete, Settle, Resume, DelayUntil, Clock, Fire, Quit, Tick, Halt}
 use Rattle.rv_event.specs.declared.entry.Stance.TheVariants.{Free}
-use Rattle.rv_history.specs.Due.{out}
 use Rattle.rv_history.specs.Fitting.{call_fits, fits_actor, idle_task, is_time, may_call}
 use Rattle.rv_history.specs.History.{History}
 use Rattle.rv_history.specs.Legal.{IsLegal, Legal}

@@ -1,5 +1,5 @@
 -- What it says of a choice that it comes to a value, or to none.
-use Rattle.std.proofs.Common.{◌≡◌, Bool, true, false, Some, None, Option, refl, ap}
+use Rattle.std.proofs.Common.{◌≡◌, Bool, true, false, Some, None, Option, refl}
 use Rattle.std.specs.Prelude.{if◌then◌else◌}
 use Rattle.rv_shape.specs.Items.{◌>>=◌}
 
@@ -13,11 +13,7 @@ pub bind : {X Y : Type 0} (o : Option X) (f : X → Option Y) (y : Y) → (o >>=
 bind None f y e = never y e
 bind (Some x) f y e = (x, refl, e)
 
--- told unless something holds, so it doesn't where it is told, and does where it isn't
+-- what is told unless something holds
 pub told : {X : Type 0} (b : Bool) (x y : X) → (if b then None else Some x) ≡ Some y → b ≡ false
 told true x y e = never y e
 told false x y e = refl
-
-pub untold : {X : Type 0} (b : Bool) (o : Option X) → (b ≡ false → o ≡ None → b ≡ true) → (if b then None else o) ≡ None → b ≡ true
-untold true o f e = refl
-untold false o f e = f refl e

@@ -1,5 +1,5 @@
 -- Where it is told that a request of a step never fits, it fits its actor on no history over these units.
-use Rattle.std.proofs.Common.{◌≡◌, ℕ, ◌+◌, ◌≤◌, Bool, true, false, List, [], ◌∷◌, ℤ, Some, None, Option, refl, ap, sym, subst, ◌∙◌}
+use Rattle.std.proofs.Common.{◌≡◌, ℕ, ◌+◌, Bool, true, false, List, [], ◌∷◌, ℤ, Some, refl, ap, sym, ◌∙◌}
 use Rattle.std.specs.Prelude.{length, nat_lt, not, ◌-◌, ◌&&◌, if◌then◌else◌}
 use Rattle.std.proofs.lemmas.Bool.{and_left, and_right, false≢true}
 use Rattle.rv_event.specs.Past.{halted, held, mode}
@@ -24,7 +24,7 @@ use Rattle.rv_step.specs.declared.step.Asked.TheVariants.{Call, Plain, Go, Chang
 use Rattle.rv_step.specs.declared.step.Asker.{Asker}
 use Rattle.rv_step.specs.declared.step.Asker.TheVariants.{Operator, Line, Task}
 use Rattle.rv_misfit.specs.Asked.{IsAsked, IsNumbered}
-use Rattle.rv_misfit.specs.Misfits.{asked_misfit, call_misfit, has_bodies, may_ask, misfit_of, named_misfit, ranges_at, reason, request_misfit, sort_of, values_misfit}
+use Rattle.rv_misfit.specs.Misfits.{asked_misfit, has_bodies, may_ask, misfit_of, named_misfit, ranges_at, reason, sort_of}
 use Rattle.rv_misfit.specs.declared.misfit.Misfit.{Misfit}
 use Rattle.rv_misfit.specs.declared.misfit.Misfit.TheVariants.{NotOperator}
 use Rattle.rv_misfit.proofs.Asking.{IsAside, never_asked}

@@ -1,5 +1,5 @@
 -- Values that don't fit are too few or too many, or the first that is outside its range can be named.
-use Rattle.std.proofs.Common.{◌≡◌, ℕ, Bool, true, false, List, [], ◌∷◌, length, ℤ, cond, Some, None, Option, refl, sym, ap, ◌∙◌, arith}
+use Rattle.std.proofs.Common.{◌≡◌, Bool, true, false, List, [], ◌∷◌, length, ℤ, cond, Some, None, Option, refl, sym, ap, ◌∙◌, arith}
 use Rattle.std.specs.Prelude.{◌==◌, ◌&&◌, not, if◌then◌else◌, option_map}
 use Rattle.std.proofs.lemmas.Bool.{and_parts, false≢true}
 use Rattle.std.proofs.lemmas.Bool.Decides.{nat_tests}
@@ -40,9 +40,6 @@ none_fit (r ∷ rs) (v ∷ vs) n e = by_test (holds r v) e (none_fit rs vs (omeg
     by_test : (b : Bool) → cond (not b) (Some (r, v)) (first_outside rs vs) ≡ None → (first_outside rs vs ≡ None → all_fit rs vs ≡ true) → (b && all_fit rs vs) ≡ true
     by_test true f rest = rest f
     by_test false f rest = absurd (cc)
-
-outside : Called → Option (Range × ℤ) → Option Misfit
-outside called found = option_map (λ pair. Outside called pair.1 pair.0) found
 
 pub of_another_count : (called : Called) (rs : List Range) (vs : List ℤ) → (length vs == length rs) ≡ false → values_misfit called rs vs ≡ Some (Count called (length vs) (length rs))
 of_another_count called rs vs other = by_test (all_fit rs vs) refl

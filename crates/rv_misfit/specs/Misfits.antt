@@ -1,6 +1,6 @@
 -- Steps that never fit (own): whatever came before them, over the units that are loaded and a list of so many lines, their answer is
 -- `misuse` or `badline`. What fits an actor says rv_history's Fitting, and what a change makes of a list its Legal.
-use Rattle.std.specs.Prelude.{ℕ, ℤ, Bool, true, false, not, nat_lt, nat_le, ◌==◌, ◌&&◌, if◌then◌else◌, List, [], length}
+use Rattle.std.specs.Prelude.{ℕ, ℤ, Bool, not, nat_lt, nat_le, ◌==◌, ◌&&◌, if◌then◌else◌, List, [], length}
 use Rattle.std.specs.Prelude.{Option, Some, None, option_map, Ok, Err}
 use Rattle.std.specs.List.{find, zip}
 use Rattle.rv_access.specs.declared.change.Change.{Change}
