@@ -4,11 +4,12 @@
 ghost use Rattle.std.specs.Prelude.{◌≤◌, ◌^◌, ◌+◌, length, IfErr};
 ghost use Rattle.rv_fault.specs.Written.{IsNoFault};
 
-use crate::misfits::{MOST_TICKS, misfit_of, return_lines};
+use crate::carriage_returns::return_lines;
 use crate::purpose::{Purpose, purpose_in};
 use rv_access::{AccessList, Change};
 use rv_event::entry::Request;
 use rv_fault::{Failure, Part, Parts, device_unit, list_of, settings_of, shape_of, unit_of};
+use rv_misfit::{is_tick, misfit_of, misfit_text};
 use rv_never::{Never, UnitCalls, ceiling_notes, denial_notes, notes_text, unit_calls};
 use rv_notes::{Note, Scene, changed, denies, line_changed, new_ones, notes, words_of};
 use rv_script::{Opening, open, text_of};
@@ -313,7 +314,7 @@ impl Review {
 
     // So many ticks of the clock, where the operator may ask for them.
     fn tick(&mut self, asker: &Asker, ticks: i64) {
-        if self.is_halted || ticks < 1 || ticks > MOST_TICKS {
+        if self.is_halted || !is_tick(ticks) {
             return;
         }
         if let Asker::Operator = asker {
@@ -322,15 +323,16 @@ impl Review {
         }
     }
 
-    // Tells why a step of a line can't fit, if it can't.
+    // Tells why a step of a line never fits, if it doesn't.
     fn tell_misfit(&mut self, line: usize, step: &Step) -> Result<(), AllocError> {
         let alloc = self.alloc;
         if self.is_halted {
             return Ok(());
         }
-        let Some(words) = misfit_of(alloc, &self.catalogue, self.list.len(), step)? else {
+        let Some(misfit) = misfit_of(alloc, &self.catalogue, self.list.len(), step)? else {
             return Ok(());
         };
+        let words = misfit_text(alloc, &self.catalogue, misfit)?;
         let words = words.as_str();
         let told = format!(in alloc; "warning: script line {line}, {words}\n")?;
         self.put(told.as_str())
