@@ -5,6 +5,7 @@ mod carriage_returns;
 mod check;
 mod commands;
 mod devices;
+mod goes;
 mod lines;
 mod purpose;
 pub mod reading;

@@ -5,6 +5,7 @@ ghost use Rattle.std.specs.Prelude.{◌≤◌, ◌^◌, ◌+◌, length, IfErr};
 ghost use Rattle.rv_fault.specs.Written.{IsNoFault};
 
 use crate::carriage_returns::return_lines;
+use crate::goes::go_line;
 use crate::purpose::{Purpose, purpose_in};
 use rv_access::{AccessList, Change};
 use rv_event::entry::Request;
@@ -338,11 +339,21 @@ impl Review {
         self.put(told.as_str())
     }
 
+    // Tells of a `go` that goes on behind all that its text may ask.
+    fn tell_go(&mut self, line: usize, count: usize) -> Result<(), AllocError> {
+        if self.is_halted {
+            return Ok(());
+        }
+        let told = go_line(self.alloc, line, count)?;
+        self.put(told.as_str())
+    }
+
     // What the step of a line asks. False where it can't.
     fn ask(&mut self, line: usize, step: &Step) -> Result<bool, AllocError> {
         self.judge_first()?;
         self.tell_misfit(line, step)?;
         match &step.asked {
+            Asked::Go(count) => self.tell_go(line, *count)?,
             Asked::Plain(Request::Halt) => self.halt(&step.asker),
             Asked::Plain(Request::Tick(ticks)) => self.tick(&step.asker, *ticks),
             Asked::Change(Ok(change), _) => self.change(line, change)?,
