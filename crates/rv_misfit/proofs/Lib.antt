@@ -6,3 +6,5 @@ pub mod Told
 pub mod Changing
 pub mod Calling
 pub mod Operator
+pub mod Making
+pub mod Reading

@@ -17,3 +17,8 @@ bind (Some x) f y e = (x, refl, e)
 pub told : {X : Type 0} (b : Bool) (x y : X) → (if b then None else Some x) ≡ Some y → b ≡ false
 told true x y e = never y e
 told false x y e = refl
+
+-- and what isn't
+pub untold : {X : Type 0} (b : Bool) (x : X) → (if b then None else Some x) ≡ None → b ≡ true
+untold true x e = refl
+untold false x e = absurd cc

@@ -1,5 +1,7 @@
--- Whose request a step is, over the units that are loaded (own).
+-- What a step asks: whose request it is, over the units that are loaded, or which change of the list (own).
 use Rattle.std.specs.Prelude.{◌≡◌, ℕ, ◌≤◌, List, Some}
+use Rattle.rv_access.specs.declared.change.Change.{Change}
+use Rattle.rv_access.specs.declared.change.Change.TheVariants.{Whole, Append, Remove, Replace}
 use Rattle.rv_event.specs.declared.entry.Request.{Request}
 use Rattle.rv_shape.specs.Limits.{last_line}
 use Rattle.rv_shape.specs.Shape.{Shape}
@@ -19,3 +21,10 @@ pub record IsAsked (shapes : List Shape) (step : StepWords) (actor : ℕ) (reque
   pub numbered : IsNumbered step.asker
   pub asker : actor_of shapes step.asker ≡ Some actor
   pub asked : request_of shapes step.asked ≡ Some request
+
+-- a change of one line of the list, as a step makes it
+abbrev pub IsOfOneLine : Change → Type 0
+IsOfOneLine (Whole list) = ⊥
+IsOfOneLine (Append line) = Unit {0}
+IsOfOneLine (Remove number) = Unit {0}
+IsOfOneLine (Replace number line) = Unit {0}
