@@ -1,6 +1,6 @@
 -- What comes to its value, or to its end, at once.
 use Rattle.std.proofs.Common.{◌≡◌, ◌≤◌, ◌<◌, ◌+◌, refl, sym, ap, arith, ◌∙◌, ℕ, ℤ, pos, List, ◌∷◌, Bool, true, false, cond, Some, None, Result, Ok, Err}
-use Rattle.std.specs.Prelude.{slice_index_or}
+use Rattle.std.specs.Prelude.{slice_index_or, IfSome, Option}
 use Rattle.rv_shape.specs.declared.kind.Range.{Range}
 use Rattle.rv_event.specs.declared.entry.Exception.{Exception}
 use Rattle.rv_code.specs.declared.expression.Operator.{Operator}
@@ -103,6 +103,11 @@ pub chain_at : (e first : Expression) (ls : Links) (x : Result ℤ Cause) (v u :
 unfolding value
 chain_at e first ls x v u r a is operand ok same rest = λ w. ap (λ (y : Expression). value w y a) is
     ∙ (ap (λ (y : Asking Got). chained_by w ls y) (operand w ∙ ap (λ (z : Result ℤ Cause). gives z a) ok) ∙ (ap (λ (z : ℤ). linked w ls z a) (sym same) ∙ rest w))
+
+pub chain_some : (e first : Expression) (ls : Links) (x : Result ℤ Cause) (v u : ℤ) (o : Option (Result ℤ Cause)) (a : Activation)
+    → e ≡ code.chain first ls → HasValue first a x → x ≡ Ok v → u ≡ v → IfSome o (λ r. LinkTo ls u a r) → IfSome o (λ r. HasValue e a r)
+chain_some e first ls x v u (Some r) a is operand ok same rest = chain_at e first ls x v u r a is operand ok same rest
+chain_some e first ls x v u None a is operand ok same rest = tt
 
 pub chain_fails : (e first : Expression) (ls : Links) (x : Result ℤ Cause) (why : Cause) (a : Activation)
     → e ≡ code.chain first ls → HasValue first a x → x ≡ Err why → HasValue e a (Err why)
