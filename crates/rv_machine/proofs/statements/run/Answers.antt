@@ -18,7 +18,7 @@ pub returns-in-Case-clause-leads : goal.returns-in-Case-clause-leads
 returns-in-Case-clause-leads c = behind_kept_in _ _ _ _ _ _ _ (selects _ _ _ _ _ _ _ c.in-Case.ensures refl) c.await_value.ensures.keeps
 
 pub returns-in-While-clause-leads : goal.returns-in-While-clause-leads
-returns-in-While-clause-leads c = behind_in _ _ _ _ _ _ _ (loops _ _ _ _ _ _ _ c.in-While.ensures c.most_turns.ensures (turns_fit _ (omega arith))) c.turn.ensures.leads
+returns-in-While-clause-leads c = behind_in _ _ _ _ _ _ _ (loops _ _ _ _ _ _ _ c.in-While.ensures c.most_turns-turns.ensures (turns_fit _ (omega arith))) c.turn.ensures.leads
 
 pub returns-in-For-clause-leads : goal.returns-in-For-clause-leads
 returns-in-For-clause-leads c = behind_kept_in _ _ _ _ _ _ _ (loops_over _ _ _ _ _ _ _ _ _ _ _ c.in-For.ensures refl) c.await_value-in-For.ensures.keeps
