@@ -1,5 +1,5 @@
 -- What comes to its value, or to its end, at once.
-use Rattle.std.proofs.Common.{◌≡◌, ◌≤◌, ◌<◌, ◌+◌, refl, sym, ap, arith, ◌∙◌, ℕ, ℤ, pos, List, ◌∷◌, Bool, true, false, cond, Some, None, Result, Ok, Err}
+use Rattle.std.proofs.Common.{◌≡◌, ◌≤◌, ◌<◌, refl, sym, ap, arith, ◌∙◌, ℕ, ℤ, pos, List, ◌∷◌, Bool, true, false, cond, Some, None, Result, Ok, Err}
 use Rattle.std.specs.Prelude.{slice_index_or, IfSome, Option}
 use Rattle.rv_shape.specs.declared.kind.Range.{Range}
 use Rattle.rv_event.specs.declared.entry.Exception.{Exception}

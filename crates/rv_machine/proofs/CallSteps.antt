@@ -11,7 +11,6 @@ use Rattle.rv_exec.specs.declared.activation.Activation.{Activation}
 use Rattle.rv_exec.specs.declared.setting.Setting.{Setting}
 use Rattle.rv_exec.specs.declared.end.Asked.{Asked}
 use Rattle.rv_exec.specs.declared.end.Asked.TheVariants as asked
-use Rattle.rv_exec.specs.declared.end.Cause.{Cause}
 use Rattle.rv_exec.specs.declared.end.Cause.TheVariants as cause
 use Rattle.rv_exec.specs.Activations.{opened, bound, spent, refilled}
 use Rattle.rv_exec.specs.Bodies.{operation_of}

@@ -1,5 +1,5 @@
 -- Moves behind one another.
-use Rattle.std.proofs.Common.{◌≡◌, ◌≤◌, ◌<◌, ◌∙◌, refl, sym, subst, arith, List}
+use Rattle.std.proofs.Common.{◌≡◌, ◌∙◌, refl, sym, subst, arith, List}
 use Rattle.rv_exec.specs.declared.setting.Setting.{Setting}
 use Rattle.rv_frames.specs.Frames.{Frame, Control}
 use Rattle.rv_machine.specs.Points.{Keeps, Leads, LeadsIn, LeadsAcross}

@@ -1,5 +1,5 @@
 -- What a machine asks, how it ends, and where an answer leads.
-use Rattle.std.proofs.Common.{◌≡◌, ◌<◌, ◌≤◌, refl, sym, ap, subst, ◌∙◌, arith, ℕ, ℤ, List, [], ◌∷◌, Bool, true, false, cond, Some, None, Err}
+use Rattle.std.proofs.Common.{◌≡◌, ◌<◌, refl, sym, ap, subst, ◌∙◌, arith, ℕ, ℤ, List, [], ◌∷◌, Bool, true, false, cond, Some, None, Err}
 use Rattle.rv_event.specs.declared.entry.Answer.{Answer}
 use Rattle.rv_event.specs.declared.entry.Answer.TheVariants as answers
 use Rattle.rv_event.specs.declared.entry.Exit.{Exit}

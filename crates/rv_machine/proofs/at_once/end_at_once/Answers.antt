@@ -1,4 +1,3 @@
-use Rattle.std.proofs.Common.{refl}
 use Rattle.rv_machine.proofs.AtOnceSteps.{null_at, assigned_at, exit_at, return_at, value_returned_at, raise_at}
 use Rattle.rv_machine.proofs.at_once.end_at_once.Goals as goal
 
