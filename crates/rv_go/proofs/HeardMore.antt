@@ -1,11 +1,10 @@
 -- What an actor has heard, one answer more.
-use Rattle.std.proofs.Common.{◌≡◌, ◌≤◌, ◌<◌, ◌+◌, refl, sym, ap, subst, ◌∙◌, arith, ℕ, suc, List, [], ◌∷◌, ◌++◌, Bool, true, false, cond, length, take, get_or, reverse}
-use Rattle.std.specs.Prelude.{All, ◌==◌, IfOk, OnOk, OnErr, Result, Ok, Err, Option, Some}
+use Rattle.std.proofs.Common.{◌≡◌, ◌<◌, ◌+◌, refl, sym, ap, subst, ◌∙◌, arith, ℕ, suc, List, [], ◌∷◌, ◌++◌, Bool, true, false, cond, length, take, get_or, reverse}
+use Rattle.std.specs.Prelude.{◌==◌, IfOk, OnOk, OnErr, Result, Ok, Err, Option, Some}
 use Rattle.std.specs.Option.{ForSome}
 use Rattle.std.proofs.lemmas.Bool.Decides.{nat_tests}
 use Rattle.std.proofs.Math.Seq.{take-suc}
 use Rattle.std.proofs.lemmas.List.{length-append, reverse-append, take-append-le}
-use Rattle.std.proofs.lemmas.List.Elements.{All-get_or, All-push, All-set}
 use Rattle.rv_event.specs.declared.entry.Answer.{Answer}
 use Rattle.rv_event.specs.declared.entry.Request.{Request}
 use Rattle.rv_code.specs.Bodies.{UnitBodies}

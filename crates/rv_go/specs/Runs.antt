@@ -1,5 +1,5 @@
 -- Machines that run the texts of actors, kept from one `go` to the next (own).
-use Rattle.std.specs.Prelude.{◌≡◌, ◌≤◌, ℕ, if◌then◌else◌, List, [], ◌∷◌, ◌++◌, All, length, reverse, take, Option, Some, None, get_or}
+use Rattle.std.specs.Prelude.{◌≡◌, ◌≤◌, ℕ, if◌then◌else◌, List, [], ◌∷◌, ◌++◌, All, length, reverse, take, Option, get_or}
 use Rattle.rv_event.specs.declared.entry.Answer.{Answer}
 use Rattle.rv_event.specs.declared.entry.Request.{Request}
 use Rattle.rv_code.specs.Bodies.{UnitBodies}
