@@ -1,7 +1,8 @@
 #!/usr/bin/env bash
-# Measures how long a program takes for requests that a task's text makes by one `go N`: requests alone, and requests with
-# 1,000 turns of a loop before each call. Fails where an answer is missing, or where ten times as many requests with such turns
-# take more than 12 times as long. The program is the built one, which is proved first, unless one is named. It needs python3.
+# Measures how long a program takes for requests that a task's text makes, by one `go N` and by N lines of `go`: requests alone, and
+# requests with 1,000 turns of a loop before each call. Fails where an answer is missing, or where ten times as many requests with
+# such turns take more than 12 times as long. The program is the built one, which is proved first, unless one is named. It needs
+# python3.
 #
 #     bench/go.sh [PROGRAM]
 set -eu
@@ -45,32 +46,34 @@ end Plant;
 @list
 allow Plant Plant.Tank *
 @steps
-Plant.Filler go %d
 """
 # Of the entries two are those of the load and of the list.
 OTHERS = 2
 
 
-def seconds(turns, count):
-    """Plays so many requests, and returns the processor's time in seconds."""
+def seconds(turns, count, lines):
+    """Plays so many requests, by one `go` a line or by one line, and returns the processor's time in seconds."""
+    steps = "Plant.Filler go\n" * count if lines else f"Plant.Filler go {count}\n"
     with tempfile.TemporaryFile() as script:
-        script.write((UNIT % (turns, count)).encode())
+        script.write((UNIT % turns + steps).encode())
         script.seek(0)
         child = subprocess.Popen([sys.argv[1], "play"], stdin=script, stdout=subprocess.PIPE)
         journal = child.stdout.read()
         _, status, used = os.wait4(child.pid, 0)
     entries = journal.count(b" -> ")
     took = used.ru_utime + used.ru_stime
-    print(f"{count} requests, {turns} turns before each call: {took:.2f} s, {entries} entries", flush=True)
+    by = "as many lines" if lines else "one line"
+    print(f"{count} requests by {by}, {turns} turns before each call: {took:.2f} s, {entries} entries", flush=True)
     if status != 0 or entries != count + OTHERS:
         sys.exit(f"bench/go.sh: status {status}, {entries} of {count + OTHERS} entries")
     return took
 
 
-for count in (1, 1000, 4000):
-    seconds(0, count)
-few, many = seconds(1000, 400), seconds(1000, 4000)
-print(f"ten times as many take {many / few:.1f} times as long")
-if many > 12 * few:
-    sys.exit("bench/go.sh: that is more than 12 times")
+for lines in (False, True):
+    for count in (1, 1000, 4000):
+        seconds(0, count, lines)
+    few, many = seconds(1000, 400, lines), seconds(1000, 4000, lines)
+    print(f"ten times as many take {many / few:.1f} times as long")
+    if many > 12 * few:
+        sys.exit("bench/go.sh: that is more than 12 times")
 EOF

@@ -14,7 +14,8 @@ use Rattle.rv_code.specs.Bodies.{Body}
 use Rattle.rv_exec.specs.Bodies.{operation_of, task_of}
 use Rattle.rv_exec.specs.Next.{settling, next_of}
 use Rattle.rv_exec.specs.Tasks.{task_run, line_run}
-use Rattle.rv_go.specs.Texts.{TextsView, answers_to}
+use Rattle.rv_go.specs.Answers.{answers_to}
+use Rattle.rv_go.specs.Texts.{TextsView}
 
 -- what is asked, where there is a body
 abbrev pub if_body : Option Body → Option Request → Option Request

@@ -1,3 +1,4 @@
+pub mod Answers
+pub mod Runs
 pub mod Texts
 pub mod Goes
-pub mod Runs

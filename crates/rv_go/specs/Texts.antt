@@ -1,5 +1,5 @@
 -- The texts of actors: the bodies of the loaded units, and what actors were answered since their texts began (own).
-use Rattle.std.specs.Prelude.{ℕ, Bool, true, false, ◌==◌, not, ◌&&◌, if◌then◌else◌, List, [], ◌∷◌, ◌++◌, reverse}
+use Rattle.std.specs.Prelude.{ℕ, Bool, true, false, not, ◌&&◌, if◌then◌else◌, List, [], ◌∷◌, reverse}
 use Rattle.rv_event.specs.declared.entry.Request.{Request}
 use Rattle.rv_event.specs.declared.entry.Request.TheVariants.{Fire, Settle}
 use Rattle.rv_event.specs.declared.entry.Answer.{Answer}
@@ -19,7 +19,7 @@ pub record TextsView : Type 0 where
   pub budget : ℕ
 
 abbrev pub texts_view : Texts → TextsView
-texts_view texts = record { bodies = bodies_view texts.bodies; heard = reverse texts.heard.items; budget = texts.machine.budget }
+texts_view texts = record { bodies = bodies_view texts.bodies; heard = reverse texts.heard.items; budget = texts.budget }
 
 -- before the first load
 abbrev pub no_texts : ℕ → TextsView
@@ -56,13 +56,3 @@ hears texts actor goes request answer =
     if is_heard goes request answer
     then record texts { heard = record { actor = actor; starts = is_fire request; answer = answer } ∷ texts.heard }
     else texts
-
--- an actor's answers with one more, behind which there are none before a start
-abbrev pub with_answer : ℕ → Heard → List Answer → List Answer
-with_answer actor h before =
-    if h.actor == actor then (if h.starts then h.answer ∷ [] else before ++ h.answer ∷ []) else before
-
--- what an actor was answered since its text began, in order
-abbrev pub answers_to : ℕ → List Heard → List Answer
-answers_to actor [] = []
-answers_to actor (h ∷ before) = with_answer actor h (answers_to actor before)

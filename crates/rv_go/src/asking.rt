@@ -1,51 +1,77 @@
 //! What `go` asks.
 
-ghost use Rattle.std.specs.Prelude.{◌≡◌, IfOk, Option, option_map};
-ghost use Rattle.rv_event.specs.declared.entry.Request.{Request};
-ghost use Rattle.rv_exec.specs.Next.{told};
+ghost use Rattle.std.specs.Prelude.{◌≡◌, ℕ, IfOk, List, None, option_map};
+ghost use Rattle.std.specs.Option.{ForSome};
+ghost use Rattle.rv_exec.specs.Bodies.{bodies_view};
 ghost use Rattle.rv_go.specs.Texts.{texts_view};
+ghost use Rattle.rv_go.specs.declared.texts.Heard.{Heard};
 ghost use Rattle.rv_go.specs.Goes.{task_asks, handler_asks, line_asks, asks};
+ghost use Rattle.rv_go.specs.Runs.{asked_by, settled, IsKept};
 
+use crate::run::Text;
+use crate::running::Running;
 use crate::texts::Texts;
 use rv_event::entry::{Mode, Request};
-use rv_exec::machine::{NextAsk, next_ask, next_line_ask};
+use rv_exec::bodies::Bodies;
 use rv_host::host::Host;
 use rv_shape::actor::Actor;
 use rv_shape::catalogue::Catalogue;
 use std::alloc::{AllocError, Global};
 
-// The request, if there is one.
-fn request_in(asked: NextAsk) -> Option<Request>
-    ensures { (request : Option Request) → asked ≡ told request → result ≡ request }
+// The machines that run texts are taken out; where there are none yet, they are made. Err where memory was refused.
+#[tactic(auto, using(crate::proofs::HeardMore::none_kept))]
+fn taken(
+    alloc: Global,
+    running: &mut Option<Running>,
+    bodies: &Bodies,
+) -> Result<Running, AllocError>
+    ensures kept { (budget : ℕ) (heard : List Heard) → ForSome running.old (IsKept (bodies_view bodies.now) budget heard) → IfOk result (IsKept (bodies_view bodies.now) budget heard) }
+    ensures none { running.new ≡ None }
 {
-    match asked {
-        NextAsk::Asks(request) => Some(request),
-        NextAsk::Ended => None,
+    if let Some(running) = running.take() {
+        return Ok(running);
     }
+    Running::new(alloc, bodies)
 }
 
 impl Texts {
+    // What a text of an actor asks next, by its machine.
+    fn text_asks(
+        &mut self,
+        alloc: Global,
+        actor: usize,
+        text: Text,
+    ) -> Result<Option<Request>, AllocError>
+        ensures asked { IfOk result (λ asked. asked ≡ asked_by (bodies_view self.old.bodies) self.old.budget text (settled actor self.old.heard.items)) }
+        ensures same { texts_view self.new ≡ texts_view self.old }
+    {
+        let mut running = taken(alloc, &mut self.running, &self.bodies)?;
+        let asked = running.asks(alloc, self.budget, self.heard.as_slice(), actor, text);
+        self.running = Some(running);
+        asked
+    }
+
     // What a task's text asks next; without a body it asks nothing.
-    fn task_asks(&self, alloc: Global, actor: usize) -> Result<Option<Request>, AllocError>
-        ensures { IfOk result (λ asked. asked ≡ task_asks (texts_view self.now) actor) }
+    fn task_asks(&mut self, alloc: Global, actor: usize) -> Result<Option<Request>, AllocError>
+        ensures asked { IfOk result (λ asked. asked ≡ task_asks (texts_view self.old) actor) }
+        ensures same { texts_view self.new ≡ texts_view self.old }
     {
         if self.bodies.task(actor).is_none() {
             return Ok(None);
         }
-        let answers = self.answers_to(alloc, actor)?;
-        let asked = next_ask(&self.machine, &self.bodies, actor, answers.as_slice());
-        Ok(request_in(asked))
+        self.text_asks(alloc, actor, Text::Task(actor))
     }
 
     // What a handler's text asks next for its line; without a body it asks nothing.
     fn handler_asks(
-        &self,
+        &mut self,
         alloc: Global,
         actor: usize,
         handler: Option<(usize, usize)>,
     ) -> Result<Option<Request>, AllocError>
-        ensures { IfOk result (λ asked. asked ≡ handler_asks (texts_view self.now) actor
+        ensures asked { IfOk result (λ asked. asked ≡ handler_asks (texts_view self.old) actor
             (option_map (λ p. record { object = p.0; operation = p.1 }) handler)) }
+        ensures same { texts_view self.new ≡ texts_view self.old }
     {
         let Some((object, operation)) = handler else {
             return Ok(None);
@@ -53,21 +79,20 @@ impl Texts {
         if self.bodies.operation(object, operation).is_none() {
             return Ok(None);
         }
-        let answers = self.answers_to(alloc, actor)?;
-        let asked = next_line_ask(&self.bodies, object, operation, answers.as_slice());
-        Ok(request_in(asked))
+        self.text_asks(alloc, actor, Text::Handler(object, operation))
     }
 
     // What a line asks next: it fires where it is idle, else what its handler's text asks.
     fn line_asks(
-        &self,
+        &mut self,
         alloc: Global,
         catalogue: &Catalogue,
         actor: usize,
         line: usize,
         mode: Mode,
     ) -> Result<Option<Request>, AllocError>
-        ensures { IfOk result (λ asked. asked ≡ line_asks (texts_view self.now) catalogue.now actor line mode) }
+        ensures asked { IfOk result (λ asked. asked ≡ line_asks (texts_view self.old) catalogue.now actor line mode) }
+        ensures same { texts_view self.new ≡ texts_view self.old }
     {
         match mode {
             Mode::Idle => Ok(Some(Request::Fire)),
@@ -76,14 +101,16 @@ impl Texts {
     }
 
     /// What `go` asks for an actor, if there is something: a resume where the actor waits, a settle where its end left
-    /// callers waiting, a fire for an idle line, else what its text asks next. Its text runs on the stack: a thread with `rv_exec::machine::STACK_BYTES` of it holds any.
+    /// callers waiting, a fire for an idle line, else what its text asks next. A machine runs the text from where it stood at the
+    /// last `go`. Err where memory was refused, as by the first `go` behind a load.
     pub fn asks(
-        &self,
+        &mut self,
         alloc: Global,
         host: &Host,
         actor: usize,
     ) -> Result<Option<Request>, AllocError>
-        ensures { IfOk result (λ asked. asked ≡ asks (texts_view self.now) host.now actor) }
+        ensures asked { IfOk result (λ asked. asked ≡ asks (texts_view self.old) host.now actor) }
+        ensures same { texts_view self.new ≡ texts_view self.old }
     {
         let Some(mode) = host.mode(actor) else {
             return Ok(None);

@@ -3,5 +3,8 @@
 #![tactic(auto)]
 
 mod asking;
-pub mod runs;
+pub mod hearing;
+mod places;
+pub mod run;
+pub mod running;
 pub mod texts;

@@ -1,17 +1,12 @@
 //! The texts of actors: the bodies of the loaded units, and what actors were answered since their texts began.
 
-ghost use Rattle.std.specs.Prelude.{◌≡◌, [], ◌∷◌, ◌++◌, IfOk, OnOk};
-ghost use Rattle.rv_code.specs.BodyView.{unit_view};
-ghost use Rattle.rv_exec.specs.Bodies.{no_bodies};
-ghost use Rattle.rv_go.specs.Texts.{texts_view, no_texts, with_bodies, is_started, is_fire, is_heard, is_settle, hears, with_answer, answers_to};
+ghost use Rattle.std.specs.Option.{ForSome};
+ghost use Rattle.rv_exec.specs.Bodies.{bodies_view};
+ghost use Rattle.rv_go.specs.Runs.{IsKept};
 
-use rv_code::UnitBodies;
-use rv_event::entry::{Answer, Next, Request, Rule};
+use crate::running::Running;
+use rv_event::entry::Answer;
 use rv_exec::bodies::Bodies;
-use rv_exec::machine::Machine;
-use rv_exec::replay::stands;
-use rv_value::Scalars;
-use std::alloc::{AllocError, Global};
 
 /// An answer that an actor's text goes on by.
 #[derive(Clone, Copy, Drop)]
@@ -30,142 +25,9 @@ pub struct Texts {
     pub bodies: Bodies,
     /// The answers, the oldest first.
     pub heard: Vec<Heard>,
-    /// Has the requests that a task's own body may make.
-    pub machine: Machine,
-}
-
-// Whether a body has started.
-fn is_started(answer: &Answer) -> bool
-    ensures { result ≡ is_started answer.now }
-{
-    match answer {
-        Answer::Started(_) => true,
-        _ => false,
-    }
-}
-
-/// Whether it is the fire of a line (C.3).
-pub fn is_fire(request: &Request) -> bool
-    ensures { result ≡ is_fire request.now }
-{
-    match request {
-        Request::Fire => true,
-        _ => false,
-    }
-}
-
-// Whether it serves an object's queue on, which no text asks for.
-fn is_settle(request: &Request) -> bool
-    ensures { result ≡ is_settle request.now }
-{
-    match request {
-        Request::Settle => true,
-        _ => false,
-    }
-}
-
-/// Whether a text goes on by the answer to a request: `goes` says whether the request was a `go`.
-pub fn is_heard(goes: bool, request: &Request, answer: &Answer) -> bool
-    ensures { result ≡ is_heard goes request.now answer.now }
-{
-    if is_fire(request) {
-        return is_started(answer);
-    }
-    goes && !is_settle(request) && !stands(answer)
-}
-
-/// No bodies.
-pub fn no_bodies(alloc: Global) -> UnitBodies
-    ensures { unit_view result ≡ no_bodies }
-{
-    UnitBodies {
-        objects: Vec::new(alloc),
-        tasks: Vec::new(alloc),
-    }
-}
-
-// Adds an item.
-fn add<T: Drop>(items: &mut Vec<T>, item: T) -> Result<(), AllocError>
-    ensures { OnOk result (items.new.items ≡ items.old.items ++ item ∷ []) }
-{
-    match items.push(item) {
-        Ok(()) => Ok(()),
-        Err(_) => Err(AllocError),
-    }
-}
-
-// An actor's answers with one more.
-fn add_answer(answers: &mut Vec<Answer>, actor: usize, heard: &Heard) -> Result<(), AllocError>
-    ensures { OnOk result (answers.new.items ≡ with_answer actor heard.now answers.old.items) }
-{
-    // The check is told of these types only where they are named.
-    let _scalars: Option<Scalars> = None;
-    let _rule: Option<Rule> = None;
-    let _next: Option<Next> = None;
-    if heard.actor != actor {
-        return Ok(());
-    }
-    if heard.starts {
-        answers.clear();
-    }
-    add(answers, heard.answer)
-}
-
-impl Texts {
-    /// No texts, before the first load; a task's own body may make so many requests, 1 .. 1,000,000.
-    pub fn new(alloc: Global, budget: u32) -> Texts
-        ensures { texts_view result ≡ no_texts budget }
-    {
-        Texts {
-            bodies: Bodies::new(alloc),
-            heard: Vec::new(alloc),
-            machine: Machine { budget },
-        }
-    }
-
-    /// Adds the bodies of the next unit that is loaded.
-    pub fn load(&mut self, bodies: UnitBodies) -> Result<(), AllocError>
-        ensures { OnOk result (texts_view self.new ≡ with_bodies (unit_view bodies) (texts_view self.old)) }
-    {
-        self.bodies.add(bodies)
-    }
-
-    /// Keeps the answer to a request of an actor, where its text goes on by it: `goes` says whether the request was a
-    /// `go`.
-    pub fn hear(
-        &mut self,
-        actor: usize,
-        goes: bool,
-        request: &Request,
-        answer: &Answer,
-    ) -> Result<(), AllocError>
-        ensures { OnOk result (texts_view self.new ≡ hears (texts_view self.old) actor goes request.now answer.now) }
-    {
-        // The check is told of these types only where they are named.
-        let _scalars: Option<Scalars> = None;
-        let _rule: Option<Rule> = None;
-        let _next: Option<Next> = None;
-        if !is_heard(goes, request, answer) {
-            return Ok(());
-        }
-        let starts = is_fire(request);
-        let answer = *answer;
-        let heard = Heard {
-            actor,
-            starts,
-            answer,
-        };
-        add(&mut self.heard, heard)
-    }
-
-    /// What an actor was answered since its text began, in order.
-    pub fn answers_to(&self, alloc: Global, actor: usize) -> Result<Vec<Answer>, AllocError>
-        ensures { IfOk result (λ answers. answers.items ≡ answers_to actor (texts_view self.now).heard) }
-    {
-        let mut answers = Vec::new(alloc);
-        for heard in &self.heard {
-            add_answer(&mut answers, actor, heard)?;
-        }
-        Ok(answers)
-    }
+    /// How many requests a task's own body may make.
+    pub budget: u32,
+    /// The machines that run texts, from the first `go` behind a load on.
+    pub running: Option<Running>,
+    ghost kept: { ForSome running (λ r. IsKept (bodies_view bodies) budget heard.items r) },
 }

@@ -11,7 +11,6 @@ use Rattle.rv_exec.specs.declared.activation.Activation.{Activation}
 use Rattle.rv_exec.specs.declared.setting.Setting.{Setting}
 use Rattle.rv_exec.specs.declared.end.Asked.{Asked}
 use Rattle.rv_exec.specs.declared.end.Asked.TheVariants as asked
-use Rattle.rv_exec.specs.declared.end.Cause.{Cause}
 use Rattle.rv_exec.specs.declared.end.Cause.TheVariants as cause
 use Rattle.rv_exec.specs.Activations.{opened, bound, spent, refilled}
 use Rattle.rv_exec.specs.Bodies.{operation_of}
@@ -35,7 +34,7 @@ use Rattle.rv_machine.specs.declared.stack.Stack.{Stack}
 use Rattle.rv_machine.specs.Heights.{body_height, called_height, weight, waiting_height}
 use Rattle.rv_machine.specs.Machines.{MovesTo}
 use Rattle.rv_machine.specs.Moves.{called_moves, body_moves, level, waiting_moves}
-use Rattle.rv_machine.specs.Points.{MovesOn, Apart}
+use Rattle.rv_machine.specs.Points.{given_by, MovesOn, Apart}
 use Rattle.rv_machine.specs.Stacks.{body_or, first_of, rest_of, frames_with, waiting, set_aside, below}
 
 -- one move, and another behind it
@@ -273,23 +272,18 @@ started_begins u s t held object operation is_function values components fs afte
     (started_so u s (held - 1) object operation is_function values components fs)
     (begins (apart_completing (flat_view u) is_function s fs)))
 
-pub request_gives : (u : FlatUnit) (s : Setting) (what : Asked) (held : ℕ) (values given : List ℤ) (fs : List Frame)
-    → what ≡ asked.Given given
-    → MovesOn (flat_view u) (comes (reaches what)) (performing held values ∷ fs) s (comes (outside (Ok given))) fs s
-request_gives u s what held values given fs is =
-    subst (λ (x : Asked). MovesOn (flat_view u) (comes (reaches x)) (performing held values ∷ fs) s (comes (outside (Ok given))) fs s) (sym is)
-    (record { same = (calls_rest (flat_view u) fs s).given held values given; less = omega arith; low = λ one. omega arith })
+given_so : (u : FlatUnit) (s : Setting) (outcome : Outcome) (held : ℕ) (values : List ℤ) (fs : List Frame)
+    → MovesOn (flat_view u) (comes (reaches (given_by outcome))) (performing held values ∷ fs) s (comes (outside outcome)) fs s
+given_so u s (Ok given) held values fs = record { same = (calls_rest (flat_view u) fs s).given held values given; less = omega arith; low = λ one. omega arith }
+given_so u s (Err why) held values fs = record { same = (calls_rest (flat_view u) fs s).abandoned held values why; less = omega arith; low = λ one. omega arith }
 
-pub request_abandoned : (u : FlatUnit) (s : Setting) (what : Asked) (held : ℕ) (values : List ℤ) (why : Cause) (fs : List Frame)
-    → what ≡ asked.Abandoned why
-    → MovesOn (flat_view u) (comes (reaches what)) (performing held values ∷ fs) s (comes (outside (Err why))) fs s
-request_abandoned u s what held values why fs is =
-    subst (λ (x : Asked). MovesOn (flat_view u) (comes (reaches x)) (performing held values ∷ fs) s (comes (outside (Err why))) fs s) (sym is)
-    (record { same = (calls_rest (flat_view u) fs s).abandoned held values why; less = omega arith; low = λ one. omega arith })
-
-pub request_starts : (u : FlatUnit) (s : Setting) (what known : Asked) (before : List Frame) (new : Machine)
-    → what ≡ known → MovesTo u (comes (reaches known)) before s new → MovesTo u (comes (reaches what)) before s new
-request_starts u s what known before new is moves = subst (λ (x : Asked). MovesTo u (comes (reaches x)) before s new) (sym is) moves
+pub met_given : (u : FlatUnit) (old : Stack) (s : Setting) (g : m.Frame) (outcome : Outcome) (held : ℕ) (values : List ℤ)
+    → g ≡ frame.Performing held values
+    → MovesOn (flat_view u) (comes (reaches (given_by outcome))) (frames_with u (g ∷ waiting old) (set_aside old)) s (comes (outside outcome)) (below u old) s
+unfolding frames_with
+met_given u old s g outcome held values is =
+    subst (λ (z : m.Frame). MovesOn (flat_view u) (comes (reaches (given_by outcome))) (frames_with u (z ∷ waiting old) (set_aside old)) s (comes (outside outcome)) (below u old) s) (sym is)
+    (given_so u s outcome held values (below u old))
 
 pub met_performing : (u : FlatUnit) (old : Stack) (s : Setting) (g : m.Frame) (what : Asked) (held : ℕ) (values : List ℤ) (new : Machine)
     → g ≡ frame.Performing held values

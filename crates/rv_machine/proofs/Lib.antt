@@ -2,6 +2,8 @@ pub mod MovesLeft
 pub mod HeightsLeft
 pub mod Rises
 pub mod Needing
+pub mod Composing
+pub mod AtOnceSteps
 pub mod Steps
 pub mod ExpressionSteps
 pub mod StatementSteps

@@ -29,12 +29,13 @@ use Rattle.rv_machine.specs.declared.machine.Machine.{Machine}
 use Rattle.rv_machine.specs.declared.pile.Pile.{Pile}
 use Rattle.rv_machine.specs.declared.point.Point.{Point}
 use Rattle.rv_machine.specs.declared.point.Point.TheVariants as point
+use Rattle.rv_machine.specs.declared.point.Step.{Step}
 use Rattle.rv_machine.specs.declared.stack.Stack.{Stack}
 use Rattle.rv_machine.proofs.MovesLeft.{level_under, frame_least}
 use Rattle.rv_machine.specs.Machines.{MovesTo, kind_taken, is_over}
 use Rattle.rv_machine.specs.Heights.{waiting_height}
 use Rattle.rv_machine.specs.Moves.{called_moves, level, level_below, waiting_moves}
-use Rattle.rv_machine.specs.Points.{control, MovesOn, Leads, LeadsIn, LeadsAcross}
+use Rattle.rv_machine.specs.Points.{control, control_in, MovesOn, Leads, LeadsIn, LeadsAcross}
 use Rattle.rv_machine.specs.Stacks.{operand_frame, value_frame, values_frame, end_frame, count_frame, first_of, rest_of, frames_with, waiting, set_aside, below}
 
 -- a move of these bodies
@@ -54,6 +55,17 @@ moved u old new p same leads =
 pub at_point : (u : FlatUnit) (g p : Point) (a : Activation) (before : List Frame) (s : Setting) (new : Machine)
     → g ≡ p → MovesTo u (control (trees u.code) p a) before s new → MovesTo u (control (trees u.code) g a) before s new
 at_point u g p a before s new is moves = subst (λ (x : Point). MovesTo u (control (trees u.code) x a) before s new) (sym is) moves
+
+pub at_within : (u : FlatUnit) (g p : Step) (a : Activation) (before : List Frame) (s : Setting) (new : Machine)
+    → g ≡ p → MovesTo u (control_in (trees u.code) p a) before s new → MovesTo u (control_in (trees u.code) g a) before s new
+at_within u g p a before s new is moves = subst (λ (x : Step). MovesTo u (control_in (trees u.code) x a) before s new) (sym is) moves
+
+-- a move that leads a machine on
+pub led : (u : FlatUnit) (old new : Machine) (from : Control) (before : List Frame)
+    → new.setting ≡ old.setting → LeadsIn old.setting from before (control (trees u.code) new.point new.activation) (below u new.stack) → MovesTo u from before old.setting new
+led u old new from before same leads =
+    subst (λ (t : Setting). MovesOn (flat_view u) from before old.setting (control (trees u.code) new.point new.activation) (below u new.stack) t) (sym same)
+    (record { same = leads.same (flat_view u); less = leads.less (flat_view u); low = leads.low (flat_view u) })
 
 pub from_as : (from known to : Control) (before after : List Frame) → from ≡ known → Leads known before to after → Leads from before to after
 from_as from known to before after is leads = subst (λ (x : Control). Leads x before to after) (sym is) leads
@@ -99,11 +111,10 @@ met_values u old new now s g x is leads =
 
 pub met_end : (u : FlatUnit) (old : Stack) (new : Machine) (now : Now) (s : Setting) (g : m.Frame) (x : EndFrame)
     → g ≡ frame.End x
-    → LeadsAcross s (comes now) (end_frame u x ∷ below u old) new.setting (control (trees u.code) new.point new.activation) (below u new.stack)
+    → MovesTo u (comes now) (end_frame u x ∷ below u old) s new
     → MovesTo u (comes now) (frames_with u (g ∷ waiting old) (set_aside old)) s new
 unfolding frames_with
-met_end u old new now s g x is leads =
-    subst (λ (z : m.Frame). MovesTo u (comes now) (frames_with u (z ∷ waiting old) (set_aside old)) s new) (sym is) (at_bodies (flat_view u) _ _ _ _ _ _ leads)
+met_end u old new now s g x is moves = subst (λ (z : m.Frame). MovesTo u (comes now) (frames_with u (z ∷ waiting old) (set_aside old)) s new) (sym is) moves
 
 pub met_count : (u : FlatUnit) (old : Stack) (new : Machine) (now : Now) (s : Setting) (g : m.Frame) (count : Count) (ss : ℕ)
     → g ≡ frame.Counting count ss
@@ -343,11 +354,12 @@ takes_no_over other = refl
 
 -- how a run ends passes a frame
 pub over_passed : (u : FlatUnit) (a : Activation) (old : Stack) (s : Setting) (g : m.Frame) (p : Point) (new : Machine)
-    → new.point ≡ p → is_over p ≡ true
+    → new.point ≡ p → new.activation ≡ a → is_over p ≡ true
     → ((now : Now) → is_kind (kind_taken g) (comes_as now) ≡ false → MovesOn (flat_view u) (comes now) (frames_with u (g ∷ waiting old) (set_aside old)) s (comes now) (below u new.stack) new.setting)
     → MovesTo u (control (trees u.code) p a) (frames_with u (g ∷ waiting old) (set_aside old)) s new
-over_passed u a old s g (point.Exited e components) new at is pass =
-    subst (λ (x : Point). MovesOn (flat_view u) (comes (f.exited e components)) (frames_with u (g ∷ waiting old) (set_aside old)) s (control (trees u.code) x new.activation) (below u new.stack) new.setting) (sym at) (pass (f.exited e components) (takes_no_over g))
-over_passed u a old s g (point.Quitted e) new at is pass =
+over_passed u a old s g (point.Exited e) new at same is pass =
+    subst (λ (x : Point). MovesOn (flat_view u) (comes (f.exited e a.components)) (frames_with u (g ∷ waiting old) (set_aside old)) s (control (trees u.code) x new.activation) (below u new.stack) new.setting) (sym at)
+    (subst (λ (b : Activation). MovesOn (flat_view u) (comes (f.exited e a.components)) (frames_with u (g ∷ waiting old) (set_aside old)) s (comes (f.exited e b.components)) (below u new.stack) new.setting) (sym same) (pass (f.exited e a.components) (takes_no_over g)))
+over_passed u a old s g (point.Quitted e) new at same is pass =
     subst (λ (x : Point). MovesOn (flat_view u) (comes (f.quitted e)) (frames_with u (g ∷ waiting old) (set_aside old)) s (control (trees u.code) x new.activation) (below u new.stack) new.setting) (sym at) (pass (f.quitted e) (takes_no_over g))
-over_passed u a old s g other new at is pass = absurd (cc is)
+over_passed u a old s g other new at same is pass = absurd (cc is)

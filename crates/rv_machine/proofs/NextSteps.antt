@@ -9,10 +9,11 @@ use Rattle.rv_code.specs.declared.expression.Callee.{Callee}
 use Rattle.rv_exec.specs.declared.activation.Activation.{Activation}
 use Rattle.rv_exec.specs.declared.setting.Setting.{Setting}
 use Rattle.rv_exec.specs.declared.end.Asked.{Asked}
+use Rattle.rv_exec.specs.declared.end.Asked.TheVariants as reached
 use Rattle.rv_exec.specs.declared.end.Reply.TheVariants as reply
 use Rattle.rv_exec.specs.declared.end.Cause.TheVariants as cause
 use Rattle.rv_exec.specs.Asking.{Asking, asking, and_then}
-use Rattle.rv_exec.specs.Calls.{Outcome, is_stuck, exit_of, request_of, replied, resumed, completed, settled}
+use Rattle.rv_exec.specs.Calls.{Outcome, is_stuck, end_of, exit_of, request_of, replied, resumed, completed, settled}
 use Rattle.rv_flat.specs.declared.unit.FlatUnit.{FlatUnit}
 use Rattle.rv_flat.specs.FlatUnits.{flat_view}
 use Rattle.rv_flat.specs.Tables.{trees}
@@ -28,9 +29,12 @@ use Rattle.rv_machine.specs.declared.machine.Machine.{Machine}
 use Rattle.rv_machine.specs.declared.next.Final.{Final}
 use Rattle.rv_machine.specs.declared.point.Point.{Point}
 use Rattle.rv_machine.specs.declared.point.Point.TheVariants as point
-use Rattle.rv_machine.specs.Machines.{stands, left, MovesTo, question, is_coming, answered, final_at, final_of, AsksNow, EndsNow, IsAnswered}
+use Rattle.rv_machine.specs.declared.point.Step.TheVariants as step
+use Rattle.rv_machine.specs.declared.stack.Stack.{Stack}
+use Rattle.rv_machine.specs.Machines.{stands, left, high, MovesTo, question, is_coming, answered, final_at, final_of, AsksNow, EndsNow, IsAnswered}
+use Rattle.rv_machine.specs.Heights.{highest}
 use Rattle.rv_machine.specs.Moves.{moves_left}
-use Rattle.rv_machine.specs.Points.{control, MovesOn, Apart}
+use Rattle.rv_machine.specs.Points.{control, given_by, MovesOn, Apart}
 use Rattle.rv_machine.specs.Stacks.{below}
 
 -- a test that leaves nothing, and one that leaves something
@@ -50,23 +54,23 @@ test_asked : {A : Type 0} (b : Bool) (x : A) → (cond b None (Some x) ≡ None 
 test_asked true x some = absurd (some refl)
 test_asked false x some = refl
 
-pub end_unasked : (u : FlatUnit) (s : Setting) (request : Request) (outcome : Outcome) (fs : List Frame)
-    → question (point.Ends request outcome) ≡ None → MovesOn (flat_view u) (ends_of request outcome) fs s (comes (outside outcome)) fs s
-end_unasked u s request outcome fs is = record {
-  same = (runs_ask (flat_view u) fs s).stuck request outcome (test_none (is_stuck outcome) request is);
+pub end_unasked : (u : FlatUnit) (s : Setting) (is_function : Bool) (outcome : Outcome) (a : Activation) (fs : List Frame)
+    → question (point.Ends is_function outcome) a ≡ None → MovesOn (flat_view u) (ends_of (end_of is_function outcome a.components) outcome) fs s (comes (outside outcome)) fs s
+end_unasked u s is_function outcome a fs is = record {
+  same = (runs_ask (flat_view u) fs s).stuck (end_of is_function outcome a.components) outcome (test_none (is_stuck outcome) (end_of is_function outcome a.components) is);
   less = omega arith;
   low = λ one. omega arith;
 }
 
-pub task_end_unasked : (u : FlatUnit) (s : Setting) (outcome : Outcome) (exit : Exit) (fs : List Frame)
-    → question (point.Quits outcome) ≡ None → exit ≡ exit_of outcome → MovesOn (flat_view u) (quits_of outcome) fs s (comes (quitted exit)) fs s
-task_end_unasked u s outcome exit fs is exits =
+pub task_end_unasked : (u : FlatUnit) (s : Setting) (outcome : Outcome) (a : Activation) (exit : Exit) (fs : List Frame)
+    → question (point.Quits outcome) a ≡ None → exit ≡ exit_of outcome → MovesOn (flat_view u) (quits_of outcome) fs s (comes (quitted exit)) fs s
+task_end_unasked u s outcome a exit fs is exits =
     subst (λ (x : Exit). MovesOn (flat_view u) (quits_of outcome) fs s (comes (quitted x)) fs s) (sym exits)
     (record { same = (runs_ask (flat_view u) fs s).left outcome (test_none (is_stuck outcome) requests.Quit is); less = omega arith; low = λ one. omega arith })
 
 -- what is asked at a point
 pub asks_at : (u : FlatUnit) (p : Point) (a : Activation) (fs : List Frame) (s : Setting) (request : Request)
-    → question p ≡ Some request → AsksNow (meant (flat_view u) (control (trees u.code) p a) fs s) request
+    → question p a ≡ Some request → AsksNow (meant (flat_view u) (control (trees u.code) p a) fs s) request
 asks_at u (point.Asks callee values) a fs s request is =
     let same : request_of callee values ≡ request = cc in (
       λ answer. and_then (settled callee (replied callee answer)) (reach (denoted (flat_view u) fs s)),
@@ -77,9 +81,9 @@ asks_at u (point.Waits callee) a fs s request is =
       λ answer. meant (flat_view u) (comes (reaches (resumed callee answer))) fs s,
       (runs_ask (flat_view u) fs s).resume callee ∙ ap (λ (r : Request). asking r (λ answer. meant (flat_view u) (comes (reaches (resumed callee answer))) fs s)) same,
     )
-asks_at u (point.Ends r outcome) a fs s request is = (
+asks_at u (point.Ends is_function outcome) a fs s request is = (
   λ answer. meant (flat_view u) (comes (outside (completed outcome answer))) fs s,
-  (calls_arrive (flat_view u) fs s).end r outcome (test_some (is_stuck outcome) r request is) ∙ ap (λ (x : Request). asking x (λ answer. meant (flat_view u) (comes (outside (completed outcome answer))) fs s)) (test_same (is_stuck outcome) r request is),
+  (calls_arrive (flat_view u) fs s).end (end_of is_function outcome a.components) outcome (test_some (is_stuck outcome) (end_of is_function outcome a.components) request is) ∙ ap (λ (x : Request). asking x (λ answer. meant (flat_view u) (comes (outside (completed outcome answer))) fs s)) (test_same (is_stuck outcome) (end_of is_function outcome a.components) request is),
 )
 asks_at u (point.Quits outcome) a fs s request is = (
   λ answer. meant (flat_view u) (comes (quitted (exit_of outcome))) fs s,
@@ -97,19 +101,20 @@ ends_so : (u : FlatUnit) (now : Now) (fs : List Frame) (s : Setting) → fs ≡ 
 ends_so u now fs s none = (now, ap (λ (gs : List Frame). meant (flat_view u) (comes now) gs s) none ∙ (calls_rest (flat_view u) [] s).over now, refl)
 
 pub ends_at : (u : FlatUnit) (p : Point) (a : Activation) (fs : List Frame) (s : Setting)
-    → is_coming p ≡ true → fs ≡ [] → EndsNow (meant (flat_view u) (control (trees u.code) p a) fs s) (final_at p)
-ends_at u (point.Valued v) a fs s is none = ends_so u (f.valued v a) fs s none
-ends_at u (point.Listed outcome) a fs s is none = ends_so u (f.listed outcome a) fs s none
-ends_at u (point.Done e) a fs s is none = ends_so u (f.done e a) fs s none
-ends_at u (point.Closes outcome components steps) a fs s is none = ends_so u (f.closes outcome components steps) fs s none
-ends_at u (point.Reaches what) a fs s is none = ends_so u (f.reaches what) fs s none
+    → is_coming p ≡ true → fs ≡ [] → EndsNow (meant (flat_view u) (control (trees u.code) p a) fs s) (final_at p a)
+ends_at u (point.At (step.Valued v)) a fs s is none = ends_so u (f.valued v a) fs s none
+ends_at u (point.At (step.Listed outcome)) a fs s is none = ends_so u (f.listed outcome a) fs s none
+ends_at u (point.At (step.Done e)) a fs s is none = ends_so u (f.done e a) fs s none
+ends_at u (point.Closes outcome) a fs s is none = ends_so u (f.closes outcome a.components a.steps) fs s none
+ends_at u (point.Reaches outcome) a fs s is none = ends_so u (f.reaches (given_by outcome)) fs s none
+ends_at u (point.Starts object operation is_function) a fs s is none = ends_so u (f.reaches (reached.Started object operation is_function a.components)) fs s none
 ends_at u (point.Outside outcome) a fs s is none = ends_so u (f.outside outcome) fs s none
-ends_at u (point.Exited e components) a fs s is none = ends_so u (f.exited e components) fs s none
+ends_at u (point.Exited e) a fs s is none = ends_so u (f.exited e a.components) fs s none
 ends_at u (point.Quitted e) a fs s is none = ends_so u (f.quitted e) fs s none
 ends_at u other a fs s is none = absurd (cc is)
 
 pub ended_at : (u : FlatUnit) (p : Point) (a : Activation) (fs : List Frame) (s : Setting) (how : Final)
-    → is_coming p ≡ true → fs ≡ [] → how ≡ final_at p → EndsNow (meant (flat_view u) (control (trees u.code) p a) fs s) how
+    → is_coming p ≡ true → fs ≡ [] → how ≡ final_at p a → EndsNow (meant (flat_view u) (control (trees u.code) p a) fs s) how
 ended_at u p a fs s how is none at = let ends = ends_at u p a fs s is none in (ends.0, ends.1, at ∙ ends.2)
 
 -- where an answer leads
@@ -117,14 +122,41 @@ follows : (run : Asking Now) (request : Request) (go : Answer → Asking Now) (a
     → run ≡ asking request go → go answer ≡ to → to ≡ answered run answer
 follows run request go answer to asks leads = sym (ap (λ (x : Asking Now). answered x answer) asks ∙ leads)
 
-pub call_settled : (u : FlatUnit) (callee : Callee) (values : List ℤ) (old : Machine) (answer : Answer) (what : Asked)
-    → replied callee answer ≡ reply.Settled what → IsAnswered u (point.Asks callee values) old answer (record old { point = point.Reaches what })
-call_settled u callee values old answer what is = record {
+-- a machine that stands at what a request comes to
+stands_at : (u : FlatUnit) (what : Asked) (old new : Machine)
+    → control (trees u.code) new.point new.activation ≡ comes (reaches what) → new.stack ≡ old.stack → new.setting ≡ old.setting
+    → stands u new ≡ meant (flat_view u) (comes (reaches what)) (below u old.stack) old.setting
+stands_at u what old new at stack setting =
+    ap (λ (x : Control). meant (flat_view u) x (below u new.stack) new.setting) at
+    ∙ (ap (λ (x : Stack). meant (flat_view u) (comes (reaches what)) (below u x) new.setting) stack
+    ∙ ap (λ (t : Setting). meant (flat_view u) (comes (reaches what)) (below u old.stack) t) setting)
+
+left_at : (u : FlatUnit) (what : Asked) (old new : Machine)
+    → control (trees u.code) new.point new.activation ≡ comes (reaches what) → new.stack ≡ old.stack → new.setting ≡ old.setting
+    → left u new ≡ moves_left (flat_view u) (comes (reaches what)) (below u old.stack) old.setting
+left_at u what old new at stack setting =
+    ap (λ (x : Control). moves_left (flat_view u) x (below u new.stack) new.setting) at
+    ∙ (ap (λ (x : Stack). moves_left (flat_view u) (comes (reaches what)) (below u x) new.setting) stack
+    ∙ ap (λ (t : Setting). moves_left (flat_view u) (comes (reaches what)) (below u old.stack) t) setting)
+
+high_at : (one : ℕ) (u : FlatUnit) (what : Asked) (old new : Machine)
+    → control (trees u.code) new.point new.activation ≡ comes (reaches what) → new.stack ≡ old.stack → new.setting ≡ old.setting
+    → high one u new ≡ highest one (flat_view u) (comes (reaches what)) (below u old.stack) old.setting
+high_at one u what old new at stack setting =
+    ap (λ (x : Control). highest one (flat_view u) x (below u new.stack) new.setting) at
+    ∙ (ap (λ (x : Stack). highest one (flat_view u) (comes (reaches what)) (below u x) new.setting) stack
+    ∙ ap (λ (t : Setting). highest one (flat_view u) (comes (reaches what)) (below u old.stack) t) setting)
+
+pub call_settled : (u : FlatUnit) (callee : Callee) (values : List ℤ) (old new : Machine) (answer : Answer) (what : Asked)
+    → replied callee answer ≡ reply.Settled what
+    → control (trees u.code) new.point new.activation ≡ comes (reaches what) → new.stack ≡ old.stack → new.setting ≡ old.setting
+    → IsAnswered u (point.Asks callee values) old answer new
+call_settled u callee values old new answer what is at stack setting = record {
   follows = follows _ (request_of callee values) (λ reply. and_then (settled callee (replied callee reply)) (reach (denoted (flat_view u) (below u old.stack) old.setting))) answer _
       ((calls_arrive (flat_view u) (below u old.stack) old.setting).ask callee values)
-      ((calls_arrive (flat_view u) (below u old.stack) old.setting).ask_settled callee answer what is);
-  less = omega arith;
-  low = λ one. omega arith;
+      ((calls_arrive (flat_view u) (below u old.stack) old.setting).ask_settled callee answer what is ∙ sym (stands_at u what old new at stack setting));
+  less = let e = left_at u what old new at stack setting in omega (arith, e);
+  low = λ one. let e = high_at one u what old new at stack setting in omega (arith, e);
 }
 
 pub call_waits : (u : FlatUnit) (callee : Callee) (values : List ℤ) (old : Machine) (answer : Answer)
@@ -137,28 +169,30 @@ call_waits u callee values old answer is = record {
   low = λ one. omega arith;
 }
 
-pub wait_over : (u : FlatUnit) (callee : Callee) (old : Machine) (answer : Answer) (what : Asked)
-    → what ≡ resumed callee answer → IsAnswered u (point.Waits callee) old answer (record old { point = point.Reaches what })
-wait_over u callee old answer what is = record {
+pub wait_over : (u : FlatUnit) (callee : Callee) (old new : Machine) (answer : Answer) (what : Asked)
+    → what ≡ resumed callee answer
+    → control (trees u.code) new.point new.activation ≡ comes (reaches what) → new.stack ≡ old.stack → new.setting ≡ old.setting
+    → IsAnswered u (point.Waits callee) old answer new
+wait_over u callee old new answer what is at stack setting = record {
   follows = follows _ requests.Resume (λ reply. meant (flat_view u) (comes (reaches (resumed callee reply))) (below u old.stack) old.setting) answer _
       ((runs_ask (flat_view u) (below u old.stack) old.setting).resume callee)
-      (ap (λ (x : Asked). meant (flat_view u) (comes (reaches x)) (below u old.stack) old.setting) (sym is));
-  less = omega arith;
-  low = λ one. omega arith;
+      (ap (λ (x : Asked). meant (flat_view u) (comes (reaches x)) (below u old.stack) old.setting) (sym is) ∙ sym (stands_at u what old new at stack setting));
+  less = let e = left_at u what old new at stack setting in omega (arith, e);
+  low = λ one. let e = high_at one u what old new at stack setting in omega (arith, e);
 }
 
-pub end_over : (u : FlatUnit) (request : Request) (outcome : Outcome) (old : Machine) (answer : Answer) (to : Outcome)
-    → (question (point.Ends request outcome) ≡ None → ⊥) → to ≡ completed outcome answer → IsAnswered u (point.Ends request outcome) old answer (record old { point = point.Outside to })
-end_over u request outcome old answer to asked is = record {
-  follows = follows _ request (λ reply. meant (flat_view u) (comes (outside (completed outcome reply))) (below u old.stack) old.setting) answer _
-      ((calls_arrive (flat_view u) (below u old.stack) old.setting).end request outcome (test_asked (is_stuck outcome) request asked))
+pub end_over : (u : FlatUnit) (is_function : Bool) (outcome : Outcome) (old : Machine) (answer : Answer) (to : Outcome)
+    → (question (point.Ends is_function outcome) old.activation ≡ None → ⊥) → to ≡ completed outcome answer → IsAnswered u (point.Ends is_function outcome) old answer (record old { point = point.Outside to })
+end_over u is_function outcome old answer to asked is = record {
+  follows = follows _ (end_of is_function outcome old.activation.components) (λ reply. meant (flat_view u) (comes (outside (completed outcome reply))) (below u old.stack) old.setting) answer _
+      ((calls_arrive (flat_view u) (below u old.stack) old.setting).end (end_of is_function outcome old.activation.components) outcome (test_asked (is_stuck outcome) (end_of is_function outcome old.activation.components) asked))
       (ap (λ (x : Outcome). meant (flat_view u) (comes (outside x)) (below u old.stack) old.setting) (sym is));
   less = omega arith;
   low = λ one. omega arith;
 }
 
 pub task_end_over : (u : FlatUnit) (outcome : Outcome) (old : Machine) (answer : Answer) (exit : Exit)
-    → (question (point.Quits outcome) ≡ None → ⊥) → exit ≡ exit_of outcome → IsAnswered u (point.Quits outcome) old answer (record old { point = point.Quitted exit })
+    → (question (point.Quits outcome) old.activation ≡ None → ⊥) → exit ≡ exit_of outcome → IsAnswered u (point.Quits outcome) old answer (record old { point = point.Quitted exit })
 task_end_over u outcome old answer exit asked is = record {
   follows = follows _ requests.Quit (λ reply. meant (flat_view u) (comes (quitted (exit_of outcome))) (below u old.stack) old.setting) answer _
       ((runs_ask (flat_view u) (below u old.stack) old.setting).quit outcome (test_asked (is_stuck outcome) requests.Quit asked))
@@ -209,14 +243,14 @@ pub less_at : (u : FlatUnit) (p : Point) (old : Machine) (answer : Answer) (new 
 less_at u p old answer new is led =
     subst (λ (x : Point). left u new < moves_left (flat_view u) (control (trees u.code) x old.activation) (below u old.stack) old.setting) (sym is) led.less
 
-pub unasked : (p : Point)
+pub unasked : (p : Point) (run : Activation)
     → ((callee : Callee) (values : List ℤ) → p ≡ point.Asks callee values → ⊥) → ((callee : Callee) → p ≡ point.Waits callee → ⊥)
-    → ((request : Request) (outcome : Outcome) → p ≡ point.Ends request outcome → ⊥) → ((outcome : Outcome) → p ≡ point.Quits outcome → ⊥)
+    → ((is_function : Bool) (outcome : Outcome) → p ≡ point.Ends is_function outcome → ⊥) → ((outcome : Outcome) → p ≡ point.Quits outcome → ⊥)
     → ((object operation : ℕ) → p ≡ point.Fires object operation → ⊥)
-    → question p ≡ None
-unasked (point.Asks callee values) a b d e g = absurd (a callee values refl)
-unasked (point.Waits callee) a b d e g = absurd (b callee refl)
-unasked (point.Ends request outcome) a b d e g = absurd (d request outcome refl)
-unasked (point.Quits outcome) a b d e g = absurd (e outcome refl)
-unasked (point.Fires object operation) a b d e g = absurd (g object operation refl)
-unasked other a b d e g = refl
+    → question p run ≡ None
+unasked (point.Asks callee values) run a b d e g = absurd (a callee values refl)
+unasked (point.Waits callee) run a b d e g = absurd (b callee refl)
+unasked (point.Ends is_function outcome) run a b d e g = absurd (d is_function outcome refl)
+unasked (point.Quits outcome) run a b d e g = absurd (e outcome refl)
+unasked (point.Fires object operation) run a b d e g = absurd (g object operation refl)
+unasked other run a b d e g = refl

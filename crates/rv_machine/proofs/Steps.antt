@@ -132,9 +132,9 @@ pub at_value : (ts : List Tree) (x y : ValueFrame) (from to : Control) (fs after
     → x ≡ y → Leads from (value_frame ts y ∷ fs) to after → Leads from (value_frame ts x ∷ fs) to after
 at_value ts x y from to fs after is leads = subst (λ (z : ValueFrame). Leads from (value_frame ts z ∷ fs) to after) (sym is) leads
 
-pub at_end : (u : FlatUnit) (x y : EndFrame) (from to : Control) (fs after : List Frame)
-    → x ≡ y → Leads from (end_frame u y ∷ fs) to after → Leads from (end_frame u x ∷ fs) to after
-at_end u x y from to fs after is leads = subst (λ (z : EndFrame). Leads from (end_frame u z ∷ fs) to after) (sym is) leads
+pub at_end_in : (s : Setting) (u : FlatUnit) (x y : EndFrame) (from to : Control) (fs after : List Frame)
+    → x ≡ y → LeadsIn s from (end_frame u y ∷ fs) to after → LeadsIn s from (end_frame u x ∷ fs) to after
+at_end_in s u x y from to fs after is leads = subst (λ (z : EndFrame). LeadsIn s from (end_frame u z ∷ fs) to after) (sym is) leads
 
 -- numbers that are known by another name
 pub at_number : (v w : ℤ) (a : Activation) (to : Control) (before after : List Frame)

@@ -5,3 +5,4 @@ pub mod Machines
 pub mod Moves
 pub mod Heights
 pub mod Needs
+pub mod AtOnce

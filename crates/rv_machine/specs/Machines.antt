@@ -4,7 +4,8 @@ use Rattle.rv_event.specs.declared.entry.Answer.{Answer}
 use Rattle.rv_event.specs.declared.entry.Request.{Request}
 use Rattle.rv_event.specs.declared.entry.Request.TheVariants as request
 use Rattle.rv_exec.specs.Asking.{Asking, ended, asking}
-use Rattle.rv_exec.specs.Calls.{request_of, is_stuck}
+use Rattle.rv_exec.specs.Calls.{request_of, is_stuck, end_of}
+use Rattle.rv_exec.specs.declared.activation.Activation.{Activation}
 use Rattle.rv_exec.specs.declared.setting.Setting.{Setting}
 use Rattle.rv_flat.specs.declared.unit.FlatUnit.{FlatUnit}
 use Rattle.rv_flat.specs.FlatUnits.{flat_view}
@@ -22,6 +23,8 @@ use Rattle.rv_machine.specs.declared.next.Next.{Next}
 use Rattle.rv_machine.specs.declared.next.Next.TheVariants as next
 use Rattle.rv_machine.specs.declared.point.Point.{Point}
 use Rattle.rv_machine.specs.declared.point.Point.TheVariants as point
+use Rattle.rv_machine.specs.declared.point.Step.{Step}
+use Rattle.rv_machine.specs.declared.point.Step.TheVariants as step
 use Rattle.rv_machine.specs.Heights.{any_height, highest}
 use Rattle.rv_machine.specs.Moves.{moves_left}
 use Rattle.rv_machine.specs.Points.{control, MovesOn}
@@ -72,30 +75,35 @@ kind_taken (frame.Performing held given) = a_request
 kind_taken (frame.Completing is_function t) = a_body
 kind_taken frame.Exiting = a_body
 
--- what is asked at a point, if something is
-abbrev pub question : Point → Option Request
-question (point.Asks callee values) = Some (request_of callee values)
-question (point.Waits callee) = Some request.Resume
-question (point.Ends request outcome) = if is_stuck outcome then None else Some request
-question (point.Quits outcome) = if is_stuck outcome then None else Some request.Quit
-question (point.Fires object operation) = Some request.Fire
-question other = None
+-- what is asked at a point with an activation, if something is
+abbrev pub question : Point → Activation → Option Request
+question (point.Asks callee values) a = Some (request_of callee values)
+question (point.Waits callee) a = Some request.Resume
+question (point.Ends is_function outcome) a = if is_stuck outcome then None else Some (end_of is_function outcome a.components)
+question (point.Quits outcome) a = if is_stuck outcome then None else Some request.Quit
+question (point.Fires object operation) a = Some request.Fire
+question other a = None
 
 -- whether something comes to the frame on top
+abbrev pub comes_in : Step → Bool
+comes_in (step.Valued v) = true
+comes_in (step.Listed outcome) = true
+comes_in (step.Done e) = true
+comes_in other = false
+
 abbrev pub is_coming : Point → Bool
-is_coming (point.Valued v) = true
-is_coming (point.Listed outcome) = true
-is_coming (point.Done e) = true
-is_coming (point.Closes outcome components steps) = true
-is_coming (point.Reaches what) = true
+is_coming (point.At x) = comes_in x
+is_coming (point.Closes outcome) = true
+is_coming (point.Reaches outcome) = true
+is_coming (point.Starts object operation is_function) = true
 is_coming (point.Outside outcome) = true
-is_coming (point.Exited e components) = true
+is_coming (point.Exited e) = true
 is_coming (point.Quitted e) = true
 is_coming other = false
 
 -- whether it is how a run ends
 abbrev pub is_over : Point → Bool
-is_over (point.Exited e components) = true
+is_over (point.Exited e) = true
 is_over (point.Quitted e) = true
 is_over other = false
 
@@ -111,11 +119,11 @@ final_of (f.quitted e) = final.Quitted e
 final_of (f.outside outcome) = final.Outside outcome
 final_of other = final.Other
 
-abbrev pub final_at : Point → Final
-final_at (point.Exited e components) = final.Exited e components
-final_at (point.Quitted e) = final.Quitted e
-final_at (point.Outside outcome) = final.Outside outcome
-final_at other = final.Other
+abbrev pub final_at : Point → Activation → Final
+final_at (point.Exited e) a = final.Exited e a.components
+final_at (point.Quitted e) a = final.Quitted e
+final_at (point.Outside outcome) a = final.Outside outcome
+final_at other a = final.Other
 
 abbrev pub OnAsks : Next → (Request → Type 0) → Type 0
 OnAsks (next.Asks request) P = P request

@@ -14,7 +14,7 @@ use crate::point::Point;
 use crate::returns::of_body;
 use crate::stack::Stack;
 use rv_code::Callee;
-use rv_event::entry::{Answer, Request};
+use rv_event::entry::Answer;
 use rv_exec::activation::MOST_STEPS;
 use rv_exec::asks::{completed, exit_of, replied, resumed};
 use rv_exec::end::{Cause, Reply};
@@ -31,9 +31,7 @@ impl Machine {
         let _ = unit;
         let _ = values;
         match replied(callee, answer) {
-            Reply::Settled(asked) => {
-                self.point = Point::Reaches(asked);
-            }
+            Reply::Settled(asked) => self.reach(asked),
             Reply::Waits => {
                 self.point = Point::Waits(callee);
             }
@@ -46,29 +44,29 @@ impl Machine {
         ensures kept { room self.new.stack ≡ room self.old.stack }
     {
         let _ = unit;
-        self.point = Point::Reaches(resumed(callee, answer));
+        self.reach(resumed(callee, answer));
     }
 
     // The end of a body is answered (9.5.1).
     fn end_answered(
         &mut self,
         unit: &FlatUnit,
-        request: Request,
+        is_function: bool,
         outcome: Result<Args, Cause>,
         answer: Answer,
     )
-        requires { question (Point.Ends request outcome) ≡ None → ⊥ }
-        ensures answered { IsAnswered unit.now (Point.Ends request outcome) self.old answer self.new }
+        requires { question (Point.Ends is_function outcome) self.old.activation ≡ None → ⊥ }
+        ensures answered { IsAnswered unit.now (Point.Ends is_function outcome) self.old answer self.new }
         ensures kept { room self.new.stack ≡ room self.old.stack }
     {
         let _ = unit;
-        let _ = request;
+        let _ = is_function;
         self.point = Point::Outside(completed(outcome, answer));
     }
 
     // The end of a task is answered (9.3).
     fn task_end_answered(&mut self, unit: &FlatUnit, outcome: Result<Args, Cause>, answer: Answer)
-        requires { question (Point.Quits outcome) ≡ None → ⊥ }
+        requires { question (Point.Quits outcome) self.old.activation ≡ None → ⊥ }
         ensures answered { IsAnswered unit.now (Point.Quits outcome) self.old answer self.new }
         ensures kept { room self.new.stack ≡ room self.old.stack }
     {
@@ -97,7 +95,7 @@ impl Machine {
 
     // What is asked at a point is answered.
     fn answer_at(&mut self, unit: &FlatUnit, point: Point, answer: Answer)
-        requires asks { question point ≡ None → ⊥ }
+        requires asks { question point self.old.activation ≡ None → ⊥ }
         requires room { HasRoom 3 self.old.stack }
         ensures answered { IsAnswered unit.now point self.old answer self.new }
         ensures kept { room self.new.stack ≡ room self.old.stack }
@@ -105,7 +103,9 @@ impl Machine {
         match point {
             Point::Asks(callee, values) => self.call_answered(unit, callee, values, answer),
             Point::Waits(callee) => self.wait_answered(unit, callee, answer),
-            Point::Ends(request, outcome) => self.end_answered(unit, request, outcome, answer),
+            Point::Ends(is_function, outcome) => {
+                self.end_answered(unit, is_function, outcome, answer)
+            },
             Point::Quits(outcome) => self.task_end_answered(unit, outcome, answer),
             Point::Fires(object, number) => self.line_answered(unit, object, number, answer),
             _ => {}
@@ -114,7 +114,7 @@ impl Machine {
 
     /// What the machine asks is answered: it stands at what follows the answer, and there is less left to do.
     pub fn answer(&mut self, unit: &FlatUnit, answer: Answer)
-        requires asks { question self.old.point ≡ None → ⊥ }
+        requires asks { question self.old.point self.old.activation ≡ None → ⊥ }
         requires fits { Fits unit.now self.old }
         ensures answered { stands unit.now self.new ≡ answered (stands unit.now self.old) answer }
         ensures less { left unit.now self.new < left unit.now self.old }

@@ -11,7 +11,7 @@ use crate::calls::{begun, inner, no_activation};
 use crate::frame::EndFrame;
 use crate::machine::Machine;
 use crate::outcomes::operation;
-use crate::point::Point;
+use crate::point::{Point, Step};
 use crate::stack::Stack;
 use rv_event::entry::Exception;
 use rv_exec::activation::MOST_STEPS;
@@ -44,22 +44,23 @@ impl Machine {
                 frames.push_end(EndFrame::Closing(object, number));
                 frames.push_end(EndFrame::Opening(body.statements, body.handlers));
                 Machine {
-                    point: Point::Declares(body.declarations),
+                    point: Point::At(Step::Declares(body.declarations)),
                     activation: begun(body, values, components, MOST_STEPS),
                     setting: inner(&setting),
                     stack: frames,
                 }
             }
-            None => Machine {
-                point: Point::Closes(
-                    Err(Cause::Raised(Exception::ProgramError)),
-                    components,
-                    MOST_STEPS,
-                ),
-                activation: no_activation(),
-                setting,
-                stack: frames,
-            },
+            None => {
+                let mut activation = no_activation();
+                activation.components = components;
+                activation.steps = MOST_STEPS;
+                Machine {
+                    point: Point::Closes(Err(Cause::Raised(Exception::ProgramError))),
+                    activation,
+                    setting,
+                    stack: frames,
+                }
+            }
         }
     }
 }

@@ -12,7 +12,7 @@ ghost use Rattle.rv_machine.specs.Stacks.{below, HasRoom, HasSpace, room};
 use crate::frame::EndFrame;
 use crate::machine::Machine;
 use crate::outcomes::operation;
-use crate::point::Point;
+use crate::point::{Point, Step};
 use rv_code::{Callee, MOST_SLOTS};
 use rv_event::entry::Exception;
 use rv_exec::activation::Activation;
@@ -94,13 +94,17 @@ impl Machine {
     {
         self.setting = setting;
         if setting.nested == 0 {
-            self.point = Point::Closes(Err(Cause::Overrun), components, steps);
+            self.activation.components = components;
+            self.activation.steps = steps;
+            self.point = Point::Closes(Err(Cause::Overrun));
             return;
         }
         match operation(unit, setting.object, number) {
             None => {
                 let outcome = Err(Cause::Raised(Exception::ProgramError));
-                self.point = Point::Closes(outcome, components, steps);
+                self.activation.components = components;
+                self.activation.steps = steps;
+                self.point = Point::Closes(outcome);
             }
             Some(body) => {
                 self.stack
@@ -109,7 +113,7 @@ impl Machine {
                     .push_end(EndFrame::Opening(body.statements, body.handlers));
                 self.activation = begun(body, values, components, steps);
                 self.setting = inner(&setting);
-                self.point = Point::Declares(body.declarations);
+                self.point = Point::At(Step::Declares(body.declarations));
             }
         }
     }
@@ -140,7 +144,7 @@ impl Machine {
         let _ = unit;
         let setting = self.setting;
         if !self.activation.spend(setting.is_task) {
-            self.point = Point::Listed(Err(Cause::Overrun));
+            self.point = Point::At(Step::Listed(Err(Cause::Overrun)));
             return;
         }
         self.stack.set_aside(copy_of(&self.activation));

@@ -7,12 +7,15 @@ ghost use Rattle.rv_frames.specs.Frames.{Now, comes, valued, listed, done};
 ghost use Rattle.rv_frames.specs.Passing.{comes_as, is_kind};
 ghost use Rattle.rv_machine.specs.Machines.{MovesTo, kind_taken, is_over};
 ghost use Rattle.rv_machine.specs.Points.{control, MovesOn};
-ghost use Rattle.rv_machine.specs.Stacks.{below, frames_with, waiting, set_aside, HasRoom, room};
+ghost use Rattle.rv_machine.specs.Stacks.{below, end_frame, frames_with, waiting, set_aside, HasRoom, room};
 
-use crate::ends::{handle, take_count_end, take_end};
-use crate::frame::Frame;
+use crate::ends::{
+    handle, take_count_end, take_declarations_end, take_statement_end, take_turn_end,
+};
+use crate::frame::{EndFrame, Frame};
 use crate::machine::Machine;
-use crate::point::Point;
+use crate::outcomes::{operation_outcome, task_outcome};
+use crate::point::{Point, Step};
 use crate::values::{argument_comes, operand_comes, part_comes, values_come_to};
 use rv_exec::end::{Cause, End};
 use rv_flat::unit::FlatUnit;
@@ -23,6 +26,7 @@ impl Machine {
     pub(crate) fn pass(&mut self, unit: &FlatUnit, frame: Frame)
         ensures below { (now : Now) → is_kind (kind_taken frame) (comes_as now) ≡ false → MovesOn (flat_view unit.now) (comes now) (frames_with unit.now (frame ∷ waiting self.old.stack) (set_aside self.old.stack)) self.old.setting (comes now) (below unit.now self.new.stack) self.new.setting }
         ensures same { self.new.activation ≡ self.old.activation }
+        ensures point { self.new.point ≡ self.old.point }
         ensures kept { room self.new.stack ≡ room self.old.stack }
     {
         let _ = unit;
@@ -52,17 +56,20 @@ impl Machine {
     {
         match frame {
             Frame::Operand(operand) => {
-                self.point = operand_comes(unit, &self.activation, operand, value);
+                let step = operand_comes(unit, &self.activation, operand, value);
+                self.point = Point::At(step);
             }
             Frame::Arguing(before, arguments) => {
-                self.point = argument_comes(unit, &self.activation, before, arguments, value);
+                let step = argument_comes(unit, &self.activation, before, arguments, value);
+                self.point = Point::At(step);
             }
             Frame::Value(part) => {
-                self.point = part_comes(unit, &mut self.stack, &mut self.activation, part, value);
+                let step = part_comes(unit, &mut self.stack, &mut self.activation, part, value);
+                self.point = Point::At(step);
             }
             _ => {
                 self.pass(unit, frame);
-                self.point = Point::Valued(value);
+                self.point = Point::At(Step::Valued(value));
             }
         }
     }
@@ -79,21 +86,79 @@ impl Machine {
         }
     }
 
+    /// The end of a statement, or of declarations, comes to a frame that waits for it (5.1, 3.11).
+    fn take_end(&mut self, unit: &FlatUnit, frame: EndFrame, end: End)
+        requires { HasRoom 3 self.old.stack }
+        ensures moves { MovesTo unit.now (comes (done end self.old.activation)) (end_frame unit.now frame ∷ below unit.now self.old.stack) self.old.setting self.new }
+        ensures kept { room self.new.stack ≡ room self.old.stack }
+    {
+        match frame {
+            EndFrame::Turning(turns, condition, statements) => {
+                let step = take_turn_end(
+                    unit,
+                    &mut self.stack,
+                    &mut self.activation,
+                    turns,
+                    condition,
+                    statements,
+                    end,
+                );
+                self.point = Point::At(step);
+            }
+            EndFrame::Sequencing(statements) => {
+                let step = take_statement_end(
+                    unit,
+                    &mut self.stack,
+                    &mut self.activation,
+                    &self.setting,
+                    statements,
+                    end,
+                );
+                self.point = Point::At(step);
+            }
+            EndFrame::Opening(statements, handlers) => {
+                let step = take_declarations_end(
+                    unit,
+                    &mut self.stack,
+                    &self.activation,
+                    statements,
+                    handlers,
+                    end,
+                );
+                self.point = Point::At(step);
+            }
+            EndFrame::Closing(object, number) => {
+                let outcome = operation_outcome(unit, object, number, end, &self.activation);
+                self.point = Point::Closes(outcome);
+            }
+            EndFrame::Quitting(actor) => {
+                let outcome = task_outcome(unit, actor, end, &self.activation);
+                self.point = Point::Quits(outcome);
+            }
+        }
+    }
+
     /// The end of a statement comes to this frame, which was on top.
     fn end_meets(&mut self, unit: &FlatUnit, frame: Frame, end: End)
-        requires { HasRoom 1 self.old.stack }
+        requires { HasRoom 3 self.old.stack }
         ensures moves { MovesTo unit.now (comes (done end self.old.activation)) (frames_with unit.now (frame ∷ waiting self.old.stack) (set_aside self.old.stack)) self.old.setting self.new }
         ensures kept { room self.new.stack ≡ room self.old.stack }
     {
         match frame {
-            Frame::End(part) => {
-                self.point = take_end(unit, &mut self.stack, &self.activation, part, end);
-            }
+            Frame::End(part) => self.take_end(unit, part, end),
             Frame::Counting(count, statements) => {
-                self.point = take_count_end(unit, &self.activation, count, statements, end);
+                let step = take_count_end(
+                    unit,
+                    &mut self.stack,
+                    &mut self.activation,
+                    count,
+                    statements,
+                    end,
+                );
+                self.point = Point::At(step);
             }
             Frame::Handling(handlers) => {
-                self.point = handle(
+                let step = handle(
                     unit,
                     &mut self.stack,
                     &self.activation,
@@ -101,17 +166,18 @@ impl Machine {
                     handlers,
                     end,
                 );
+                self.point = Point::At(step);
             }
             _ => {
                 self.pass(unit, frame);
-                self.point = Point::Done(end);
+                self.point = Point::At(Step::Done(end));
             }
         }
     }
 
     /// The end of a statement comes to the frame on top.
     pub(crate) fn end_comes(&mut self, unit: &FlatUnit, end: End)
-        requires room { HasRoom 1 self.old.stack }
+        requires room { HasRoom 3 self.old.stack }
         requires waits { waiting self.old.stack ≡ [] → set_aside self.old.stack ≡ [] → ⊥ }
         ensures moves { MovesTo unit.now (comes (done end self.old.activation)) (below unit.now self.old.stack) self.old.setting self.new }
         ensures kept { room self.new.stack ≡ room self.old.stack }
@@ -128,11 +194,12 @@ impl Machine {
     {
         match frame {
             Frame::Values(part) => {
-                self.point = values_come_to(unit, &mut self.activation, part, outcome);
+                let step = values_come_to(unit, &mut self.activation, part, outcome);
+                self.point = Point::At(step);
             }
             _ => {
                 self.pass(unit, frame);
-                self.point = Point::Listed(outcome);
+                self.point = Point::At(Step::Listed(outcome));
             }
         }
     }
@@ -149,24 +216,23 @@ impl Machine {
     }
 
     /// How a run ends comes to this frame, which was on top, and passes it.
-    fn over_meets(&mut self, unit: &FlatUnit, frame: Frame, point: Point)
-        requires { is_over point ≡ true }
-        ensures moves { MovesTo unit.now (control (trees unit.now.code) point self.old.activation) (frames_with unit.now (frame ∷ waiting self.old.stack) (set_aside self.old.stack)) self.old.setting self.new }
+    fn over_meets(&mut self, unit: &FlatUnit, frame: Frame)
+        requires { is_over self.old.point ≡ true }
+        ensures moves { MovesTo unit.now (control (trees unit.now.code) self.old.point self.old.activation) (frames_with unit.now (frame ∷ waiting self.old.stack) (set_aside self.old.stack)) self.old.setting self.new }
         ensures kept { room self.new.stack ≡ room self.old.stack }
     {
         self.pass(unit, frame);
-        self.point = point;
     }
 
     /// How a run ends comes to the frame on top, and passes it.
-    pub(crate) fn over_comes(&mut self, unit: &FlatUnit, point: Point)
-        requires over { is_over point ≡ true }
+    pub(crate) fn over_comes(&mut self, unit: &FlatUnit)
+        requires over { is_over self.old.point ≡ true }
         requires waits { waiting self.old.stack ≡ [] → set_aside self.old.stack ≡ [] → ⊥ }
-        ensures moves { MovesTo unit.now (control (trees unit.now.code) point self.old.activation) (below unit.now self.old.stack) self.old.setting self.new }
+        ensures moves { MovesTo unit.now (control (trees unit.now.code) self.old.point self.old.activation) (below unit.now self.old.stack) self.old.setting self.new }
         ensures kept { room self.new.stack ≡ room self.old.stack }
     {
         if let Some(frame) = self.stack.pop() {
-            self.over_meets(unit, frame, point);
+            self.over_meets(unit, frame);
         }
     }
 }

@@ -4,6 +4,7 @@
 #![tactic(auto)]
 
 mod answers;
+mod at_once;
 mod bodies;
 mod calls;
 mod choices;

@@ -75,6 +75,7 @@ pub struct DeclarationNode {
 
 /// The expression of a number.
 #[tactic(auto, unfolding(rv_flat::specs::Trees::as_expression))]
+#[inline(always)]
 pub fn expression_at(code: &Code, number: usize) -> ExpressionNode
     ensures { as_expression (tree_at (trees code.now) number) ≡ expression_by (trees code.now) result }
 {
@@ -95,6 +96,7 @@ pub fn expression_at(code: &Code, number: usize) -> ExpressionNode
 
 /// The statement of a number.
 #[tactic(auto, unfolding(rv_flat::specs::Trees::as_statement))]
+#[inline(always)]
 pub fn statement_at(code: &Code, number: usize) -> StatementNode
     ensures { as_statement (tree_at (trees code.now) number) ≡ statement_by (trees code.now) result }
 {
@@ -126,6 +128,7 @@ pub fn statement_at(code: &Code, number: usize) -> StatementNode
 
 /// The first of expressions, if there is one.
 #[tactic(auto, unfolding(rv_flat::specs::Trees::as_expressions))]
+#[inline(always)]
 pub fn expressions_at(code: &Code, number: usize) -> Option<ListNode>
     ensures found { IfSome result (λ n. as_expressions (tree_at (trees code.now) number) ≡ and_expression (as_expression (tree_at (trees code.now) n.first)) (as_expressions (tree_at (trees code.now) n.rest))) }
     ensures none { IsNone result → as_expressions (tree_at (trees code.now) number) ≡ no_expressions }
@@ -142,6 +145,7 @@ pub fn expressions_at(code: &Code, number: usize) -> Option<ListNode>
 
 /// The first of links, if there is one.
 #[tactic(auto, unfolding(rv_flat::specs::Trees::as_links))]
+#[inline(always)]
 pub fn links_at(code: &Code, number: usize) -> Option<LinkNode>
     ensures found { IfSome result (λ n. as_links (tree_at (trees code.now) number) ≡ and_link n.operator (as_expression (tree_at (trees code.now) n.operand)) (as_links (tree_at (trees code.now) n.rest))) }
     ensures none { IsNone result → as_links (tree_at (trees code.now) number) ≡ no_links }
@@ -159,6 +163,7 @@ pub fn links_at(code: &Code, number: usize) -> Option<LinkNode>
 
 /// The first of statements, if there is one.
 #[tactic(auto, unfolding(rv_flat::specs::Trees::as_statements))]
+#[inline(always)]
 pub fn statements_at(code: &Code, number: usize) -> Option<ListNode>
     ensures found { IfSome result (λ n. as_statements (tree_at (trees code.now) number) ≡ and_statement (as_statement (tree_at (trees code.now) n.first)) (as_statements (tree_at (trees code.now) n.rest))) }
     ensures none { IsNone result → as_statements (tree_at (trees code.now) number) ≡ no_statements }
@@ -175,6 +180,7 @@ pub fn statements_at(code: &Code, number: usize) -> Option<ListNode>
 
 /// The first of branches, if there is one.
 #[tactic(auto, unfolding(rv_flat::specs::Trees::as_branches))]
+#[inline(always)]
 pub fn branches_at(code: &Code, number: usize) -> Option<BranchNode>
     ensures found { IfSome result (λ n. as_branches (tree_at (trees code.now) number) ≡ and_branch (as_expression (tree_at (trees code.now) n.condition)) (as_statements (tree_at (trees code.now) n.statements)) (as_branches (tree_at (trees code.now) n.rest))) }
     ensures none { IsNone result → as_branches (tree_at (trees code.now) number) ≡ no_branches }

@@ -4,27 +4,27 @@ ghost use Rattle.rv_flat.specs.Tables.{trees};
 ghost use Rattle.rv_flat.specs.Trees.{tree_at, as_alternatives};
 ghost use Rattle.rv_frames.specs.Frames.{Frame as Waiting, selects_of};
 ghost use Rattle.std.specs.Prelude.{List};
-ghost use Rattle.rv_machine.specs.Points.{control, Leads};
+ghost use Rattle.rv_machine.specs.Points.{control_in, Leads};
 
 use crate::choices::covered;
 use crate::nodes::alternatives_at;
-use crate::point::Point;
+use crate::point::Step;
 use rv_event::entry::Exception;
 use rv_exec::activation::Activation;
 use rv_exec::end::{Cause, End};
 use rv_flat::unit::FlatUnit;
 
 /// The next alternative for a value: its statements where it covers the value (5.4).
-pub fn select(unit: &FlatUnit, activation: &Activation, alternatives: usize, value: i64) -> Point
-    ensures { (fs : List Waiting) → Leads (selects_of (as_alternatives (tree_at (trees unit.now.code) alternatives)) value activation.now) fs (control (trees unit.now.code) result activation.now) fs }
+pub fn select(unit: &FlatUnit, activation: &Activation, alternatives: usize, value: i64) -> Step
+    ensures { (fs : List Waiting) → Leads (selects_of (as_alternatives (tree_at (trees unit.now.code) alternatives)) value activation.now) fs (control_in (trees unit.now.code) result activation.now) fs }
 {
     match alternatives_at(&unit.code, alternatives) {
-        None => Point::Done(End::Abandoned(Cause::Raised(Exception::ConstraintError))),
+        None => Step::Done(End::Abandoned(Cause::Raised(Exception::ConstraintError))),
         Some(alternative) => {
             if covered(&unit.code, alternative.condition, value) {
-                Point::RunsAll(alternative.statements)
+                Step::RunsAll(alternative.statements)
             } else {
-                Point::Selects(alternative.rest, value)
+                Step::Selects(alternative.rest, value)
             }
         }
     }

@@ -1,20 +1,23 @@
 //! One move in statements (5.1), or in declarations (3.11).
 
-ghost use Rattle.std.specs.Prelude.{◌≡◌, ◌≤◌, suc, pos, IsTrue, IsFalse, true, false, Some, None, length};
+ghost use Rattle.std.specs.Prelude.{◌≡◌, ◌≤◌, ◌∷◌, suc, pos, IsTrue, IsFalse, true, false, Some, None, length};
 ghost use Rattle.rv_exec.specs.Activations.{steps_left};
 ghost use Rattle.rv_exec.specs.Choices.{covered};
 ghost use Rattle.rv_flat.specs.Tables.{trees};
 ghost use Rattle.rv_flat.specs.Trees.{tree_at, as_expression, as_statement, as_statements, as_branches, as_alternatives, as_choices, as_declarations};
-ghost use Rattle.rv_frames.specs.Frames.{runs, runs_all, tries, selects_of, turns_of, counts, declares};
-ghost use Rattle.rv_machine.specs.Points.{control, Leads, LeadsIn};
-ghost use Rattle.rv_machine.specs.Stacks.{below, HasRoom, room};
+ghost use Rattle.rv_frames.specs.Frames.{evaluates, runs, runs_all, tries, selects_of, turns_of, counts, declares};
+ghost use Rattle.rv_machine.specs.Points.{control_in, Keeps, Leads, LeadsIn};
+ghost use Rattle.rv_machine.specs.Stacks.{below, value_frame, HasRoom, room};
 
+use crate::at_once::{MOST_DEPTH, end_at_once, value_at_once};
+use crate::ends::is_next;
 use crate::frame::{Count, EndFrame, ValueFrame, ValuesFrame};
 use crate::nodes::{
     StatementNode, alternatives_at, branches_at, declarations_at, statement_at, statements_at,
 };
-use crate::point::Point;
+use crate::point::Step;
 use crate::stack::Stack;
+use crate::values::part_comes;
 use rv_event::entry::Exception;
 use rv_exec::activation::Activation;
 use rv_exec::end::{Cause, End};
@@ -31,95 +34,129 @@ fn most_turns(activation: &Activation) -> u64
     activation.requests as u64 * 100_001 + activation.steps as u64 + 1
 }
 
+/// A value that a statement or a declaration waits for: what is made of it, where it comes at once (5.1, 3.11).
+fn await_value(
+    unit: &FlatUnit,
+    stack: &mut Stack,
+    activation: &mut Activation,
+    frame: ValueFrame,
+    number: usize,
+) -> Step
+    requires { HasRoom 1 stack.old }
+    ensures keeps { Keeps (evaluates (as_expression (tree_at (trees unit.now.code) number)) activation.old) (value_frame (trees unit.now.code) frame ∷ below unit.now stack.old) (control_in (trees unit.now.code) result activation.new) (below unit.now stack.new) }
+    ensures kept { room stack.new ≡ room stack.old }
+{
+    match value_at_once(&unit.code, activation, number, MOST_DEPTH) {
+        Some(value) => part_comes(unit, stack, activation, frame, value),
+        None => {
+            stack.push_value(frame);
+            Step::Evaluates(number)
+        }
+    }
+}
+
 /// A statement: its end, or its first part before what waits for that (5.1).
 pub fn run(
     unit: &FlatUnit,
     stack: &mut Stack,
-    activation: &Activation,
+    activation: &mut Activation,
     setting: &Setting,
     number: usize,
-) -> Point
+) -> Step
     requires { HasRoom 2 stack.old }
-    ensures leads { LeadsIn setting.now (runs (as_statement (tree_at (trees unit.now.code) number)) activation.now) (below unit.now stack.old) (control (trees unit.now.code) result activation.now) (below unit.now stack.new) }
+    ensures leads { LeadsIn setting.now (runs (as_statement (tree_at (trees unit.now.code) number)) activation.old) (below unit.now stack.old) (control_in (trees unit.now.code) result activation.new) (below unit.now stack.new) }
     ensures kept { room stack.new ≡ room stack.old }
 {
     match statement_at(&unit.code, number) {
-        StatementNode::Null => Point::Done(End::Next),
+        StatementNode::Null => Step::Done(End::Next),
         StatementNode::Assign(target, value) => {
             stack.push_value(ValueFrame::Assigning(target));
-            Point::Evaluates(value)
+            Step::Evaluates(value)
         }
-        StatementNode::If(branches, otherwise) => Point::Tries(branches, otherwise),
+        StatementNode::If(branches, otherwise) => {
+            try_branches(unit, stack, activation, branches, otherwise)
+        }
         StatementNode::Case(selector, alternatives) => {
-            stack.push_value(ValueFrame::Selecting(alternatives));
-            Point::Evaluates(selector)
+            let frame = ValueFrame::Selecting(alternatives);
+            await_value(unit, stack, activation, frame, selector)
         }
         StatementNode::While(condition, statements) => {
-            Point::Turns(most_turns(activation), condition, statements)
+            let turns = most_turns(activation);
+            turn(unit, stack, activation, turns, condition, statements)
         }
         StatementNode::For(scheme, low, high, statements) => {
-            stack.push_value(ValueFrame::Lowering(scheme, high, statements));
-            Point::Evaluates(low)
+            let frame = ValueFrame::Lowering(scheme, high, statements);
+            await_value(unit, stack, activation, frame, low)
         }
         StatementNode::ExitWhen(condition) => {
             stack.push_value(ValueFrame::Leaving);
-            Point::Evaluates(condition)
+            Step::Evaluates(condition)
         }
-        StatementNode::Return => Point::Done(End::Return(None)),
+        StatementNode::Return => Step::Done(End::Return(None)),
         StatementNode::ReturnValue(value) => {
             stack.push_value(ValueFrame::Returning);
-            Point::Evaluates(value)
+            Step::Evaluates(value)
         }
-        StatementNode::Raise(exception) => { Point::Done(End::Abandoned(Cause::Raised(exception))) }
-        StatementNode::Reraise => Point::Done(End::Abandoned(raised_again(setting.handling))),
+        StatementNode::Raise(exception) => { Step::Done(End::Abandoned(Cause::Raised(exception))) }
+        StatementNode::Reraise => Step::Done(End::Abandoned(raised_again(setting.handling))),
         StatementNode::Call(callee, given, targets) => {
             stack.push_values(ValuesFrame::Copying(targets));
             stack.push_values(ValuesFrame::Passing(callee));
-            Point::Argues(given, Args::new())
+            Step::Argues(given, Args::new())
         }
     }
 }
 
-/// Statements in their order: the next one takes a step (5.1).
+/// Statements in their order, each of which takes a step: those that end at once, up to one that doesn't (5.1).
 pub fn run_all(
     unit: &FlatUnit,
     stack: &mut Stack,
     activation: &mut Activation,
+    setting: &Setting,
     statements: usize,
-) -> Point
-    requires { HasRoom 1 stack.old }
-    ensures leads { Leads (runs_all (as_statements (tree_at (trees unit.now.code) statements)) activation.old) (below unit.now stack.old) (control (trees unit.now.code) result activation.new) (below unit.now stack.new) }
+) -> Step
+    requires { HasRoom 3 stack.old }
+    ensures leads { LeadsIn setting.now (runs_all (as_statements (tree_at (trees unit.now.code) statements)) activation.old) (below unit.now stack.old) (control_in (trees unit.now.code) result activation.new) (below unit.now stack.new) }
     ensures kept { room stack.new ≡ room stack.old }
 {
-    match statements_at(&unit.code, statements) {
-        None => Point::Done(End::Next),
-        Some(statement) => {
-            if !activation.step() {
-                return Point::Done(End::Abandoned(Cause::Overrun));
+    let mut rest = statements;
+    'statements: while let Some(statement) = statements_at(&unit.code, rest) {
+        if !activation.step() {
+            return Step::Done(End::Abandoned(Cause::Overrun));
+        }
+        rest = statement.rest;
+        match end_at_once(&unit.code, activation, statement.first) {
+            Some(end) => {
+                if !is_next(end) {
+                    return Step::Done(end);
+                }
             }
-            stack.push_end(EndFrame::Sequencing(statement.rest));
-            Point::Runs(statement.first)
+            None => {
+                stack.push_end(EndFrame::Sequencing(rest));
+                return run(unit, stack, activation, setting, statement.first);
+            }
         }
     }
+    Step::Done(End::Next)
 }
 
-/// The next branch: its condition, or the statements behind `else` (5.3).
+/// The next branch, behind its condition, or the statements behind `else` (5.3).
 pub fn try_branches(
     unit: &FlatUnit,
     stack: &mut Stack,
-    activation: &Activation,
+    activation: &mut Activation,
     branches: usize,
     otherwise: usize,
-) -> Point
+) -> Step
     requires { HasRoom 1 stack.old }
-    ensures leads { Leads (tries (as_branches (tree_at (trees unit.now.code) branches)) (as_statements (tree_at (trees unit.now.code) otherwise)) activation.now) (below unit.now stack.old) (control (trees unit.now.code) result activation.now) (below unit.now stack.new) }
+    ensures leads { Leads (tries (as_branches (tree_at (trees unit.now.code) branches)) (as_statements (tree_at (trees unit.now.code) otherwise)) activation.old) (below unit.now stack.old) (control_in (trees unit.now.code) result activation.new) (below unit.now stack.new) }
     ensures kept { room stack.new ≡ room stack.old }
 {
     match branches_at(&unit.code, branches) {
-        None => Point::RunsAll(otherwise),
+        None => Step::RunsAll(otherwise),
         Some(branch) => {
-            stack.push_value(ValueFrame::Branching(branch.statements, branch.rest, otherwise));
-            Point::Evaluates(branch.condition)
+            let frame = ValueFrame::Branching(branch.statements, branch.rest, otherwise);
+            await_value(unit, stack, activation, frame, branch.condition)
         }
     }
 }
@@ -128,20 +165,20 @@ pub fn try_branches(
 pub fn turn(
     unit: &FlatUnit,
     stack: &mut Stack,
-    activation: &Activation,
+    activation: &mut Activation,
     turns: u64,
     condition: usize,
     statements: usize,
-) -> Point
+) -> Step
     requires { HasRoom 1 stack.old }
-    ensures leads { Leads (turns_of turns (as_expression (tree_at (trees unit.now.code) condition)) (as_statements (tree_at (trees unit.now.code) statements)) activation.now) (below unit.now stack.old) (control (trees unit.now.code) result activation.now) (below unit.now stack.new) }
+    ensures leads { Leads (turns_of turns (as_expression (tree_at (trees unit.now.code) condition)) (as_statements (tree_at (trees unit.now.code) statements)) activation.old) (below unit.now stack.old) (control_in (trees unit.now.code) result activation.new) (below unit.now stack.new) }
     ensures kept { room stack.new ≡ room stack.old }
 {
     if turns == 0 {
-        return Point::Done(End::Abandoned(Cause::Overrun));
+        return Step::Done(End::Abandoned(Cause::Overrun));
     }
-    stack.push_value(ValueFrame::Testing(turns - 1, condition, statements));
-    Point::Evaluates(condition)
+    let frame = ValueFrame::Testing(turns - 1, condition, statements);
+    await_value(unit, stack, activation, frame, condition)
 }
 
 /// The next value of a loop's range (5.5).
@@ -151,16 +188,16 @@ pub fn count(
     activation: &mut Activation,
     count: Count,
     statements: usize,
-) -> Point
+) -> Step
     requires { HasRoom 1 stack.old }
-    ensures leads { Leads (counts count.left count.values.is_reverse count.values.low count.values.high count.values.slot (as_statements (tree_at (trees unit.now.code) statements)) activation.old) (below unit.now stack.old) (control (trees unit.now.code) result activation.new) (below unit.now stack.new) }
+    ensures leads { Leads (counts count.left count.values.is_reverse count.values.low count.values.high count.values.slot (as_statements (tree_at (trees unit.now.code) statements)) activation.old) (below unit.now stack.old) (control_in (trees unit.now.code) result activation.new) (below unit.now stack.new) }
     ensures kept { room stack.new ≡ room stack.old }
 {
     if count.left == 0 {
-        return Point::Done(End::Next);
+        return Step::Done(End::Next);
     }
     if !activation.step() {
-        return Point::Done(End::Abandoned(Cause::Overrun));
+        return Step::Done(End::Abandoned(Cause::Overrun));
     }
     let left = count.left - 1;
     activation.put_slot(count.values.slot, value_before(count.values, left));
@@ -169,25 +206,25 @@ pub fn count(
         left,
     };
     stack.push_count(rest, statements);
-    Point::RunsAll(statements)
+    Step::RunsAll(statements)
 }
 
 /// The next declaration (3.11).
 pub fn declare(
     unit: &FlatUnit,
     stack: &mut Stack,
-    activation: &Activation,
+    activation: &mut Activation,
     declarations: usize,
-) -> Point
+) -> Step
     requires { HasRoom 1 stack.old }
-    ensures leads { Leads (declares (as_declarations (tree_at (trees unit.now.code) declarations)) activation.now) (below unit.now stack.old) (control (trees unit.now.code) result activation.now) (below unit.now stack.new) }
+    ensures leads { Leads (declares (as_declarations (tree_at (trees unit.now.code) declarations)) activation.old) (below unit.now stack.old) (control_in (trees unit.now.code) result activation.new) (below unit.now stack.new) }
     ensures kept { room stack.new ≡ room stack.old }
 {
     match declarations_at(&unit.code, declarations) {
-        None => Point::Done(End::Next),
+        None => Step::Done(End::Next),
         Some(declaration) => {
-            stack.push_value(ValueFrame::Declaring(declaration.target, declaration.rest));
-            Point::Evaluates(declaration.initial)
+            let frame = ValueFrame::Declaring(declaration.target, declaration.rest);
+            await_value(unit, stack, activation, frame, declaration.initial)
         }
     }
 }

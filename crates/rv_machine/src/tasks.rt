@@ -11,7 +11,7 @@ ghost use Rattle.rv_machine.specs.Machines.{stands, Fits, IsFor};
 use crate::frame::EndFrame;
 use crate::machine::Machine;
 use crate::outcomes::task;
-use crate::point::Point;
+use crate::point::{Point, Step};
 use crate::stack::Stack;
 use rv_code::MOST_SLOTS;
 use rv_exec::activation::{Activation, MOST_STEPS};
@@ -45,7 +45,7 @@ impl Machine {
                 frames.push_end(EndFrame::Quitting(actor));
                 frames.push_end(EndFrame::Opening(body.statements, body.handlers));
                 Machine {
-                    point: Point::Declares(body.declarations),
+                    point: Point::At(Step::Declares(body.declarations)),
                     activation,
                     setting: of_task(),
                     stack: frames,

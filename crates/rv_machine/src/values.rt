@@ -4,13 +4,13 @@ ghost use Rattle.std.specs.Prelude.{◌≡◌, ◌∷◌, List, Ok, Err, pos};
 ghost use Rattle.rv_flat.specs.Tables.{trees};
 ghost use Rattle.rv_flat.specs.Trees.{tree_at, as_expressions};
 ghost use Rattle.rv_frames.specs.Frames.{Frame as Waiting, arguing, comes, valued, listed, done};
-ghost use Rattle.rv_machine.specs.Points.{control, Leads};
+ghost use Rattle.rv_machine.specs.Points.{control_in, Leads};
 ghost use Rattle.rv_machine.specs.Stacks.{below, operand_frame, value_frame, values_frame, HasRoom, room};
 
 use crate::copying::copy_back;
 use crate::ends::is_next;
 use crate::frame::{Count, EndFrame, OperandFrame, ValueFrame, ValuesFrame};
-use crate::point::Point;
+use crate::point::Step;
 use crate::stack::Stack;
 use rv_event::entry::Exception;
 use rv_exec::activation::{Activation, join, value_at};
@@ -27,19 +27,19 @@ pub fn take_operand(
     activation: &Activation,
     frame: OperandFrame,
     value: i64,
-) -> Point
-    ensures { (fs : List Waiting) → Leads (comes (valued (Ok value) activation.now)) (operand_frame (trees unit.now.code) frame ∷ fs) (control (trees unit.now.code) result activation.now) fs }
+) -> Step
+    ensures { (fs : List Waiting) → Leads (comes (valued (Ok value) activation.now)) (operand_frame (trees unit.now.code) frame ∷ fs) (control_in (trees unit.now.code) result activation.now) fs }
 {
     match frame {
-        OperandFrame::Prefixing(prefix) => Point::Valued(prefix_of(prefix, value)),
-        OperandFrame::Linking(links) => Point::Links(links, value),
+        OperandFrame::Prefixing(prefix) => Step::Valued(prefix_of(prefix, value)),
+        OperandFrame::Linking(links) => Step::Links(links, value),
         OperandFrame::Operating(operator, left, links) => {
             match result_of(operator, left, value) {
-                Ok(result) => Point::Links(links, result),
-                Err(cause) => Point::Valued(Err(cause)),
+                Ok(result) => Step::Links(links, result),
+                Err(cause) => Step::Valued(Err(cause)),
             }
         }
-        OperandFrame::Bounding(range) => Point::Valued(within(range, value)),
+        OperandFrame::Bounding(range) => Step::Valued(within(range, value)),
     }
 }
 
@@ -49,13 +49,13 @@ pub fn fail_operand(
     activation: &Activation,
     frame: OperandFrame,
     cause: Cause,
-) -> Point
-    ensures { (fs : List Waiting) → Leads (comes (valued (Err cause) activation.now)) (operand_frame (trees unit.now.code) frame ∷ fs) (control (trees unit.now.code) result activation.now) fs }
+) -> Step
+    ensures { (fs : List Waiting) → Leads (comes (valued (Err cause) activation.now)) (operand_frame (trees unit.now.code) frame ∷ fs) (control_in (trees unit.now.code) result activation.now) fs }
 {
     let _ = unit;
     let _ = activation;
     let _ = frame;
-    Point::Valued(Err(cause))
+    Step::Valued(Err(cause))
 }
 
 /// The value of an argument comes: it stands behind those before it (6.4.1).
@@ -65,14 +65,14 @@ pub fn take_argument(
     before: Args,
     arguments: usize,
     value: i64,
-) -> Point
-    ensures { (fs : List Waiting) → Leads (comes (valued (Ok value) activation.now)) (arguing before (as_expressions (tree_at (trees unit.now.code) arguments)) ∷ fs) (control (trees unit.now.code) result activation.now) fs }
+) -> Step
+    ensures { (fs : List Waiting) → Leads (comes (valued (Ok value) activation.now)) (arguing before (as_expressions (tree_at (trees unit.now.code) arguments)) ∷ fs) (control_in (trees unit.now.code) result activation.now) fs }
 {
     let _ = unit;
     let _ = activation;
     let mut values = before;
     join(&mut values, value);
-    Point::Argues(arguments, values)
+    Step::Argues(arguments, values)
 }
 
 // The condition of a loop: a turn takes a step (5.5).
@@ -84,19 +84,19 @@ fn test(
     condition: usize,
     statements: usize,
     value: i64,
-) -> Point
+) -> Step
     requires { HasRoom 1 stack.old }
-    ensures leads { Leads (comes (valued (Ok value) activation.old)) (value_frame (trees unit.now.code) (ValueFrame.Testing turns condition statements) ∷ below unit.now stack.old) (control (trees unit.now.code) result activation.new) (below unit.now stack.new) }
+    ensures leads { Leads (comes (valued (Ok value) activation.old)) (value_frame (trees unit.now.code) (ValueFrame.Testing turns condition statements) ∷ below unit.now stack.old) (control_in (trees unit.now.code) result activation.new) (below unit.now stack.new) }
     ensures kept { room stack.new ≡ room stack.old }
 {
     if !is_true(value) {
-        return Point::Done(End::Next);
+        return Step::Done(End::Next);
     }
     if !activation.step() {
-        return Point::Done(End::Abandoned(Cause::Overrun));
+        return Step::Done(End::Abandoned(Cause::Overrun));
     }
     stack.push_end(EndFrame::Turning(turns, condition, statements));
-    Point::RunsAll(statements)
+    Step::RunsAll(statements)
 }
 
 // The upper bound of a loop's range: the values between the bounds, if the range isn't null (3.5, 5.5).
@@ -107,14 +107,14 @@ fn start_count(
     low: i64,
     high: i64,
     statements: usize,
-) -> Point
-    ensures { (fs : List Waiting) → Leads (comes (valued (Ok high) activation.now)) (value_frame (trees unit.now.code) (ValueFrame.Raising scheme low statements) ∷ fs) (control (trees unit.now.code) result activation.now) fs }
+) -> Step
+    ensures { (fs : List Waiting) → Leads (comes (valued (Ok high) activation.now)) (value_frame (trees unit.now.code) (ValueFrame.Raising scheme low statements) ∷ fs) (control_in (trees unit.now.code) result activation.now) fs }
 {
     if high < low {
-        return Point::Done(End::Next);
+        return Step::Done(End::Next);
     }
     if !fits(scheme.range, low, high) {
-        return Point::Done(End::Abandoned(Cause::Raised(Exception::ConstraintError)));
+        return Step::Done(End::Abandoned(Cause::Raised(Exception::ConstraintError)));
     }
     let values = Values {
         slot: scheme.parameter,
@@ -123,7 +123,7 @@ fn start_count(
         high,
     };
     let left = span(values);
-    Point::Counts(Count { values, left }, statements)
+    Step::Counts(Count { values, left }, statements)
 }
 
 /// The value that a statement or a declaration waits for comes (5.1, 3.11).
@@ -133,57 +133,52 @@ pub fn take_value(
     activation: &mut Activation,
     frame: ValueFrame,
     value: i64,
-) -> Point
+) -> Step
     requires { HasRoom 1 stack.old }
-    ensures leads { Leads (comes (valued (Ok value) activation.old)) (value_frame (trees unit.now.code) frame ∷ below unit.now stack.old) (control (trees unit.now.code) result activation.new) (below unit.now stack.new) }
+    ensures leads { Leads (comes (valued (Ok value) activation.old)) (value_frame (trees unit.now.code) frame ∷ below unit.now stack.old) (control_in (trees unit.now.code) result activation.new) (below unit.now stack.new) }
     ensures kept { room stack.new ≡ room stack.old }
 {
     match frame {
-        ValueFrame::Assigning(target) => Point::Done(activation.assign(target, value)),
+        ValueFrame::Assigning(target) => Step::Done(activation.assign(target, value)),
         ValueFrame::Branching(statements, branches, otherwise) => {
             if is_true(value) {
-                Point::RunsAll(statements)
+                Step::RunsAll(statements)
             } else {
-                Point::Tries(branches, otherwise)
+                Step::Tries(branches, otherwise)
             }
         }
-        ValueFrame::Selecting(alternatives) => Point::Selects(alternatives, value),
+        ValueFrame::Selecting(alternatives) => Step::Selects(alternatives, value),
         ValueFrame::Testing(turns, condition, statements) => {
             test(unit, stack, activation, turns, condition, statements, value)
         }
         ValueFrame::Lowering(scheme, high, statements) => {
             stack.push_value(ValueFrame::Raising(scheme, value, statements));
-            Point::Evaluates(high)
+            Step::Evaluates(high)
         }
         ValueFrame::Raising(scheme, low, statements) => {
             start_count(unit, activation, scheme, low, value, statements)
         }
-        ValueFrame::Leaving => Point::Done(exit_where(value)),
-        ValueFrame::Returning => Point::Done(End::Return(Some(value))),
+        ValueFrame::Leaving => Step::Done(exit_where(value)),
+        ValueFrame::Returning => Step::Done(End::Return(Some(value))),
         ValueFrame::Declaring(target, declarations) => {
             let end = activation.assign(target, value);
             if is_next(end) {
-                Point::Declares(declarations)
+                Step::Declares(declarations)
             } else {
-                Point::Done(end)
+                Step::Done(end)
             }
         }
     }
 }
 
 /// The value that a statement or a declaration waits for fails: so does the statement (11.4).
-pub fn fail_value(
-    unit: &FlatUnit,
-    activation: &Activation,
-    frame: ValueFrame,
-    cause: Cause,
-) -> Point
-    ensures { (fs : List Waiting) → Leads (comes (valued (Err cause) activation.now)) (value_frame (trees unit.now.code) frame ∷ fs) (control (trees unit.now.code) result activation.now) fs }
+pub fn fail_value(unit: &FlatUnit, activation: &Activation, frame: ValueFrame, cause: Cause) -> Step
+    ensures { (fs : List Waiting) → Leads (comes (valued (Err cause) activation.now)) (value_frame (trees unit.now.code) frame ∷ fs) (control_in (trees unit.now.code) result activation.now) fs }
 {
     let _ = unit;
     let _ = activation;
     let _ = frame;
-    Point::Done(End::Abandoned(cause))
+    Step::Done(End::Abandoned(cause))
 }
 
 /// The value of an operand comes, or the cause that it fails by.
@@ -192,8 +187,8 @@ pub fn operand_comes(
     activation: &Activation,
     frame: OperandFrame,
     value: Result<i64, Cause>,
-) -> Point
-    ensures { (fs : List Waiting) → Leads (comes (valued value activation.now)) (operand_frame (trees unit.now.code) frame ∷ fs) (control (trees unit.now.code) result activation.now) fs }
+) -> Step
+    ensures { (fs : List Waiting) → Leads (comes (valued value activation.now)) (operand_frame (trees unit.now.code) frame ∷ fs) (control_in (trees unit.now.code) result activation.now) fs }
 {
     match value {
         Ok(value) => take_operand(unit, activation, frame, value),
@@ -208,12 +203,12 @@ pub fn argument_comes(
     before: Args,
     arguments: usize,
     value: Result<i64, Cause>,
-) -> Point
-    ensures { (fs : List Waiting) → Leads (comes (valued value activation.now)) (arguing before (as_expressions (tree_at (trees unit.now.code) arguments)) ∷ fs) (control (trees unit.now.code) result activation.now) fs }
+) -> Step
+    ensures { (fs : List Waiting) → Leads (comes (valued value activation.now)) (arguing before (as_expressions (tree_at (trees unit.now.code) arguments)) ∷ fs) (control_in (trees unit.now.code) result activation.now) fs }
 {
     match value {
         Ok(value) => take_argument(unit, activation, before, arguments, value),
-        Err(cause) => Point::Listed(Err(cause)),
+        Err(cause) => Step::Listed(Err(cause)),
     }
 }
 
@@ -224,9 +219,9 @@ pub fn part_comes(
     activation: &mut Activation,
     frame: ValueFrame,
     value: Result<i64, Cause>,
-) -> Point
+) -> Step
     requires { HasRoom 1 stack.old }
-    ensures leads { Leads (comes (valued value activation.old)) (value_frame (trees unit.now.code) frame ∷ below unit.now stack.old) (control (trees unit.now.code) result activation.new) (below unit.now stack.new) }
+    ensures leads { Leads (comes (valued value activation.old)) (value_frame (trees unit.now.code) frame ∷ below unit.now stack.old) (control_in (trees unit.now.code) result activation.new) (below unit.now stack.new) }
     ensures kept { room stack.new ≡ room stack.old }
 {
     match value {
@@ -241,14 +236,14 @@ pub fn give_values(
     activation: &mut Activation,
     frame: ValuesFrame,
     values: Args,
-) -> Point
-    ensures { (fs : List Waiting) → Leads (comes (listed (Ok values) activation.old)) (values_frame (trees unit.now.code) frame ∷ fs) (control (trees unit.now.code) result activation.new) fs }
+) -> Step
+    ensures { (fs : List Waiting) → Leads (comes (listed (Ok values) activation.old)) (values_frame (trees unit.now.code) frame ∷ fs) (control_in (trees unit.now.code) result activation.new) fs }
 {
     match frame {
-        ValuesFrame::Passing(callee) => Point::Calls(callee, values),
-        ValuesFrame::Giving => Point::Valued(Ok(value_at(values, 0))),
+        ValuesFrame::Passing(callee) => Step::Calls(callee, values),
+        ValuesFrame::Giving => Step::Valued(Ok(value_at(values, 0))),
         ValuesFrame::Copying(targets) => {
-            Point::Done(copy_back(&unit.code, targets, values, activation))
+            Step::Done(copy_back(&unit.code, targets, values, activation))
         }
     }
 }
@@ -259,15 +254,15 @@ pub fn fail_values(
     activation: &Activation,
     frame: ValuesFrame,
     cause: Cause,
-) -> Point
-    ensures { (fs : List Waiting) → Leads (comes (listed (Err cause) activation.now)) (values_frame (trees unit.now.code) frame ∷ fs) (control (trees unit.now.code) result activation.now) fs }
+) -> Step
+    ensures { (fs : List Waiting) → Leads (comes (listed (Err cause) activation.now)) (values_frame (trees unit.now.code) frame ∷ fs) (control_in (trees unit.now.code) result activation.now) fs }
 {
     let _ = unit;
     let _ = activation;
     match frame {
-        ValuesFrame::Passing(_) => Point::Listed(Err(cause)),
-        ValuesFrame::Giving => Point::Valued(Err(cause)),
-        ValuesFrame::Copying(_) => Point::Done(End::Abandoned(cause)),
+        ValuesFrame::Passing(_) => Step::Listed(Err(cause)),
+        ValuesFrame::Giving => Step::Valued(Err(cause)),
+        ValuesFrame::Copying(_) => Step::Done(End::Abandoned(cause)),
     }
 }
 
@@ -277,8 +272,8 @@ pub fn values_come_to(
     activation: &mut Activation,
     frame: ValuesFrame,
     outcome: Result<Args, Cause>,
-) -> Point
-    ensures { (fs : List Waiting) → Leads (comes (listed outcome activation.old)) (values_frame (trees unit.now.code) frame ∷ fs) (control (trees unit.now.code) result activation.new) fs }
+) -> Step
+    ensures { (fs : List Waiting) → Leads (comes (listed outcome activation.old)) (values_frame (trees unit.now.code) frame ∷ fs) (control_in (trees unit.now.code) result activation.new) fs }
 {
     match outcome {
         Ok(values) => give_values(unit, activation, frame, values),

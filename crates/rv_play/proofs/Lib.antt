@@ -1,11 +1,8 @@
-mod Asked
 mod Beginning
 mod Carrying
 mod Growing
 mod Named
 mod Performing
-mod Reaching
 mod Reading
-mod Repeating
 mod Scripting
 mod Telling

@@ -4,5 +4,4 @@ pub mod Stages
 pub mod Deeds
 pub mod Scripted
 pub mod Carried
-pub mod Going
 pub mod Laws

@@ -164,6 +164,11 @@ by_answer all h deed answer None = if all then unrecorded_line h.shapes deed.act
 abbrev pub line_told : Bool → History → DeedText → Answer → List ℕ
 line_told all h deed answer = by_answer all h deed answer (recorded answer)
 
+-- how something ended, whatever it gave
+abbrev pub ended : {A : Type 0} → Result A Failure → Ended
+ended (Ok x) = Ok tt
+ended (Err failure) = Err failure
+
 -- a deed was answered as is due, and its line is written
 pub record Does (old new : Known) (p q : Playing) (deed : DeedText) (result : Ended) : Type 0 where
   pub text : Puts old new (told_line p.all (tell p.stage deed)) result

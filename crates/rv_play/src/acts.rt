@@ -128,17 +128,24 @@ pub fn step_deed(
 }
 
 // What a `go` of this actor comes to.
-fn asking_deed(alloc: Global, player: &Player, actor: usize) -> Result<Deed, Failure>
-    ensures ok { IfOk result (λ d. deed_text d ≡ goes (playing player.now).stage actor) }
+fn asking_deed(alloc: Global, player: &mut Player, actor: usize) -> Result<Deed, Failure>
+    ensures ok { IfOk result (λ d. deed_text d ≡ goes (playing player.old).stage actor) }
     ensures err { IfErr result (λ failure. failure ≡ Failure.Memory) }
+    ensures same { playing player.new ≡ playing player.old }
 {
     let request = player.asks(actor)?;
     Ok(Deed::go(alloc, actor, request))
 }
 
 /// What one `go` comes to.
-pub fn go_deed(alloc: Global, player: &Player, line: usize, asker: &Asker) -> Result<Deed, Failure>
-    ensures { Comes line (ComesToDeed (playing player.now).stage (Goes line asker.now)) result }
+pub fn go_deed(
+    alloc: Global,
+    player: &mut Player,
+    line: usize,
+    asker: &Asker,
+) -> Result<Deed, Failure>
+    ensures comes { Comes line (ComesToDeed (playing player.old).stage (Goes line asker.now)) result }
+    ensures same { playing player.new ≡ playing player.old }
 {
     match actor_of(alloc, player.catalogue(), asker)? {
         Some(actor) => asking_deed(alloc, player, actor),

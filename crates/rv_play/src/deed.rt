@@ -9,7 +9,7 @@ use rv_access::{AccessList, Change};
 use rv_code::{Unit, UnitBodies};
 use rv_event::entry::Request;
 use rv_event::text::text_of_request;
-use rv_go::texts::no_bodies;
+use rv_go::hearing::no_bodies;
 use rv_history::command::Command;
 use rv_shape::catalogue::Catalogue;
 use rv_step::lookup::OPERATOR;

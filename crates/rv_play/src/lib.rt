@@ -5,7 +5,6 @@
 mod acts;
 pub mod counts;
 mod deed;
-mod going;
 mod laws;
 pub mod play;
 mod player;

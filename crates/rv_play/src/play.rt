@@ -1,6 +1,6 @@
 //! Carries out a script, part by part, and writes the journal of what it did.
 
-ghost use Rattle.std.specs.Prelude.{ℕ, ◌<◌, ◌+◌, ◌∷◌, [], replicate, IfOk, IfSome, option_map};
+ghost use Rattle.std.specs.Prelude.{◌+◌, ◌∷◌, [], replicate, IfOk, IfSome, option_map};
 ghost use Rattle.std.specs.Str.Lines.{lines};
 ghost use Rattle.rv_text.specs.Words.{words};
 ghost use Rattle.rv_fault.specs.Parts.{section_of};
@@ -8,18 +8,15 @@ ghost use Rattle.rv_fault.specs.Written.{Writes, WritesScript};
 ghost use Rattle.rv_play.specs.Acts.{Act, Goes, line_of, asked_acts, line_acts, step_acts, section_acts, acts_from};
 ghost use Rattle.rv_play.specs.Deeds.{Comes, ComesToDeed};
 ghost use Rattle.rv_play.specs.Carried.{Carries};
-ghost use Rattle.rv_play.specs.Going.{Leaves};
 ghost use Rattle.rv_play.specs.Scripted.{playing, ReadsLimits, outcome_of};
 
 use crate::acts::{go_deed, list_deed, shape_deed, step_deed, unit_deed};
 use crate::counts::Counts;
 use crate::deed::Deed;
-use crate::going::go_along;
 use crate::player::{Limits, Player};
 use rv_fault::{Failure, Part, Parts, What, refused, settings_of};
 use rv_host::host::NewFault;
 use rv_script::{Opening, open, read_script, text_of};
-use rv_step::lookup::actor_of;
 use rv_step::reading::{StepError, step_of};
 use rv_step::step::{Asked, Asker, Step};
 use rv_text::{Section, has_words, next_line};
@@ -44,47 +41,6 @@ fn perform<W: Write>(
     }
 }
 
-// Carries out `go`s along one run of the text of who asks, at most so many; none where it isn't loaded. Gives how many
-// are left.
-fn perform_some<W: Write>(
-    alloc: Global,
-    player: &mut Player,
-    writer: &mut W,
-    asker: &Asker,
-    count: usize,
-) -> Result<usize, Failure>
-    ensures { (line : ℕ) → Leaves (W.contents writer.old) (W.contents writer.new) (playing player.old) (playing player.new)
-        (Goes line asker.now) count result }
-{
-    match actor_of(alloc, player.catalogue(), asker)? {
-        Some(actor) => go_along(player, writer, actor, count),
-        None => Ok(count),
-    }
-}
-
-// Carries out the first of so many `go`s, and others that follow it along one run of a text. Gives how many are left.
-fn perform_more<W: Write>(
-    alloc: Global,
-    player: &mut Player,
-    writer: &mut W,
-    line: usize,
-    asker: &Asker,
-    count: usize,
-) -> Result<usize, Failure>
-    requires { 0 < count }
-    ensures leaves { Leaves (W.contents writer.old) (W.contents writer.new) (playing player.old) (playing player.new)
-        (Goes line asker.now) count result }
-    ensures fewer { IfOk result (λ left. left < count) }
-{
-    let left = perform_some(alloc, player, writer, asker, count)?;
-    if left == 0 {
-        return Ok(0);
-    }
-    let deed = go_deed(alloc, player, line, asker);
-    perform(player, writer, deed)?;
-    Ok(left - 1)
-}
-
 // Carries out so many `go`s, one after another.
 fn perform_goes<W: Write>(
     alloc: Global,
@@ -97,9 +53,9 @@ fn perform_goes<W: Write>(
     ensures { Carries (W.contents writer.old) (W.contents writer.new) (playing player.old) (playing player.new)
         (replicate count (Goes line asker.now)) result }
 {
-    let mut left = count;
-    while left > 0 {
-        left = perform_more(alloc, player, writer, line, asker, left)?;
+    for _ in 0..count {
+        let deed = go_deed(alloc, player, line, asker);
+        perform(player, writer, deed)?;
     }
     Ok(())
 }

@@ -1,7 +1,11 @@
 use Rattle.std.proofs.Common.{rules, ◌≡◌, ◌∙◌, arith, to_z, of_z, w64}
+use Rattle.rv_machine.proofs.AtOnceSteps.{evaluated}
 use Rattle.rv_machine.proofs.Steps.{operand_on, values_on}
 use Rattle.rv_machine.proofs.ExpressionSteps.{literal, variable, component, prefixed, chain, bounded, called}
 use Rattle.rv_machine.proofs.expressions.evaluate.Goals as goal
+
+pub returns-in-Some-clause-leads : goal.returns-in-Some-clause-leads
+returns-in-Some-clause-leads c = evaluated _ _ _ _ c.in-Some.ensures
 
 pub returns-in-Value-clause-leads : goal.returns-in-Value-clause-leads
 returns-in-Value-clause-leads c =

@@ -1,5 +1,6 @@
-use Rattle.std.proofs.Common.{arith}
+use Rattle.std.proofs.Common.{arith, refl}
 use Rattle.rv_machine.proofs.MovesLeft.{turns_fit}
+use Rattle.rv_machine.proofs.Composing.{behind_in, behind_kept_in}
 use Rattle.rv_machine.proofs.Steps.{value_on, values_on}
 use Rattle.rv_machine.proofs.StatementSteps.{null_ends, assigns, chooses, selects, loops, loops_over, exits, returns_none, returns_one, raises, reraises, calls_of}
 use Rattle.rv_machine.proofs.statements.run.Goals as goal
@@ -11,16 +12,16 @@ pub returns-in-Assign-clause-leads : goal.returns-in-Assign-clause-leads
 returns-in-Assign-clause-leads c = assigns _ _ _ _ _ _ _ c.in-Assign.ensures (value_on c.args.unit.now c.args.stack.now c.push_value.new.self _ c.push_value.ensures.frames c.push_value.ensures.activations)
 
 pub returns-in-If-clause-leads : goal.returns-in-If-clause-leads
-returns-in-If-clause-leads c = chooses _ _ _ _ _ _ c.in-If.ensures
+returns-in-If-clause-leads c = behind_in _ _ _ _ _ _ _ (chooses _ _ _ _ _ _ c.in-If.ensures) c.try_branches.ensures.leads
 
 pub returns-in-Case-clause-leads : goal.returns-in-Case-clause-leads
-returns-in-Case-clause-leads c = selects _ _ _ _ _ _ _ c.in-Case.ensures (value_on c.args.unit.now c.args.stack.now c.push_value-in-Case.new.self _ c.push_value-in-Case.ensures.frames c.push_value-in-Case.ensures.activations)
+returns-in-Case-clause-leads c = behind_kept_in _ _ _ _ _ _ _ (selects _ _ _ _ _ _ _ c.in-Case.ensures refl) c.await_value.ensures.keeps
 
 pub returns-in-While-clause-leads : goal.returns-in-While-clause-leads
-returns-in-While-clause-leads c = loops _ _ _ _ _ _ _ c.in-While.ensures c.most_turns.ensures (turns_fit _ (omega arith))
+returns-in-While-clause-leads c = behind_in _ _ _ _ _ _ _ (loops _ _ _ _ _ _ _ c.in-While.ensures c.most_turns-turns.ensures (turns_fit _ (omega arith))) c.turn.ensures.leads
 
 pub returns-in-For-clause-leads : goal.returns-in-For-clause-leads
-returns-in-For-clause-leads c = loops_over _ _ _ _ _ _ _ _ _ _ _ c.in-For.ensures (value_on c.args.unit.now c.args.stack.now c.push_value-in-For.new.self _ c.push_value-in-For.ensures.frames c.push_value-in-For.ensures.activations)
+returns-in-For-clause-leads c = behind_kept_in _ _ _ _ _ _ _ (loops_over _ _ _ _ _ _ _ _ _ _ _ c.in-For.ensures refl) c.await_value-in-For.ensures.keeps
 
 pub returns-in-ExitWhen-clause-leads : goal.returns-in-ExitWhen-clause-leads
 returns-in-ExitWhen-clause-leads c = exits _ _ _ _ _ _ c.in-ExitWhen.ensures (value_on c.args.unit.now c.args.stack.now c.push_value-in-ExitWhen.new.self _ c.push_value-in-ExitWhen.ensures.frames c.push_value-in-ExitWhen.ensures.activations)

@@ -20,4 +20,4 @@ pub returns-in-Fires-clause-answered : goal.returns-in-Fires-clause-answered
 returns-in-Fires-clause-answered c = subst (λ (x : Point). IsAnswered c.args.unit.now x c.args.self.now c.args.answer c.line_answered.new.self) (sym c.in-Fires.is) c.line_answered.ensures.answered
 
 pub returns-in_default-clause-answered : goal.returns-in_default-clause-answered
-returns-in_default-clause-answered c = absurd (c.requires.asks (unasked _ c.in_default.not-Asks c.in_default.not-Waits c.in_default.not-Ends c.in_default.not-Quits c.in_default.not-Fires))
+returns-in_default-clause-answered c = absurd (c.requires.asks (unasked _ _ c.in_default.not-Asks c.in_default.not-Waits c.in_default.not-Ends c.in_default.not-Quits c.in_default.not-Fires))

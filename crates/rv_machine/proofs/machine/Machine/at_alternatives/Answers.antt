@@ -5,9 +5,10 @@ use Rattle.rv_frames.specs.Frames.{selects_of}
 use Rattle.rv_machine.specs.Stacks.{below}
 use Rattle.rv_machine.proofs.Meetings.{moved, in_each, from_as}
 use Rattle.rv_machine.specs.declared.point.Point.TheVariants as point
+use Rattle.rv_machine.specs.declared.point.Step.TheVariants as step
 use Rattle.rv_machine.proofs.machine.Machine.at_alternatives.Goals as goal
 
 pub returns-clause-moves : goal.returns-clause-moves
 returns-clause-moves c =
     let item : to_z w64 (of_z w64 c.args.value) ≡ c.args.value = Prim.first_of (Prim.search rules, Prim.grind arith) in
-    moved c.args.unit.now c.args.self.now (record c.args.self.now { point = c.select-self.result }) (point.Selects c.args.alternatives c.args.value) refl (in_each _ _ _ _ _ (from_as _ _ _ _ _ (ap (λ (z : ℤ). selects_of (as_alternatives (tree_at (trees c.args.unit.now.code) c.args.alternatives)) z c.args.self.now.activation) (sym item)) (c.select-self.ensures (below c.args.unit.now c.args.self.now.stack))))
+    moved c.args.unit.now c.args.self.now (record c.args.self.now { point = point.At c.select-step.result }) (point.At (step.Selects c.args.alternatives c.args.value)) refl (in_each _ _ _ _ _ (from_as _ _ _ _ _ (ap (λ (z : ℤ). selects_of (as_alternatives (tree_at (trees c.args.unit.now.code) c.args.alternatives)) z c.args.self.now.activation) (sym item)) (c.select-step.ensures (below c.args.unit.now c.args.self.now.stack))))

@@ -1,7 +1,8 @@
 use Rattle.std.proofs.Common.{refl}
 use Rattle.rv_machine.proofs.Meetings.{moved, in_each}
 use Rattle.rv_machine.specs.declared.point.Point.TheVariants as point
+use Rattle.rv_machine.specs.declared.point.Step.TheVariants as step
 use Rattle.rv_machine.proofs.machine.Machine.at_declarations.Goals as goal
 
 pub returns-clause-moves : goal.returns-clause-moves
-returns-clause-moves c = moved c.args.unit.now c.args.self.now (record c.args.self.now { point = c.declare-self.result; stack = c.declare-self.new.stack }) (point.Declares c.args.declarations) refl (in_each _ _ _ _ _ c.declare-self.ensures.leads)
+returns-clause-moves c = moved c.args.unit.now c.args.self.now (record c.args.self.now { point = point.At c.declare-step.result; stack = c.declare-step.new.stack; activation = c.declare-step.new.activation }) (point.At (step.Declares c.args.declarations)) refl (in_each _ _ _ _ _ c.declare-step.ensures.leads)

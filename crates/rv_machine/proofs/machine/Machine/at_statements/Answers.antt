@@ -1,7 +1,8 @@
 use Rattle.std.proofs.Common.{refl}
-use Rattle.rv_machine.proofs.Meetings.{moved, in_each}
+use Rattle.rv_machine.proofs.Meetings.{moved}
 use Rattle.rv_machine.specs.declared.point.Point.TheVariants as point
+use Rattle.rv_machine.specs.declared.point.Step.TheVariants as step
 use Rattle.rv_machine.proofs.machine.Machine.at_statements.Goals as goal
 
 pub returns-clause-moves : goal.returns-clause-moves
-returns-clause-moves c = moved c.args.unit.now c.args.self.now (record c.args.self.now { point = c.run_all-self.result; stack = c.run_all-self.new.stack; activation = c.run_all-self.new.activation }) (point.RunsAll c.args.statements) refl (in_each _ _ _ _ _ c.run_all-self.ensures.leads)
+returns-clause-moves c = moved c.args.unit.now c.args.self.now (record c.args.self.now { point = point.At c.run_all-step.result; stack = c.run_all-step.new.stack; activation = c.run_all-step.new.activation }) (point.At (step.RunsAll c.args.statements)) refl c.run_all-step.ensures.leads

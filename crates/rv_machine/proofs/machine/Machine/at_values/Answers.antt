@@ -1,7 +1,8 @@
 use Rattle.std.proofs.Common.{refl}
 use Rattle.rv_machine.proofs.Meetings.{moved, in_each}
 use Rattle.rv_machine.specs.declared.point.Point.TheVariants as point
+use Rattle.rv_machine.specs.declared.point.Step.TheVariants as step
 use Rattle.rv_machine.proofs.machine.Machine.at_values.Goals as goal
 
 pub returns-clause-moves : goal.returns-clause-moves
-returns-clause-moves c = moved c.args.unit.now c.args.self.now (record c.args.self.now { point = c.count-self.result; stack = c.count-self.new.stack; activation = c.count-self.new.activation }) (point.Counts c.args.values c.args.statements) refl (in_each _ _ _ _ _ c.count-self.ensures.leads)
+returns-clause-moves c = moved c.args.unit.now c.args.self.now (record c.args.self.now { point = point.At c.count-step.result; stack = c.count-step.new.stack; activation = c.count-step.new.activation }) (point.At (step.Counts c.args.values c.args.statements)) refl (in_each _ _ _ _ _ c.count-step.ensures.leads)

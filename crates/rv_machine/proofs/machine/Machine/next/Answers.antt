@@ -27,5 +27,7 @@ moves-smaller c = c.advance.ensures.moves.less
 pub returns-in-Some-clause-asks : goal.returns-in-Some-clause-asks
 returns-in-Some-clause-asks c = asks_at c.args.unit.now c.moves.self.point c.moves.self.activation (below c.args.unit.now c.moves.self.stack) _ _ (sym c.question.ensures ∙ c.in-Some.is)
 
-pub returns-then-is_over-clause-ended : goal.returns-then-is_over-clause-ended
-returns-then-is_over-clause-ended c = ended_at c.args.unit.now c.moves.self.point c.moves.self.activation (below c.args.unit.now c.moves.self.stack) _ _ (c.if-is_over.ensures.yes refl) (nothing_waits c.args.unit.now c.moves.self.stack (c.if-is_over.ensures.empty refl) (c.if-is_over.ensures.alone refl)) c.end.ensures
+pub returns-in-None-clause-ended : goal.returns-in-None-clause-ended
+returns-in-None-clause-ended c =
+    let unasked = sym c.question.ensures ∙ c.in-None.is in
+    ended_at c.args.unit.now c.moves.self.point c.moves.self.activation (below c.args.unit.now c.moves.self.stack) _ _ (c.if-rests.ensures.over refl unasked) (nothing_waits c.args.unit.now c.moves.self.stack (c.if-rests.ensures.empty refl unasked) (c.if-rests.ensures.alone refl unasked)) c.end.ensures

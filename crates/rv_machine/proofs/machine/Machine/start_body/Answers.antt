@@ -5,6 +5,7 @@ use Rattle.rv_event.specs.declared.entry.Exception.TheVariants.{ProgramError}
 use Rattle.rv_exec.specs.declared.end.Cause.TheVariants as cause
 use Rattle.rv_frames.specs.Frames.{closes}
 use Rattle.rv_machine.specs.declared.point.Point.TheVariants as point
+use Rattle.rv_machine.specs.declared.point.Step.TheVariants as step
 use Rattle.rv_machine.specs.Stacks.{below}
 use Rattle.rv_machine.proofs.Steps.{end_on, exiting_on}
 use Rattle.rv_machine.proofs.Fitting.{room_for, fits_from, body_low, body_missing_low}
@@ -47,7 +48,7 @@ push_end-requires-in-Some c =
 
 pub returns-in-Some-clause-fits : goal.returns-in-Some-clause-fits
 returns-in-Some-clause-fits c =
-    fits_from c.args.unit.now c.args.stack (record { point = point.Declares c.in-Some.body.now.declarations; activation = c.begun.result; setting = c.inner.result; stack = c.push_end-in-Some.new.self }) c.requires
+    fits_from c.args.unit.now c.args.stack (record { point = point.At (step.Declares c.in-Some.body.now.declarations); activation = c.begun.result; setting = c.inner.result; stack = c.push_end-in-Some.new.self }) c.requires
     (c.push_end-in-Some.ensures.kept ∙ (c.push_end.ensures.kept ∙ c.push_exiting.ensures.kept))
     (body_low c.args.unit.now c.of_operation-setting.result c.inner.result c.args.held c.args.object c.args.number c.begun.result (body_in (trees c.args.unit.now.code) c.in-Some.body.now)
     (below c.args.unit.now c.args.stack) (below c.args.unit.now c.push_exiting.new.self) (below c.args.unit.now c.push_end.new.self) (below c.args.unit.now c.push_end-in-Some.new.self)
@@ -58,7 +59,7 @@ returns-in-Some-clause-fits c =
 
 pub returns-in-None-clause-fits : goal.returns-in-None-clause-fits
 returns-in-None-clause-fits c =
-    fits_from c.args.unit.now c.args.stack (record { point = point.Closes (Err (cause.Raised ProgramError)) c.args.components 100000; activation = c.no_activation.result; setting = c.of_operation-setting.result; stack = c.push_exiting.new.self }) c.requires c.push_exiting.ensures.kept
+    fits_from c.args.unit.now c.args.stack (record { point = point.Closes (Err (cause.Raised ProgramError)); activation = record c.no_activation-activation.result { components = c.args.components; steps = 100000 }; setting = c.of_operation-setting.result; stack = c.push_exiting.new.self }) c.requires c.push_exiting.ensures.kept
     (body_missing_low c.args.unit.now c.of_operation-setting.result (closes (Err (cause.Raised ProgramError)) c.args.components 100000) (below c.args.unit.now c.args.stack) (below c.args.unit.now c.push_exiting.new.self)
     (nothing_waits c.args.unit.now c.args.stack c.requires.empty c.requires.alone)
     (exiting_on c.args.unit.now c.args.stack c.push_exiting.new.self c.push_exiting.ensures.frames c.push_exiting.ensures.activations))

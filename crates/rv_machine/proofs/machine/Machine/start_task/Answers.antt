@@ -7,6 +7,7 @@ use Rattle.rv_flat.specs.Tables.{trees}
 use Rattle.rv_machine.specs.Points.{control}
 use Rattle.rv_machine.specs.Stacks.{below}
 use Rattle.rv_machine.specs.declared.point.Point.TheVariants as point
+use Rattle.rv_machine.specs.declared.point.Step.TheVariants as step
 use Rattle.rv_frames.specs.Frames.{meant, quits_of}
 use Rattle.rv_machine.proofs.Steps.{end_on}
 use Rattle.rv_machine.proofs.Fitting.{room_for, fits_from, task_low, task_alone_low}
@@ -15,7 +16,7 @@ use Rattle.rv_machine.proofs.machine.Machine.start_task.Goals as goal
 
 pub returns-in-Some-clause-stands : goal.returns-in-Some-clause-stands
 returns-in-Some-clause-stands c =
-    ap (λ (s : Setting). meant (flat_view c.args.unit.now) (control (trees c.args.unit.now.code) (point.Declares c.in-Some.body.now.declarations) c.of_budget-activation.result) (below c.args.unit.now c.push_end-in-Some.new.self) s) c.of_task.ensures
+    ap (λ (s : Setting). meant (flat_view c.args.unit.now) (control (trees c.args.unit.now.code) (point.At (step.Declares c.in-Some.body.now.declarations)) c.of_budget-activation.result) (below c.args.unit.now c.push_end-in-Some.new.self) s) c.of_task.ensures
     ∙ task_starts c.args.unit.now c.args.actor c.args.requests (body_in (trees c.args.unit.now.code) c.in-Some.body.now) c.of_budget-activation.result (below c.args.unit.now c.args.stack) (below c.args.unit.now c.push_end.new.self) (below c.args.unit.now c.push_end-in-Some.new.self)
     c.in-Some.ensures.found c.of_budget-activation.ensures (nothing_waits c.args.unit.now c.args.stack c.requires.empty c.requires.alone)
     (end_on c.args.unit.now c.args.stack c.push_end.new.self _ c.push_end.ensures.frames c.push_end.ensures.activations)
@@ -39,7 +40,7 @@ push_end-requires-in-Some c =
 
 pub returns-in-Some-clause-fits : goal.returns-in-Some-clause-fits
 returns-in-Some-clause-fits c =
-    fits_from c.args.unit.now c.args.stack (record { point = point.Declares c.in-Some.body.now.declarations; activation = c.of_budget-activation.result; setting = c.of_task.result; stack = c.push_end-in-Some.new.self }) c.requires
+    fits_from c.args.unit.now c.args.stack (record { point = point.At (step.Declares c.in-Some.body.now.declarations); activation = c.of_budget-activation.result; setting = c.of_task.result; stack = c.push_end-in-Some.new.self }) c.requires
     (c.push_end-in-Some.ensures.kept ∙ c.push_end.ensures.kept)
     (task_low c.args.unit.now c.args.actor (body_in (trees c.args.unit.now.code) c.in-Some.body.now) c.of_budget-activation.result c.of_task.result (below c.args.unit.now c.args.stack) (below c.args.unit.now c.push_end.new.self) (below c.args.unit.now c.push_end-in-Some.new.self)
     c.in-Some.ensures.found c.of_task.ensures (nothing_waits c.args.unit.now c.args.stack c.requires.empty c.requires.alone)
