@@ -225,8 +225,8 @@ BY_TERMINAL = ((), ("--notes", "auto"), ("--notes", "always"))
 
 def explanations(asked: Asked) -> None:
     """When faults are explained, and when notes of an audit are told."""
-    faulty = b"@shape\nunt Plant\n"
-    fault = b"script line 1: shape BadText\n"
+    faulty = b"@unit\npackag P is\nend P;\n"
+    fault = b"script line 1: parse Unexpected at 0\n"
     explained = fault + b" --> 2:1\n"
 
     def is_as(what: str, told: bytes, is_explained: bool) -> None:
