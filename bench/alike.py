@@ -8,9 +8,9 @@ checkouts. Each script of crates/rv_rows/data is played, checked, and judged wit
 explained; and so are N scripts (2,000) drawn from them: lines and sections left out, doubled, moved or changed in a character,
 journals too, and units of a journal given in another order than it loads them; a load between two steps of texts that run; a halt
 at any step, also while an object is unsettled, behind which each actor's text goes on to its stop. The journal of each drawn script
-that is played is judged too, explained. The last line says how many of them have a load behind a step, and how many an unsettled
-object at their halt. Runs on threads aren't compared here: their journals differ from run to run. Statuses: 0 all alike, 1 some
-differ, 2 usage.
+that is played is judged too, explained. The last line says how many of those that differ asked for no explanations and notes, and
+of all how many have a load behind a step, and how many an unsettled object at their halt. Runs on threads aren't compared here:
+their journals differ from run to run. Statuses: 0 all alike, 1 some differ, 2 usage.
 """
 import argparse
 import random
@@ -173,6 +173,11 @@ def outcome(program: Path, case: Case) -> tuple[object, bytes, bytes]:
     return (done.returncode, done.stdout, done.stderr)
 
 
+def is_for_people(case: Case) -> bool:
+    """Whether a case asks for explanations of faults or notes, whose words aren't the papers' (`audit --explain` judges ends)."""
+    return "--notes" in case.words or (case.words[0] != "audit" and "--explain" in case.words)
+
+
 def main() -> int:
     parser = argparse.ArgumentParser(description="Compares two builds of the program.", usage="bench/alike.py OLD NEW [--drawn N] [--seed S] [--jobs J]")
     parser.add_argument("old", type=Path)
@@ -195,7 +200,7 @@ def main() -> int:
         return found
 
     statuses: Counter[object] = Counter()
-    differ = compared = within = unsettled = 0
+    differ = plain = compared = within = unsettled = 0
     with ThreadPoolExecutor(given.jobs) as pool:
         for case, one, other in (it for found in pool.map(compare, cases) for it in found):
             compared += 1
@@ -204,11 +209,12 @@ def main() -> int:
             statuses[one[0]] += 1
             if one != other:
                 differ += 1
+                plain += not is_for_people(case)
                 if differ <= 10:
                     with tempfile.NamedTemporaryFile(prefix="alike-", suffix=".raven", delete=False) as kept:
                         kept.write(case.script)
                     print(f"{case.name}: {' '.join(case.words)} < {kept.name}\n  old {one}\n  new {other}")
-    print(f"{compared} cases, {differ} differ; journals with a load behind a step {within}, halted while an object was unsettled {unsettled};"
+    print(f"{compared} cases, {differ} differ, {plain} of them without explanations of faults and notes; journals with a load behind a step {within}, halted while an object was unsettled {unsettled};"
           f" statuses {dict(sorted(statuses.items(), key=str))}")
     return 1 if differ else 0
 

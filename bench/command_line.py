@@ -9,6 +9,7 @@ those of standard input; where FILE has no line `@run`, nothing of standard inpu
 word and what it takes, the first of several in the order of the contracts. `manual` prints what `help` does, on standard output, and
 that is what stands in crates/ravenhost/usage. At a terminal and elsewhere a fault is explained, and notes are told, as the flags say.
 """
+import contextlib
 import os
 import pty
 import subprocess
@@ -62,10 +63,10 @@ class Asked:
         near, far = pty.openpty()
         subprocess.run([str(self.program), *words], input=given, stdout=subprocess.DEVNULL, stderr=far, cwd=self.folder, timeout=SECONDS, check=False)
         os.close(far)
-        try:
-            told = os.read(near, 65536)
-        except OSError:  # (nothing was told)
-            told = b""
+        told = b""
+        with contextlib.suppress(OSError):  # (at the end of what was told)
+            while piece := os.read(near, 65536):
+                told += piece
         os.close(near)
         return told.replace(b"\r\n", b"\n")
 

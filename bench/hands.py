@@ -9,6 +9,7 @@ hold commands, are cut short or large, by several senders at once; scripts that 
 of a script in files of their own that hold sections, are cut short or refused. It needs flock, and a program: the proved one or the trial
 that is kept. Where ravenreview isn't there, its questions aren't asked.
 """
+import contextlib
 import os
 import pty
 import random
@@ -251,10 +252,10 @@ def at_terminal(hands: Hands, words: list[str]) -> bytes:
     near, far = pty.openpty()
     done = subprocess.run([hands.launcher, *words], cwd=hands.folder, stdin=subprocess.DEVNULL, stdout=subprocess.DEVNULL, stderr=far, timeout=SECONDS, check=False)
     os.close(far)
-    try:
-        said = os.read(near, 65536)
-    except OSError:  # (nothing was written)
-        said = b""
+    said = b""
+    with contextlib.suppress(OSError):  # (at the end of what was written)
+        while piece := os.read(near, 65536):
+            said += piece
     os.close(near)
     return said if done.returncode in (0, 1) else b"status %d" % done.returncode
 
@@ -417,7 +418,7 @@ def many_bad_commands(hands: Hands) -> None:
         before = os.times()
         done = hands.asked(["run", "--explain", "--notes", "never"], b"@list\n@run\n" + b"raise 10\n" * count + b"quit\n")
         after = os.times()
-        hands.due(f"{count} lines are answered", done.stdout == b"bad command\n" * count + b"entries 1\n", done.stdout[-100:])
+        hands.due(f"{count} lines are answered", done.stdout == b"bad command\n" * count + b"entries 2\n", done.stdout[-100:])
         hands.due(f"{count} lines are explained", done.stderr.count(b"\n  = raise takes the number of an interrupt line, 0 .. 9\n") == count, done.stderr[-300:])
         return after.children_user + after.children_system - before.children_user - before.children_system
 
