@@ -1,6 +1,6 @@
 #!/usr/bin/env bash
 # Has a built ravenreview say which entries of the examples' journals were refused, who waited, who may call what, how often lines
-# decided, and what another list would have decided and when what happened, and compares that with bench/review:
+# decided, what another list would have decided, and who was at what when, and compares that with bench/review:
 #   bench/review.sh RAVENREVIEW RAVENHOST
 # Each example is played by RAVENHOST; its units, and what sets up its host, are given to RAVENREVIEW beside the journal, once in a file
 # and once in a section. Then come filters, a journal that isn't legal, and each status. Ends with 1 where anything differs.
@@ -41,7 +41,7 @@ play() {
 
 for script in "$here"/examples/*.raven; do
     name=$(basename "$script" .raven)
-    for asked in refusals waits access hits; do
+    for asked in refusals waits access hits timeline; do
         case $asked in refusals) said=$name ;; *) said=${asked}_$name ;; esac
         [ -f "$here/bench/review/$said" ] || continue
         play "$script"
@@ -70,6 +70,38 @@ expect 2 nothing 27 --journal "$work/journal" <"$work/units"
 expect 2 nothing --journal "$work/journal" <"$work/units"
 expect 2 nothing ten --journal "$work/journal" <"$work/units"
 expect 1 waits_not_legal 7 --journal "$work/wrong" <"$work/units"
+
+# What was when, as letters and as a picture. The letters are also compared with rows that are drawn from the journal's text alone.
+asked=timeline
+rows() {
+    "$here/bench/review/rows_of.py" "$work/journal" "$work/said" "$@" >"$work/rows" || differs "rows of the timeline: $(head -n 3 "$work/rows")"
+}
+xml() {
+    python3 -c 'import sys, xml.dom.minidom; xml.dom.minidom.parse(sys.argv[1])' "$work/said" || differs "the picture isn't well-formed XML"
+}
+expect 0 timeline --journal "$work/journal" <"$work/units"
+rows
+expect 0 timeline --text <"$work/whole"
+expect 0 timeline_by --by nav.aux --from 9 --to 17 --journal "$work/journal" <"$work/units"
+expect 0 timeline_of --of plant.valve --to 4 --journal "$work/journal" <"$work/units"
+expect 0 timeline_behind --from 27 --journal "$work/journal" <"$work/units"
+expect 0 timeline.svg --svg --journal "$work/journal" <"$work/units"
+xml
+rows
+expect 0 timeline_low.svg --svg --by nav.low --from 17 --journal "$work/journal" <"$work/units"
+xml
+expect 0 timeline_behind.svg --svg --from 27 --journal "$work/journal" <"$work/units"
+xml
+expect 2 nothing --text --svg --journal "$work/journal" <"$work/units"
+expect 2 nothing --from ten --journal "$work/journal" <"$work/units"
+expect 1 waits_not_legal --svg --journal "$work/wrong" <"$work/units"
+cat "$here/examples/new/plant.raven" "$here/examples/new/steps.raven" >"$work/plant.raven"
+play "$work/plant.raven"
+expect 0 timeline_plant --journal "$work/journal" <"$work/units"
+rows
+"$review" timeline --svg --journal "$work/journal" <"$work/units" >"$work/said"
+xml
+rows
 
 play "$here/bench/review/granting.raven"
 asked=access

@@ -44,7 +44,7 @@ pub record NotesMoment (old new : Timeline) (number tick : ℕ) : Type 0 where
   pub waits : new.waits ≡ old.waits
   pub bodies : new.bodies ≡ old.bodies
   pub delays : new.delays ≡ old.delays
-  pub bars : new.bars ≡ old.bars
+  pub bars : new.bars.items ≡ old.bars.items
 
 -- the bar of the one that ends, of an actor, if one does and a filter takes it
 abbrev pub ended_bar : Kind → FilterText → History → ℕ → Option ℕ → Tracked → List Bar
@@ -65,7 +65,7 @@ pub record LooksForWaits (old new : Timeline) (h : History) (number : ℕ) (entr
   pub calls : new.calls ≡ old.calls
   pub bodies : new.bodies ≡ old.bodies
   pub delays : new.delays ≡ old.delays
-  pub moments : new.moments ≡ old.moments
+  pub moments : new.moments.items ≡ old.moments.items
 
 -- of bodies
 pub record LooksForBodies (old new : Timeline) (h : History) (number : ℕ) (entry : Entry) : Type 0 where
@@ -76,7 +76,7 @@ pub record LooksForBodies (old new : Timeline) (h : History) (number : ℕ) (ent
   pub calls : new.calls ≡ old.calls
   pub waits : new.waits ≡ old.waits
   pub delays : new.delays ≡ old.delays
-  pub moments : new.moments ≡ old.moments
+  pub moments : new.moments.items ≡ old.moments.items
 
 -- of delays
 pub record LooksForDelays (old new : Timeline) (h : History) (number : ℕ) (entry : Entry) : Type 0 where
@@ -86,7 +86,7 @@ pub record LooksForDelays (old new : Timeline) (h : History) (number : ℕ) (ent
   pub calls : new.calls ≡ old.calls
   pub waits : new.waits ≡ old.waits
   pub bodies : new.bodies ≡ old.bodies
-  pub moments : new.moments ≡ old.moments
+  pub moments : new.moments.items ≡ old.moments.items
 
 -- of a refusal, and the call that it queues is noted
 pub record LooksForRefusal (old new : Timeline) (h : History) (number : ℕ) (entry : Entry) : Type 0 where
@@ -96,7 +96,7 @@ pub record LooksForRefusal (old new : Timeline) (h : History) (number : ℕ) (en
   pub waits : new.waits ≡ old.waits
   pub bodies : new.bodies ≡ old.bodies
   pub delays : new.delays ≡ old.delays
-  pub moments : new.moments ≡ old.moments
+  pub moments : new.moments.items ≡ old.moments.items
 
 -- a noted entry is looked at as the next one
 abbrev pub Looks : Timeline → Timeline → History → ℕ → Entry → Type 0

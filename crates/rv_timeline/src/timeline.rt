@@ -2,6 +2,7 @@
 
 ghost use Rattle.std.specs.Prelude.{◌≡◌, ◌++◌, ◌∷◌, [], IfOk, OnOk, string_bytes};
 ghost use Rattle.rv_event.specs.Lent.{whole};
+ghost use Rattle.rv_event.specs.Past.{clock};
 ghost use Rattle.rv_event.specs.declared.entry.Entry.TheVariants.{Asked};
 ghost use Rattle.rv_history.specs.History.{History};
 ghost use Rattle.rv_history.specs.Legal.{empty};
@@ -116,10 +117,11 @@ impl<'f> Timeline<'f> {
         }
     }
 
-    // Notes an entry of this number at this tick.
-    fn note_moment(&mut self, number: usize, tick: u64) -> Result<(), AllocError>
-        ensures { OnOk result (NotesMoment self.old self.new number tick) }
+    // Notes an entry of this number.
+    fn note_moment(&mut self, host: &Host, number: usize) -> Result<(), AllocError>
+        ensures { OnOk result (NotesMoment self.old self.new number (clock host.now.past)) }
     {
+        let tick = host.clock();
         self.moments.push(Moment { number, tick })?;
         Ok(())
     }
@@ -245,7 +247,7 @@ impl<'f> Timeline<'f> {
             ++ (lasting_bars Kind.Body self.old.wish.filter catalogue.now self.old.tick self.old.bodies.begun
             ++ lasting_bars Kind.Delay self.old.wish.filter catalogue.now self.old.tick self.old.delays.begun))) }
         ensures wish { self.new.wish ≡ self.old.wish }
-        ensures moments { self.new.moments ≡ self.old.moments }
+        ensures moments { self.new.moments.items ≡ self.old.moments.items }
     {
         add_lasting_bars(
             self.alloc,
@@ -305,7 +307,7 @@ impl<'f> Observer for Timeline<'f> {
         number: usize,
         deed: &Deed<'_>,
     ) -> Result<(), AllocError> {
-        self.note_moment(number, host.clock())?;
+        self.note_moment(host, number)?;
         match *deed {
             Deed::Asks(actor, request, word) => self.look(host, number, actor, &request, word),
             Deed::Loads(_, _, _) => Ok(()),
