@@ -101,7 +101,7 @@ def drawn_of(bars, count):
     """The bars of each lane, by its name, as a picture has them."""
     drawn = {}
     for letters, lane, first, last in bars:
-        drawn.setdefault(" ".join(lane), []).append((CLASSES[letters], first, (last or count) - first))
+        drawn.setdefault(" ".join(lane), []).append((CLASSES[letters], first, max((last or count) - first, count // 600 + 1)))
     return {name: sorted(bars) for name, bars in drawn.items()}
 
 

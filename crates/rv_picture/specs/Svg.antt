@@ -1,5 +1,5 @@
 -- A timeline as SVG (own): a lane above the other, each a field whose scale is the numbers of entries.
-use Rattle.std.specs.Prelude.{ℕ, ◌+◌, ◌-◌, ◌*◌, ◌/◌, ◌%◌, List, [], ◌∷◌, ◌++◌, length, codes, slice_get, Option, Some, None}
+use Rattle.std.specs.Prelude.{ℕ, ◌+◌, ◌-◌, ◌*◌, ◌/◌, ◌%◌, nat_lt, if◌then◌else◌, List, [], ◌∷◌, ◌++◌, length, codes, slice_get, Option, Some, None}
 use Rattle.std.specs.Fmt.{decimal}
 use Rattle.std.specs.List.{flat_map}
 use Rattle.rv_shape.specs.Shape.{Shape}
@@ -22,6 +22,13 @@ class Body = codes "body"
 class Delay = codes "delay"
 class Refused = codes "refused"
 
+-- where it stands in the field of its lane: refusals stand above the others
+abbrev pub strip : Kind → List ℕ
+strip Wait = codes "y='6' height='10'"
+strip Body = codes "y='6' height='10'"
+strip Delay = codes "y='6' height='10'"
+strip Refused = codes "y='0' height='5'"
+
 -- the number of an entry, 0 where there is none
 abbrev pub number_in : Option Moment → ℕ
 number_in None = 0
@@ -32,18 +39,22 @@ abbrev pub end_of : ℕ → Option ℕ → ℕ
 end_of last None = last
 end_of last (Some end) = end
 
+-- how wide a bar is among so many entries: from the one that begins it to its end, and two of the 1,200 points at least
+abbrev pub width_of : ℕ → ℕ → ℕ → ℕ
+width_of count number end = if nat_lt (end - number) (count / 600 + 1) then count / 600 + 1 else end - number
+
 -- a bar that begins at an entry and is so wide
-abbrev pub rect_text : List ℕ → ℕ → ℕ → List ℕ → List ℕ
-rect_text class number width title =
-    codes "<rect class='" ++ (class ++ (codes "' x='" ++ (decimal number ++ (codes "' width='" ++ (decimal width
-    ++ (codes "' height='16'><title>" ++ (title ++ (codes "</title></rect>" ++ 10 ∷ []))))))))
+abbrev pub rect_text : Kind → ℕ → ℕ → List ℕ → List ℕ
+rect_text kind number width title =
+    codes "<rect class='" ++ (class kind ++ (codes "' " ++ (strip kind ++ (codes " x='" ++ (decimal number ++ (codes "' width='"
+    ++ (decimal width ++ (codes "'><title>" ++ (title ++ (codes "</title></rect>" ++ 10 ∷ []))))))))))
 
-abbrev pub bar_text : List Shape → ℕ → Bar → List ℕ
-bar_text shapes last bar =
-    rect_text (class bar.kind) bar.begun.number (end_of last bar.last - bar.begun.number) (title shapes bar)
+abbrev pub bar_text : List Shape → ℕ → ℕ → Bar → List ℕ
+bar_text shapes count last bar =
+    rect_text bar.kind bar.begun.number (width_of count bar.begun.number (end_of last bar.last)) (title shapes bar)
 
-abbrev pub bars_text : List Shape → ℕ → List Bar → List ℕ
-bars_text shapes last bars = flat_map (λ bar. bar_text shapes last bar) bars
+abbrev pub bars_text : List Shape → ℕ → ℕ → List Bar → List ℕ
+bars_text shapes count last bars = flat_map (λ bar. bar_text shapes count last bar) bars
 
 -- Lanes
 
@@ -60,11 +71,18 @@ first_number moments = number_in (slice_get moments 0)
 abbrev pub last_number : List Moment → ℕ
 last_number moments = number_in (slice_get moments (length moments - 1))
 
+abbrev pub field_of : List Shape → List Moment → Lane → List ℕ
+field_of shapes moments lane =
+    field_text lane.place (first_number moments) (length moments) (lane_name shapes lane.actor lane.object)
+
+-- what closes a field, or the picture
+abbrev pub end_text : List ℕ
+end_text = codes "</svg>" ++ 10 ∷ []
+
 -- a lane with these bars
 abbrev pub lane_text : List Shape → List Moment → List Bar → Lane → List ℕ
 lane_text shapes moments bars lane =
-    field_text lane.place (first_number moments) (length moments) (lane_name shapes lane.actor lane.object)
-    ++ (bars_text shapes (last_number moments) bars ++ (codes "</svg>" ++ 10 ∷ []))
+    field_of shapes moments lane ++ (bars_text shapes (length moments) (last_number moments) bars ++ end_text)
 
 abbrev pub lane_in : List Shape → List Moment → List Bar → Lane → List ℕ
 lane_in shapes moments bars lane = lane_text shapes moments (of_lane lane.actor lane.object bars) lane
@@ -100,7 +118,7 @@ head count =
 -- these bars in these lanes over entries
 abbrev pub svg_lanes : List Shape → List Moment → List Bar → List Lane → List ℕ
 svg_lanes shapes moments bars lanes =
-    head (length lanes) ++ (axis moments ++ (lanes_text shapes moments bars lanes ++ (codes "</svg>" ++ 10 ∷ [])))
+    head (length lanes) ++ (axis moments ++ (lanes_text shapes moments bars lanes ++ end_text))
 
 abbrev pub svg_with : List Shape → List Moment → List Bar → List ℕ
 svg_with shapes moments bars = svg_lanes shapes moments bars (lanes shapes bars)

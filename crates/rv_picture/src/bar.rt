@@ -103,11 +103,7 @@ impl Frame {
 }
 
 /// The entries that are shown. Err where memory was refused.
-pub fn in_frame(
-    alloc: Global,
-    frame: &Frame,
-    moments: &[Moment],
-) -> Result<Vec<Moment>, AllocError>
+pub fn in_frame(alloc: Global, frame: &Frame, moments: &[Moment]) -> Result<Vec<Moment>, AllocError>
     ensures { IfOk result (λ shown. shown.items ≡ in_frame frame.now moments.now) }
 {
     let mut shown = Vec::new(alloc);

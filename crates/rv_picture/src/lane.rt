@@ -106,7 +106,7 @@ fn add_lanes_on(
 
 /// The lanes that have one of these bars, in the order of the actors and of each in that of the objects. Err where memory was refused.
 pub fn lanes(alloc: Global, catalogue: &Catalogue, bars: &[Bar]) -> Result<Vec<Lane>, AllocError>
-    ensures { IfOk result (λ lanes. lanes.items ≡ lanes catalogue.now bars.now) }
+    ensures { IfOk result (λ found. found.items ≡ lanes catalogue.now bars.now) }
 {
     let mut found = Vec::new(alloc);
     let count = FIRST_TASK + catalogue.tasks();

@@ -1,7 +1,7 @@
 //! A timeline as rows of letters.
 
 ghost use Rattle.std.specs.Prelude.{◌≡◌, ◌++◌, ◌/◌, ◌≤◌, IfOk, OnOk, length, string_bytes, suc, take};
-ghost use Rattle.rv_picture.specs.Letters.{any_at, block_text, blocks_text, cells, chunk, head_text, is_at, is_last, is_of_kind, letter_at, letters_of, letters_text, row_in, row_text, rows_text, ruler};
+ghost use Rattle.rv_picture.specs.Letters.{any_at, block_text, blocks_text, cells, chunk, head_text, is_at, is_last, is_of_kind, key, letter_at, letters_of, letters_text, letters_with, row_in, row_text, rows_text, ruler};
 
 use crate::bar::{Bar, Frame, Kind, Moment, in_frame, within};
 use crate::lane::{Lane, lane_name, lanes, of_lane};
@@ -123,12 +123,7 @@ fn put_ruler(text: &mut String, block: &[Moment]) -> Result<(), AllocError>
 }
 
 // Puts the row of a lane that has these bars at entries, if it has any.
-fn put_row(
-    text: &mut String,
-    bars: &[Bar],
-    block: &[Moment],
-    name: &str,
-) -> Result<(), AllocError>
+fn put_row(text: &mut String, bars: &[Bar], block: &[Moment], name: &str) -> Result<(), AllocError>
     ensures { OnOk result (string_bytes text.new ≡ string_bytes text.old ++ row_text bars.now block.now name.now) }
 {
     text.push_str("|")?;
@@ -228,6 +223,24 @@ fn chunk(moments: &[Moment], number: usize) -> &[Moment]
     front(rest)
 }
 
+// Puts the block of a number, from 0.
+fn put_block_at(
+    alloc: Global,
+    text: &mut String,
+    catalogue: &Catalogue,
+    lanes: &[Lane],
+    bars: &[Bar],
+    moments: &[Moment],
+    number: usize,
+) -> Result<(), AllocError>
+    requires { number ≤ length moments.now / 60 }
+    ensures { OnOk result (string_bytes text.new ≡ string_bytes text.old
+        ++ block_text catalogue.now lanes.now bars.now (chunk number moments.now)) }
+{
+    let block = chunk(moments, number);
+    put_block(alloc, text, catalogue, lanes, bars, block)
+}
+
 // Puts all blocks.
 fn put_blocks(
     alloc: Global,
@@ -242,19 +255,34 @@ fn put_blocks(
 {
     let count = moments.len() / COLUMNS + 1;
     for number in 0..count {
-        put_block(
-            alloc,
-            text,
-            catalogue,
-            lanes,
-            bars,
-            chunk(moments, number),
-        )?;
+        put_block_at(alloc, text, catalogue, lanes, bars, moments, number)?;
     }
     Ok(())
 }
 
-// Puts the blocks of entries under what the letters stand for.
+// Puts what the letters stand for.
+fn put_key(text: &mut String) -> Result<(), AllocError>
+    ensures { OnOk result (string_bytes text.new ≡ string_bytes text.old ++ key) }
+{
+    text.push_str("[ begins a body, = is in it, ] ends it; w waits; d is delayed; x is refused\n")
+}
+
+// Puts these bars in the blocks of entries.
+fn put_letters_with(
+    alloc: Global,
+    text: &mut String,
+    catalogue: &Catalogue,
+    moments: &[Moment],
+    bars: &[Bar],
+) -> Result<(), AllocError>
+    ensures { OnOk result (string_bytes text.new ≡ string_bytes text.old ++ letters_with catalogue.now moments.now bars.now) }
+{
+    let lanes = lanes(alloc, catalogue, bars)?;
+    put_key(text)?;
+    put_blocks(alloc, text, catalogue, lanes.as_slice(), bars, moments)
+}
+
+// Puts those of these bars that have a part in the entries.
 fn put_letters(
     alloc: Global,
     text: &mut String,
@@ -265,16 +293,7 @@ fn put_letters(
     ensures { OnOk result (string_bytes text.new ≡ string_bytes text.old ++ letters_of catalogue.now moments.now bars.now) }
 {
     let shown = within(alloc, moments, bars)?;
-    let lanes = lanes(alloc, catalogue, shown.as_slice())?;
-    text.push_str("[ begins a body, = is in it, ] ends it; w waits; d is delayed; x is refused\n")?;
-    put_blocks(
-        alloc,
-        text,
-        catalogue,
-        lanes.as_slice(),
-        shown.as_slice(),
-        moments,
-    )
+    put_letters_with(alloc, text, catalogue, moments, shown.as_slice())
 }
 
 /// A timeline as rows of letters: what the letters stand for, and blocks of at most 60 entries. A block has a row for each lane that has a
