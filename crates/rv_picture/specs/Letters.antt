@@ -114,10 +114,13 @@ blocks_text shapes lanes bars moments (suc number) =
 abbrev pub key : List ℕ
 key = codes "[ begins a body, = is in it, ] ends it; w waits; d is delayed; x is refused" ++ 10 ∷ []
 
--- these bars in the blocks of entries
+-- these bars in these lanes, in the blocks of entries
+abbrev pub letters_in : List Shape → List Lane → List Bar → List Moment → List ℕ
+letters_in shapes lanes bars moments = key ++ blocks_text shapes lanes bars moments (suc (length moments / 60))
+
+-- in their lanes
 abbrev pub letters_with : List Shape → List Moment → List Bar → List ℕ
-letters_with shapes moments bars =
-    key ++ blocks_text shapes (lanes shapes bars) bars moments (suc (length moments / 60))
+letters_with shapes moments bars = letters_in shapes (lanes shapes bars) bars moments
 
 abbrev pub letters_of : List Shape → List Moment → List Bar → List ℕ
 letters_of shapes moments bars = letters_with shapes moments (within moments bars)

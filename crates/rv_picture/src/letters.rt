@@ -1,7 +1,7 @@
 //! A timeline as rows of letters.
 
 ghost use Rattle.std.specs.Prelude.{◌≡◌, ◌++◌, ◌/◌, ◌≤◌, IfOk, OnOk, length, string_bytes, suc, take};
-ghost use Rattle.rv_picture.specs.Letters.{any_at, block_text, blocks_text, cells, chunk, head_text, is_at, is_last, is_of_kind, key, letter_at, letters_of, letters_text, letters_with, row_in, row_text, rows_text, ruler};
+ghost use Rattle.rv_picture.specs.Letters.{any_at, block_text, blocks_text, cells, chunk, head_text, is_at, is_last, is_of_kind, key, letter_at, letters_in, letters_of, letters_text, letters_with, row_in, row_text, rows_text, ruler};
 
 use crate::bar::{Bar, Frame, Kind, Moment, in_frame, within};
 use crate::lane::{Lane, lane_name, lanes, of_lane};
@@ -267,7 +267,22 @@ fn put_key(text: &mut String) -> Result<(), AllocError>
     text.push_str("[ begins a body, = is in it, ] ends it; w waits; d is delayed; x is refused\n")
 }
 
-// Puts these bars in the blocks of entries.
+// Puts these bars in the blocks of entries, under what the letters stand for, in these lanes.
+fn put_letters_in(
+    alloc: Global,
+    text: &mut String,
+    catalogue: &Catalogue,
+    lanes: &[Lane],
+    bars: &[Bar],
+    moments: &[Moment],
+) -> Result<(), AllocError>
+    ensures { OnOk result (string_bytes text.new ≡ string_bytes text.old ++ letters_in catalogue.now lanes.now bars.now moments.now) }
+{
+    put_key(text)?;
+    put_blocks(alloc, text, catalogue, lanes, bars, moments)
+}
+
+// Puts these bars in their lanes.
 fn put_letters_with(
     alloc: Global,
     text: &mut String,
@@ -278,8 +293,7 @@ fn put_letters_with(
     ensures { OnOk result (string_bytes text.new ≡ string_bytes text.old ++ letters_with catalogue.now moments.now bars.now) }
 {
     let lanes = lanes(alloc, catalogue, bars)?;
-    put_key(text)?;
-    put_blocks(alloc, text, catalogue, lanes.as_slice(), bars, moments)
+    put_letters_in(alloc, text, catalogue, lanes.as_slice(), bars, moments)
 }
 
 // Puts those of these bars that have a part in the entries.
