@@ -192,13 +192,7 @@ impl<'f> Timeline<'f> {
             woken_by(entry),
             delay_by(entry, number),
         )?;
-        add_bar(
-            &mut self.bars,
-            Kind::Delay,
-            it,
-            Some(number),
-            host.clock(),
-        )
+        add_bar(&mut self.bars, Kind::Delay, it, Some(number), host.clock())
     }
 
     // Looks whether it was refused, and notes the call that it queued.
