@@ -1,5 +1,5 @@
 -- What is gathered follows a journal.
-use Rattle.std.proofs.Common.{◌≡◌, ℕ, suc, List, [], ◌∷◌, ◌++◌, Some, Option, Result, Ok, Err, length, sym, ap, ◌∙◌, subst, append_assoc, append-nil, Bor}
+use Rattle.std.proofs.Common.{◌≡◌, ℕ, suc, List, [], ◌∷◌, ◌++◌, Option, Result, Ok, Err, length, sym, ap, ◌∙◌, subst, append_assoc, append-nil, Bor}
 use Rattle.std.specs.Prelude.{OnOk}
 use Rattle.rv_shape.specs.Shape.{Shape}
 use Rattle.rv_event.specs.Past.{clock, ended, started}

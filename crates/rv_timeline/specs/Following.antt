@@ -1,17 +1,14 @@
 -- How a timeline follows a journal, entry by entry (own).
 use Rattle.std.specs.Prelude.{◌≡◌, ℕ, suc, List, [], ◌∷◌, ◌++◌, length, Option, Some}
-use Rattle.std.specs.Option.{option_map}
 use Rattle.rv_shape.specs.Shape.{Shape}
 use Rattle.rv_event.specs.Past.{clock}
 use Rattle.rv_event.specs.Past as past
-use Rattle.rv_event.specs.declared.entry.Body.{Body}
 use Rattle.rv_event.specs.declared.entry.Entry.{Entry}
 use Rattle.rv_history.specs.History.{History}
 use Rattle.rv_refused.specs.Filters.{FilterText}
 use Rattle.rv_lasting.specs.Calls.{KeepsCalls}
-use Rattle.rv_lasting.specs.Lasting.{delay_by, since, waiting_by, woken_by}
+use Rattle.rv_lasting.specs.Lasting.{delay_by, waiting_by, woken_by}
 use Rattle.rv_lasting.specs.Tracks.{Tracked, ended}
-use Rattle.rv_lasting.specs.declared.track.Begun.{Begun}
 use Rattle.rv_waits.specs.Following.{begun_of, turned}
 use Rattle.rv_waits.specs.Lasting.{Waits, Bodies, Delays, freed_by, if_taken, tracked}
 use Rattle.rv_picture.specs.declared.bar.Bar.{Bar}
