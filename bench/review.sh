@@ -1,6 +1,6 @@
 #!/usr/bin/env bash
 # Has a built ravenreview say which entries of the examples' journals were refused, who waited, who may call what, how often lines
-# decided, and what another list would have decided and when what happened, and compares that with bench/review:
+# decided, what another list would have decided, and who was at what when, and compares that with bench/review:
 #   bench/review.sh RAVENREVIEW RAVENHOST
 # Each example is played by RAVENHOST; its units, and what sets up its host, are given to RAVENREVIEW beside the journal, once in a file
 # and once in a section. Then come filters, a journal that isn't legal, and each status. Ends with 1 where anything differs.
@@ -39,6 +39,24 @@ play() {
     { cat "$work/units"; echo @journal; cat "$work/journal"; } >"$work/whole"
 }
 
+# Compares a timeline with the rows that are drawn from the journal's text alone.
+rows() {
+    "$here/bench/review/rows_of.py" "$work/journal" "$work/said" "$@" >"$work/rows" || differs "rows of the timeline: $(head -n 3 "$work/rows")"
+}
+
+xml() {
+    python3 -c 'import sys, xml.dom.minidom; xml.dom.minidom.parse(sys.argv[1])' "$work/said" || differs "the picture isn't well-formed XML"
+}
+
+# Has the timeline of what was played last drawn in both forms, and compares them so.
+drawn() {
+    "$review" timeline --journal "$work/journal" <"$work/units" >"$work/said" || differs "the timeline: status $?"
+    rows "$@"
+    "$review" timeline --svg --journal "$work/journal" <"$work/units" >"$work/said" || differs "the picture: status $?"
+    xml
+    rows "$@"
+}
+
 for script in "$here"/examples/*.raven; do
     name=$(basename "$script" .raven)
     for asked in refusals waits access hits; do
@@ -48,7 +66,13 @@ for script in "$here"/examples/*.raven; do
         expect 0 "$said" --journal "$work/journal" <"$work/units"
         expect 0 "$said" <"$work/whole"
     done
+    [ ! -f "$here/bench/review/$name" ] || drawn
 done
+play "$here/examples/interrupt.raven"
+drawn Int_3=Press.Guard Int_5=Press.Bell
+cat "$here/examples/new/plant.raven" "$here/examples/new/steps.raven" >"$work/plant.raven"
+play "$work/plant.raven"
+drawn
 
 play "$here/bench/review/waiting.raven"
 asked=waits
@@ -70,6 +94,23 @@ expect 2 nothing 27 --journal "$work/journal" <"$work/units"
 expect 2 nothing --journal "$work/journal" <"$work/units"
 expect 2 nothing ten --journal "$work/journal" <"$work/units"
 expect 1 waits_not_legal 7 --journal "$work/wrong" <"$work/units"
+
+# Who was at what when, as letters and as a picture.
+asked=timeline
+drawn
+expect 0 timeline --journal "$work/journal" <"$work/units"
+expect 0 timeline --text <"$work/whole"
+expect 0 timeline_by --by nav.aux --from 9 --to 17 --journal "$work/journal" <"$work/units"
+expect 0 timeline_of --of plant.valve --to 4 --journal "$work/journal" <"$work/units"
+expect 0 timeline_behind --from 27 --journal "$work/journal" <"$work/units"
+expect 0 timeline.svg --svg --journal "$work/journal" <"$work/units"
+expect 0 timeline_low.svg --svg --by nav.low --from 17 --journal "$work/journal" <"$work/units"
+xml
+expect 0 timeline_behind.svg --svg --from 27 --journal "$work/journal" <"$work/units"
+xml
+expect 2 nothing --text --svg --journal "$work/journal" <"$work/units"
+expect 2 nothing --from ten --journal "$work/journal" <"$work/units"
+expect 1 waits_not_legal --svg --journal "$work/wrong" <"$work/units"
 
 play "$here/bench/review/granting.raven"
 asked=access

@@ -6,6 +6,7 @@ mod listing;
 mod one_entry;
 mod reviewing;
 mod status;
+mod wishing;
 
 use line::{asked, words_of};
 use reviewing::answer;

@@ -3,12 +3,13 @@
 use crate::listing::list_of;
 use crate::one_entry::tell;
 use crate::status::Stop;
+use crate::wishing::wish_of;
 use rv_access::AccessList;
 use rv_fault::Failure;
 use rv_inquiry::inquiry::{From, Inquiry, Question};
 use rv_review::{
     Audited, Filter, Nobody, Since, hits, hits_file, refusals, refusals_file, rights, rights_file,
-    state, state_file, waits, waits_file, what_if, what_if_file,
+    state, state_file, timeline, timeline_file, waits, waits_file, what_if, what_if_file,
 };
 use std::alloc::Global;
 use std::fs;
@@ -86,6 +87,7 @@ fn said<I: Read, W: Write>(
         Question::Hits => hits(alloc, reader, writer, filter),
         Question::WhatIf => what_if(alloc, reader, writer, filter, or_empty(alloc, list)),
         Question::State => state(alloc, reader, writer, entry_of(asked)),
+        Question::Timeline => timeline(alloc, reader, writer, wish_of(asked, filter)),
     }
 }
 
@@ -121,6 +123,10 @@ fn said_of_file<I: Read, J: Read, W: Write>(
         Question::State => {
             let entry = entry_of(asked);
             state_file(alloc, reader, journal, torn, watch, writer, entry)
+        }
+        Question::Timeline => {
+            let wish = wish_of(asked, filter);
+            timeline_file(alloc, reader, journal, torn, watch, writer, wish)
         }
     }
 }

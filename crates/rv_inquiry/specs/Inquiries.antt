@@ -1,6 +1,7 @@
 -- The command line of `ravenreview` (own): each subcommand may be given `--journal FILE` and, with it, `--torn`; `refusals`, `waits`,
--- `hits` and `whatif` also `--since WHEN`, these and `access` `--by CALLER` and `--of CALLED`, `who` the word CALLED, and `access`
--- `--against LIST`. `state` must be given a number N, and `whatif` a LIST. What words come to is what `clap` says of this command.
+-- `hits` and `whatif` also `--since WHEN`, these and `access` and `timeline` `--by CALLER` and `--of CALLED`, `who` the word CALLED,
+-- `access` `--against LIST`, and `timeline` `--from N`, `--to N` and `--text` or `--svg`. `state` must be given a number N, and `whatif` a
+-- LIST. What words come to is what `clap` says of this command.
 use Rattle.std.specs.Prelude.{◌≡◌, ℕ, Bool, true, false, ◌==◌, nat_lt, if◌then◌else◌, List, Option, Some, None, codes, option_map, length}
 use Rattle.std.specs.List.{after_first, before_first, position_or_len}
 use Rattle.std.specs.Borrow.{Bor}
@@ -48,6 +49,14 @@ with_filter app = with_rule (with_rule app (value_rule (codes "by"))) (value_rul
 abbrev pub filtered_app : Text → App
 filtered_app name = with_filter (with_rule (with_journal (new_app name)) (value_rule (codes "since")))
 
+-- the first and the last entry of what is shown
+abbrev pub with_span : App → App
+with_span app = with_rule (with_rule app (value_rule (codes "from"))) (value_rule (codes "to"))
+
+-- and its form
+abbrev pub with_forms : App → App
+with_forms app = with_rule (with_rule app (flag_rule (codes "text"))) (flag_rule (codes "svg"))
+
 abbrev pub access_app : App
 access_app = with_rule (with_filter (with_journal (new_app (codes "access")))) list_rule
 
@@ -61,6 +70,9 @@ entry_app name = with_rule (with_journal (new_app name)) (needed_rule (codes "en
 abbrev pub what_if_app : App
 what_if_app = with_rule (filtered_app (codes "whatif")) (needed_rule (codes "list"))
 
+abbrev pub timeline_app : App
+timeline_app = with_forms (with_span (with_filter (with_journal (new_app (codes "timeline")))))
+
 -- the name by which each question is asked
 abbrev pub name_of : Question → Text
 name_of Questions.Refusals = codes "refusals"
@@ -70,6 +82,7 @@ name_of Questions.Who = codes "who"
 name_of Questions.State = codes "state"
 name_of Questions.Hits = codes "hits"
 name_of Questions.WhatIf = codes "whatif"
+name_of Questions.Timeline = codes "timeline"
 
 -- the program, of which one subcommand must be named
 abbrev pub versioned : App
@@ -88,7 +101,7 @@ abbrev pub of_lines : App
 of_lines = with_subcommand (with_subcommand of_rights (filtered_app (codes "hits")).top) what_if_app.top
 
 abbrev pub program : App
-program = with_subcommand of_lines (entry_app (codes "state")).top
+program = with_subcommand (with_subcommand of_lines (entry_app (codes "state")).top) timeline_app.top
 
 -- the text of a flag, as a flag; a subcommand without that flag has it not
 abbrev pub IsFlag : Option Text → Bool → Type 0
@@ -135,6 +148,9 @@ pub record IsGiven (rows : List Row) (asked : Inquiry) : Type 0 where
   pub of : text_in asked.of ≡ first_of (codes "of") rows
   pub entry : number_of (first_of (codes "entry") rows) ≡ Some asked.entry
   pub list : text_in asked.list ≡ first_of (codes "list") rows
+  pub first : number_of (first_of (codes "from") rows) ≡ Some asked.first
+  pub last : number_of (first_of (codes "to") rows) ≡ Some asked.last
+  pub svg : IsFlag (one_of (codes "svg") rows) asked.is_svg
 
 -- a subcommand with what it was given is asked
 abbrev pub IsInquiry : Text × List Row → Inquiry → Type 0

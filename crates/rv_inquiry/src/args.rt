@@ -3,7 +3,7 @@
 ghost use Rattle.std.specs.Prelude.{◌≡◌, false, codes, IfOk};
 ghost use Rattle.clap.specs.Words.{app_of, rule_of, with_rule};
 ghost use Rattle.clap.specs.declared.builder.command.Command.TheViews.{out-Command as fields_of};
-ghost use Rattle.rv_inquiry.specs.Inquiries.{flag_rule, list_rule, needed_rule, value_rule, with_journal, with_filter, word_rule};
+ghost use Rattle.rv_inquiry.specs.Inquiries.{flag_rule, list_rule, needed_rule, value_rule, with_forms, with_journal, with_filter, with_span, word_rule};
 
 use clap::{Arg, ArgAction, Command};
 use std::alloc::{AllocError, Global};
@@ -170,4 +170,40 @@ pub fn against_list<'a>(alloc: Global, command: Command<'a>) -> Result<Command<'
 {
     let list = list_arg(alloc);
     command.arg(list)
+}
+
+/// A subcommand that may be told the first and the last entry to show.
+pub fn spanned<'a>(alloc: Global, command: Command<'a>) -> Result<Command<'a>, AllocError>
+    requires { (fields_of command).has_globals ≡ false }
+    ensures app { IfOk result (λ c. app_of c ≡ with_span (app_of command.entry)) }
+    ensures local { IfOk result (λ c. (fields_of c).has_globals ≡ false) }
+{
+    let first = valued(
+        alloc,
+        "from",
+        "N",
+        "Show nothing before the entry of this number",
+    );
+    let last = valued(
+        alloc,
+        "to",
+        "N",
+        "Show nothing behind the entry of this number",
+    );
+    command.arg(first)?.arg(last)
+}
+
+/// A subcommand that may be told what form its picture has.
+pub fn drawn<'a>(alloc: Global, command: Command<'a>) -> Result<Command<'a>, AllocError>
+    requires { (fields_of command).has_globals ≡ false }
+    ensures app { IfOk result (λ c. app_of c ≡ with_forms (app_of command.entry)) }
+    ensures local { IfOk result (λ c. (fields_of c).has_globals ≡ false) }
+{
+    let text = flag(alloc, "text", "Show text for a terminal (the default)");
+    let svg = flag(
+        alloc,
+        "svg",
+        "Show an SVG picture, one file for a browser, with titles on hover",
+    );
+    command.arg(text)?.arg(svg)
 }

@@ -31,6 +31,8 @@ pub enum Question {
     Hits,
     /// What another list would have decided otherwise.
     WhatIf,
+    /// Who held, waited and was refused when.
+    Timeline,
 }
 
 /// What the words of a command line ask.
@@ -52,6 +54,12 @@ pub struct Inquiry<'a> {
     pub entry: Option<u64>,
     /// The name of the file that holds another list: always given with `whatif`; with `access` where the difference is asked for.
     pub list: Option<&'a str>,
+    /// The number of the first entry that a timeline shows, where that is given.
+    pub first: Option<u64>,
+    /// The number of the last entry that a timeline shows, where that is given.
+    pub last: Option<u64>,
+    /// Whether a timeline is an SVG picture, in place of text.
+    pub is_svg: bool,
 }
 
 /// Why the words of a command line ask nothing.
@@ -61,7 +69,7 @@ pub enum Unasked<'a> {
     Usage(Error),
     /// There is no subcommand of this name.
     Unknown,
-    /// A word or a flag is given wrongly: the first of `--torn`, `--since` and N.
+    /// A word or a flag is given wrongly: the first of `--torn`, `--since`, N, `--from`, `--to` and `--text`.
     Misused(Misuse<'a>),
     /// Memory was refused.
     NoMemory,

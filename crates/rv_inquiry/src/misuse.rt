@@ -9,6 +9,10 @@ pub enum Given {
     Since,
     /// The number of an entry.
     Entry,
+    /// The first entry of a timeline.
+    First,
+    /// The last entry of a timeline.
+    Last,
 }
 
 impl Given {
@@ -17,6 +21,8 @@ impl Given {
         match self {
             Given::Since => "--since <WHEN>",
             Given::Entry => "<N>",
+            Given::First => "--from <N>",
+            Given::Last => "--to <N>",
         }
     }
 
@@ -24,7 +30,7 @@ impl Given {
     fn takes(self) -> &'static str {
         match self {
             Given::Since => "entry:N or tick:N",
-            Given::Entry => "the number of an entry",
+            Given::Entry | Given::First | Given::Last => "the number of an entry",
         }
     }
 }
@@ -36,6 +42,8 @@ pub enum Misuse<'a> {
     Word(Given, &'a str),
     /// `--torn` stands without `--journal`.
     TornAlone,
+    /// `--text` stands beside `--svg`.
+    TwoForms,
 }
 
 impl fmt::Display for Misuse<'_> {
@@ -48,6 +56,7 @@ impl fmt::Display for Misuse<'_> {
                 given.takes()
             ),
             Misuse::TornAlone => write!(f, "'--torn' needs '--journal <FILE>'"),
+            Misuse::TwoForms => write!(f, "the argument '--text' cannot be used with '--svg'"),
         }
     }
 }

@@ -27,6 +27,9 @@ fn of_entries(name: &str) -> Option<Question>
     if name == "state" {
         return Some(Question::State);
     }
+    if name == "timeline" {
+        return Some(Question::Timeline);
+    }
     None
 }
 
@@ -60,6 +63,17 @@ fn given_torn<'a>(words: &ArgMatches<'a>) -> Result<bool, Misuse<'a>>
     Ok(takes_torn)
 }
 
+// Whether a timeline is a picture, by what a subcommand was given.
+fn given_svg<'a>(words: &ArgMatches<'a>) -> Result<bool, Misuse<'a>>
+    ensures { IfOk result (λ svg. IsFlag (one_of (codes "svg") (rows_of (found_of words.now))) svg) }
+{
+    let is_svg = words.get_flag("svg");
+    if is_svg && words.get_flag("text") {
+        return Err(Misuse::TwoForms);
+    }
+    Ok(is_svg)
+}
+
 // What is asked by what a subcommand was given.
 fn asked_with<'a>(question: Question, words: &ArgMatches<'a>) -> Result<Inquiry<'a>, Misuse<'a>>
     ensures question { IfOk result (λ asked. asked.question ≡ question) }
@@ -68,6 +82,9 @@ fn asked_with<'a>(question: Question, words: &ArgMatches<'a>) -> Result<Inquiry<
     let takes_torn = given_torn(words)?;
     let since = given_since(words)?;
     let entry = given_number(words, Given::Entry, "entry")?;
+    let first = given_number(words, Given::First, "from")?;
+    let last = given_number(words, Given::Last, "to")?;
+    let is_svg = given_svg(words)?;
     Ok(Inquiry {
         question,
         journal: words.get_str("journal"),
@@ -77,6 +94,9 @@ fn asked_with<'a>(question: Question, words: &ArgMatches<'a>) -> Result<Inquiry<
         of: words.get_str("of"),
         entry,
         list: words.get_str("list"),
+        first,
+        last,
+        is_svg,
     })
 }
 

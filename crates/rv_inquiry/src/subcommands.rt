@@ -3,9 +3,11 @@
 ghost use Rattle.std.specs.Prelude.{◌≡◌, false, codes, IfOk};
 ghost use Rattle.clap.specs.Words.{app_of};
 ghost use Rattle.clap.specs.declared.builder.command.Command.TheViews.{out-Command as fields_of};
-ghost use Rattle.rv_inquiry.specs.Inquiries.{access_app, entry_app, filtered_app, what_if_app, who_app};
+ghost use Rattle.rv_inquiry.specs.Inquiries.{access_app, entry_app, filtered_app, timeline_app, what_if_app, who_app};
 
-use crate::args::{about_entry, about_list, against_list, filtered, named, over_journal, since};
+use crate::args::{
+    about_entry, about_list, against_list, drawn, filtered, named, over_journal, since, spanned,
+};
 use clap::Command;
 use std::alloc::{AllocError, Global};
 
@@ -133,4 +135,20 @@ pub fn what_if<'a>(alloc: Global) -> Result<Command<'a>, AllocError>
         "Example: ravenhost whatif LIST --journal JOURNAL < UNITS",
     )?;
     about_list(alloc, command)
+}
+
+/// The subcommand `timeline`.
+pub fn timeline<'a>(alloc: Global) -> Result<Command<'a>, AllocError>
+    ensures app { IfOk result (λ c. app_of c ≡ timeline_app) }
+    ensures local { IfOk result (λ c. (fields_of c).has_globals ≡ false) }
+{
+    let command = Command::new(alloc, "timeline")
+        .about("Show who held, waited, was delayed and was refused when, entry by entry")
+        .after_help(
+            "Example: ravenhost timeline --svg --from 10 --to 90 --journal JOURNAL < UNITS",
+        );
+    let command = over_journal(alloc, command)?;
+    let command = filtered(alloc, command)?;
+    let command = spanned(alloc, command)?;
+    drawn(alloc, command)
 }

@@ -7,6 +7,7 @@
 
 mod changed;
 mod decided;
+mod drawn;
 mod granted;
 mod refused;
 mod review;
@@ -16,10 +17,13 @@ mod waited;
 
 pub use changed::{what_if, what_if_file};
 pub use decided::{hits, hits_file};
+pub use drawn::{timeline, timeline_file};
 pub use granted::{rights, rights_file};
 pub use refused::{refusals, refusals_file};
 pub use rv_audit::observer::{Nobody, Watch};
+pub use rv_picture::bar::Frame;
 pub use rv_refused::{Filter, Since};
+pub use rv_timeline::timeline::{Form, Wish};
 pub use rv_verdict::Audited;
 pub use stated::{state, state_file};
 pub use waited::{waits, waits_file};

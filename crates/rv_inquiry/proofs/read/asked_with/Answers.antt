@@ -14,4 +14,7 @@ returns-clause-given c =
       of = c.get_str-3.ensures ∙ first_value-rows given (codes "of");
       entry = c.in_ok-entry.ensures;
       list = c.get_str-4.ensures ∙ first_value-rows given (codes "list");
+      first = c.in_ok-first.ensures;
+      last = c.in_ok-last.ensures;
+      svg = c.in_ok-is_svg.ensures;
     }
