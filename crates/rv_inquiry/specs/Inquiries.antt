@@ -1,6 +1,7 @@
 -- The command line of `ravenreview` (own): each subcommand may be given `--journal FILE` and, with it, `--torn`; `refusals`, `waits`,
 -- `hits` and `whatif` also `--since WHEN`, these and `access` `--by CALLER` and `--of CALLED`, `who` the word CALLED, and `access`
--- `--against LIST`. `state` must be given a number N, and `whatif` a LIST. What words come to is what `clap` says of this command.
+-- `--against LIST`. `state` and `explain` must be given a number N, and `whatif` a LIST. What words come to is what `clap` says
+-- of this command.
 use Rattle.std.specs.Prelude.{◌≡◌, ℕ, Bool, true, false, ◌==◌, nat_lt, if◌then◌else◌, List, Option, Some, None, codes, option_map, length}
 use Rattle.std.specs.List.{after_first, before_first, position_or_len}
 use Rattle.std.specs.Borrow.{Bor}
@@ -68,6 +69,7 @@ name_of Questions.Waits = codes "waits"
 name_of Questions.Access = codes "access"
 name_of Questions.Who = codes "who"
 name_of Questions.State = codes "state"
+name_of Questions.Explain = codes "explain"
 name_of Questions.Hits = codes "hits"
 name_of Questions.WhatIf = codes "whatif"
 
@@ -88,7 +90,7 @@ abbrev pub of_lines : App
 of_lines = with_subcommand (with_subcommand of_rights (filtered_app (codes "hits")).top) what_if_app.top
 
 abbrev pub program : App
-program = with_subcommand of_lines (entry_app (codes "state")).top
+program = with_subcommand (with_subcommand of_lines (entry_app (codes "state")).top) (entry_app (codes "explain")).top
 
 -- the text of a flag, as a flag; a subcommand without that flag has it not
 abbrev pub IsFlag : Option Text → Bool → Type 0

@@ -5,7 +5,7 @@ ghost use Rattle.clap.specs.Words.{app_of, with_subcommand};
 ghost use Rattle.clap.specs.declared.builder.command.Command.TheViews.{out-Command as fields_of};
 ghost use Rattle.rv_inquiry.specs.Inquiries.{alone, of_entries, of_lines, of_rights, program};
 
-use crate::subcommands::{access, hits, refusals, state, waits, what_if, who};
+use crate::subcommands::{access, explain, hits, refusals, state, waits, what_if, who};
 use clap::Command;
 use std::alloc::{AllocError, Global};
 
@@ -68,5 +68,6 @@ pub fn command<'a>(alloc: Global) -> Result<Command<'a>, AllocError>
     ensures { IfOk result (λ c. app_of c ≡ program) }
 {
     let command = of_lines(alloc)?;
-    with_added(command, state(alloc))
+    let command = with_added(command, state(alloc))?;
+    with_added(command, explain(alloc))
 }

@@ -1,0 +1,3 @@
+mod Bodies
+mod Looking
+pub mod Tying
