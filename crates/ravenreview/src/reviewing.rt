@@ -7,8 +7,9 @@ use rv_access::AccessList;
 use rv_fault::Failure;
 use rv_inquiry::inquiry::{From, Inquiry, Question};
 use rv_review::{
-    Audited, Filter, Nobody, Since, explain, explain_file, hits, hits_file, refusals, refusals_file,
-    rights, rights_file, state, state_file, waits, waits_file, what_if, what_if_file,
+    Audited, Filter, Nobody, Since, explain, explain_file, hits, hits_file, refusals,
+    refusals_file, rights, rights_file, state, state_file, waits, waits_file, what_if,
+    what_if_file,
 };
 use std::alloc::Global;
 use std::fs;

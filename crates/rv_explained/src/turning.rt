@@ -38,11 +38,7 @@ fn put_body_words(
 }
 
 /// Puts the body that the next entry ends, if it ends one. Err where memory was refused.
-pub fn put_ended_body(
-    text: &mut String,
-    host: &Host,
-    it: Option<Begun>,
-) -> Result<(), AllocError>
+pub fn put_ended_body(text: &mut String, host: &Host, it: Option<Begun>) -> Result<(), AllocError>
     ensures { OnOk result (string_bytes text.new ≡ string_bytes text.old ++ ended_body host.now it) }
 {
     let Some(it) = it else {
@@ -50,9 +46,7 @@ pub fn put_ended_body(
     };
     put_body_words(
         text,
-        &host
-            .catalogue()
-            .callee(it.call.object, it.call.operation),
+        &host.catalogue().callee(it.call.object, it.call.operation),
         it.number,
         host.clock().saturating_sub(it.tick),
     )
@@ -144,12 +138,7 @@ pub fn put_ended_wait(
 }
 
 // Puts at which tick something ended, and how long after its begin.
-fn put_when(
-    text: &mut String,
-    tick: u64,
-    ticks: u64,
-    section: &str,
-) -> Result<(), AllocError>
+fn put_when(text: &mut String, tick: u64, ticks: u64, section: &str) -> Result<(), AllocError>
     ensures { OnOk result (string_bytes text.new ≡ string_bytes text.old ++ (codes " at tick " ++ (decimal tick
         ++ ((codes ", after " ++ (decimal ticks ++ codes " ticks")) ++ (section.now ++ (codes ":" ++ 10 ∷ [])))))) }
 {
@@ -157,12 +146,7 @@ fn put_when(
 }
 
 // The same of what began.
-fn put_ended_at(
-    text: &mut String,
-    host: &Host,
-    it: &Begun,
-    section: &str,
-) -> Result<(), AllocError>
+fn put_ended_at(text: &mut String, host: &Host, it: &Begun, section: &str) -> Result<(), AllocError>
     ensures { OnOk result (string_bytes text.new ≡ string_bytes text.old ++ when_text host.now it.now section.now) }
 {
     let tick = host.clock();
