@@ -99,9 +99,9 @@ expect 0 who plant.valve.set --journal "$work/journal" <"$work/units"
 # Each rule by which an entry of the examples is refused: the line that decided is the one that `refusals` names.
 for script in "$here"/examples/*.raven "$here"/bench/review/*.raven; do
     name=$(basename "$script" .raven)
+    [ -f "$here/bench/review/explain_refused_$name" ] || continue
     play "$script"
     "$review" refusals --journal "$work/journal" <"$work/units" >"$work/refused" 2>/dev/null
-    [ -s "$work/refused" ] || continue
     while read -r number line; do
         "$review" explain "$number" --journal "$work/journal" <"$work/units" >"$work/one" || differs "explain $number of $name"
         case $line in *"-> not granted: "*)
@@ -112,6 +112,14 @@ for script in "$here"/examples/*.raven "$here"/bench/review/*.raven; do
     cmp -s "$work/said" "$here/bench/review/explain_refused_$name" ||
         differs "explain_refused_$name: $(diff "$work/said" "$here/bench/review/explain_refused_$name" | head -n 3)"
 done
+
+# The plant of the examples: a call that waits and is handed over, the end that does that, a call that still waits, and one that is refused.
+cat "$here/examples/new/plant.raven" "$here/examples/new/steps.raven" >"$work/plant.raven"
+play "$work/plant.raven"
+for number in 5 18 22 26; do
+    "$review" explain "$number" --journal "$work/journal" <"$work/units" || differs "explain $number of the plant"
+done >"$work/said"
+cmp -s "$work/said" "$here/bench/review/explain_plant" || differs "explain_plant: $(diff "$work/said" "$here/bench/review/explain_plant" | head -n 3)"
 
 play "$here/examples/window.raven"
 asked=whatif
