@@ -1,3 +1,4 @@
-mod Bodies
+pub mod Appending
 mod Looking
 pub mod Tying
+mod UnderWay

@@ -29,8 +29,7 @@ use Rattle.rv_refused.specs.Looking.{WillHold}
 use Rattle.rv_lasting.specs.Tracks.{ended}
 use Rattle.rv_lasting.specs.declared.track.Begun.{Begun}
 use Rattle.rv_waits.specs.Lasting.{Waits, Bodies, end_of, freed_by, lasting}
-use Rattle.rv_state.specs.States.{no_entry}
-use Rattle.rv_explained.specs.Explanations.{at_entry, explanation, is_entry, later, later_body, later_wait, said_in, said_of, says_of, still, still_by, tick_line, why}
+use Rattle.rv_explained.specs.Explanations.{at_entry, explanation, is_entry, later, later_body, later_wait, no_entry, said_in, said_of, says_of, still, still_by, tick_line, why_by}
 use Rattle.rv_explained.specs.Following.{EndsAre, Follows, KeepsTies, Looks, LooksAtMark, NotesTies, Puts, PutsAsked, PutsLater}
 use Rattle.rv_explained.proofs.Tying.{ties_listed, ties_loaded}
 use Rattle.rv_explained.specs.declared.explained.Explained.{Explained}
@@ -52,13 +51,17 @@ line_is : (h : History) (shapes : List Shape) (number : ℕ) (entry : Entry) (te
 line_is h shapes number entry text text_is names number_is =
     text_is ∙ ap (λ (ss : List Shape). line_at ss number entry) names ∙ ap (λ (n : ℕ). line_at h.shapes n entry) number_is
 
-pub asked_put : (old new : Explained) (h : History) (shapes : List Shape) (number : ℕ) (entry : Entry) (text : List ℕ) (ends : Ends) → (number == old.entry) ≡ true → shapes ≡ h.shapes → text ≡ line_at shapes number entry → EndsAre old.ties h entry ends →
-    PutsAsked old new h entry text ends → new ≡ record old { text = new.text } → Puts old new h number entry [] []
-asked_put old new h shapes number entry text ends same names text_is are puts rest = record {
+pub asked_put : (old new : Explained) (h : History) (shapes : List Shape) (number a : ℕ) (r : Request) (w : Recorded) (text : List ℕ) (ends : Ends) → (number == old.entry) ≡ true → shapes ≡ h.shapes → text ≡ line_at shapes number (Asked a r w) →
+    EndsAre old.ties h (Asked a r w) ends → PutsAsked old new h a r w text ends → new ≡ record old { text = new.text } → Puts old new h number (Asked a r w) [] []
+asked_put old new h shapes number a r w text ends same names text_is are puts rest = record {
   text = λ keeps number_is.
-      puts keeps are
-      ∙ ap (λ (t : List ℕ). string_bytes old.text ++ (t ++ (tick_line h ++ why h entry))) (line_is h shapes number entry text text_is names number_is)
-      ∙ sym (ap (λ (b : Bool). string_bytes old.text ++ (if b then at_entry h entry [] [] else later old.entry h entry (line_at h.shapes (suc (length h.past)) entry))) (is_same old.entry number (suc (length h.past)) same number_is));
+      let e : Entry = Asked a r w in
+      let at : List ℕ = line_at h.shapes (suc (length h.past)) e in
+      puts keeps
+      ∙ ap (λ (t : List ℕ). string_bytes old.text ++ (t ++ (tick_line h ++ why_by h a r w ends.body ends.wait))) (line_is h shapes number e text text_is names number_is)
+      ∙ ap (λ (it : Option Begun). string_bytes old.text ++ (at ++ (tick_line h ++ why_by h a r w it ends.wait))) (are.body ∙ ap (λ (xs : List Begun). ended (past.ended e) xs) keeps.bodies)
+      ∙ ap (λ (it : Option Begun). string_bytes old.text ++ (at ++ (tick_line h ++ why_by h a r w (end_of Bodies h.shapes h.past e) it))) (are.wait ∙ ap (λ (xs : List Begun). ended (freed_by h.past e) xs) keeps.waits)
+      ∙ sym (ap (λ (b : Bool). string_bytes old.text ++ (if b then at_entry h e [] [] else later old.entry h e at)) (is_same old.entry number (suc (length h.past)) same number_is));
   rest = rest;
 }
 

@@ -66,7 +66,7 @@ ties_loaded it h unit legal keeps = record {
   calls = keeps.calls;
   waits = keeps.waits ∙ sym (ap (λ (ss : List Shape). lasting Waits ss h.past) (front_is h.shapes unit));
   bodies = keeps.bodies ∙ sym (ap (λ (ss : List Shape). lasting Bodies ss h.past) (front_is h.shapes unit));
-  drops = record { entries = λ actor. keeps.drops.entries actor; lists = λ actor. keeps.drops.lists actor; lines = λ actor. keeps.drops.lines actor };
+  drops = record { numbers = λ actor. keeps.drops.numbers actor; since = λ actor. keeps.drops.since actor; lines = λ actor. keeps.drops.lines actor };
   list_entry = keeps.list_entry;
 }
 
@@ -77,8 +77,8 @@ ties_listed it h number list number_is keeps = record {
   waits = keeps.waits;
   bodies = keeps.bodies;
   drops = record {
-    entries = λ actor. keeps.drops.entries actor;
-    lists = λ actor. keeps.drops.lists actor;
+    numbers = λ actor. keeps.drops.numbers actor;
+    since = λ actor. keeps.drops.since actor;
     lines = λ actor. keeps.drops.lines actor ∙ sym (ap (λ (ls : List (List Words)). dropping_words actor h.past ls) (front_is h.lists list));
   };
   list_entry = number_is;

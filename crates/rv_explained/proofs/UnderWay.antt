@@ -1,6 +1,6 @@
 -- The bodies that last are those that are under way.
 use Rattle.std.proofs.Common.{◌≡◌, ℕ, Bool, true, false, List, [], ◌∷◌, ◌++◌, Some, None, Option, map, refl, sym, ap, ◌∙◌, if◌then◌else◌}
-use Rattle.std.specs.Prelude.{◌==◌}
+use Rattle.std.specs.Prelude.{◌==◌, max}
 use Rattle.std.specs.List.{filter}
 use Rattle.rv_access.specs.Words.{Words}
 use Rattle.rv_prio.specs.Priority.{greatest}
@@ -22,6 +22,7 @@ use Rattle.rv_history.proofs.Loaded.{way_stays}
 use Rattle.rv_lasting.specs.Tracks as Tracks
 use Rattle.rv_lasting.specs.declared.track.Begun.{Begun}
 use Rattle.rv_waits.specs.Lasting.{Bodies, begun_at, lasting}
+use Rattle.rv_explained.specs.Explanations.{priority_by}
 
 abbrev pub calls_in : List Begun → List Body
 calls_in begun = map (λ it. it.call) begun
@@ -64,12 +65,24 @@ under_way_in limits (ListChange ∷ before) shapes lists legal = under_way_in li
 pub are_under_way : (h : History) → Legal h → calls_in (lasting Bodies h.shapes h.past) ≡ past.under_way h.shapes h.past
 are_under_way h legal = under_way_in h.limits h.past h.shapes h.lists legal
 
-abbrev priority_by : List Shape → ℕ → ℕ → List Body → ℕ
-priority_by shapes base actor bodies = greatest base (map (λ body. ceiling shapes body.object) (filter (λ body. body.actor == actor) bodies))
+-- the active priority by the calls of bodies
+abbrev greatest_of : List Shape → ℕ → ℕ → List Body → ℕ
+greatest_of shapes base actor bodies = greatest base (map (λ body. ceiling shapes body.object) (filter (λ body. body.actor == actor) bodies))
+
+one_more : (shapes : List Shape) (base actor rest : ℕ) (call : Body) (bodies : List Body) (b : Bool) → rest ≡ greatest_of shapes base actor bodies →
+    (if b then max (ceiling shapes call.object) rest else rest) ≡ greatest base (map (λ body. ceiling shapes body.object) (if b then call ∷ filter (λ body. body.actor == actor) bodies else filter (λ body. body.actor == actor) bodies))
+one_more shapes base actor rest call bodies true e = ap (λ (n : ℕ). max (ceiling shapes call.object) n) e
+one_more shapes base actor rest call bodies false e = e
+
+by_calls : (shapes : List Shape) (base actor : ℕ) (begun : List Begun) → priority_by shapes base actor begun ≡ greatest_of shapes base actor (calls_in begun)
+by_calls shapes base actor [] = refl
+by_calls shapes base actor (it ∷ begun) =
+    one_more shapes base actor (priority_by shapes base actor begun) it.call (calls_in begun) (it.call.actor == actor) (by_calls shapes base actor begun)
 
 pub active_is : (h : History) (shapes : List Shape) (actor base : ℕ) (bodies : List Begun) → Legal h → shapes ≡ h.shapes → base ≡ base_of (who shapes actor) → bodies ≡ lasting Bodies h.shapes h.past →
-    priority_by shapes base actor (calls_in bodies) ≡ active h actor
+    priority_by shapes base actor bodies ≡ active h actor
 active_is h shapes actor base bodies legal names base_is bodies_are =
-    ap (λ (ss : List Shape). priority_by ss base actor (calls_in bodies)) names
-    ∙ ap (λ (n : ℕ). priority_by h.shapes n actor (calls_in bodies)) (base_is ∙ ap (λ (ss : List Shape). base_of (who ss actor)) names)
-    ∙ ap (λ (bs : List Body). priority_by h.shapes (base_of (who h.shapes actor)) actor bs) (ap calls_in bodies_are ∙ are_under_way h legal)
+    by_calls shapes base actor bodies
+    ∙ ap (λ (ss : List Shape). greatest_of ss base actor (calls_in bodies)) names
+    ∙ ap (λ (n : ℕ). greatest_of h.shapes n actor (calls_in bodies)) (base_is ∙ ap (λ (ss : List Shape). base_of (who ss actor)) names)
+    ∙ ap (λ (bs : List Body). greatest_of h.shapes (base_of (who h.shapes actor)) actor bs) (ap calls_in bodies_are ∙ are_under_way h legal)

@@ -1,5 +1,5 @@
 -- Why an entry was answered as it was, and what became of it, as a review prints it (own).
-use Rattle.std.specs.Prelude.{ℕ, suc, ◌-◌, ◌==◌, nat_lt, nat_le, ◌&&◌, Bool, true, false, if◌then◌else◌, List, [], ◌∷◌, ◌++◌, length, codes, Option, Some, None}
+use Rattle.std.specs.Prelude.{ℕ, suc, ◌-◌, ◌==◌, nat_lt, nat_le, ◌&&◌, Bool, true, false, if◌then◌else◌, List, [], ◌∷◌, ◌++◌, length, max, codes, Option, Some, None}
 use Rattle.std.specs.Fmt.{decimal}
 use Rattle.rv_access.specs.Lines.{line_at}
 use Rattle.rv_access.specs.Text.{list_text}
@@ -32,7 +32,6 @@ use Rattle.rv_asked.specs.Asked.{line_by}
 use Rattle.rv_lasting.specs.Lines.{end_text}
 use Rattle.rv_lasting.specs.declared.track.Begun.{Begun}
 use Rattle.rv_waits.specs.Lasting.{What, Waits, Bodies, end_of, lasting}
-use Rattle.rv_state.specs.States.{actor_names, body_line, no_entry}
 use Rattle.rv_explained.specs.Ties.{drop_entry, drop_list, list_since}
 use Rattle.rv_explained.specs.Words.{force_text, rule_text, since_text}
 
@@ -51,10 +50,13 @@ call_of shapes actor Fire = fired actor (handler shapes (actor - 1))
 call_of shapes actor request = None
 
 -- what the line that decides a call says of it, and for whom it is asked
+abbrev pub decided_line : History → Body → List ℕ
+decided_line h call =
+    codes "rule 1 (own): " ++ (decision_text (line_by (force h) h call) ++ (codes ", for " ++ (subject h call.actor ++ 10 ∷ [])))
+
 abbrev pub decision_line : History → Option Body → List ℕ
 decision_line h None = []
-decision_line h (Some call) =
-    codes "rule 1 (own): " ++ (decision_text (line_by (force h) h call) ++ (codes ", for " ++ (subject h call.actor ++ 10 ∷ [])))
+decision_line h (Some call) = decided_line h call
 
 -- a queued call isn't granted any more, by a line of the list that this entry brought
 abbrev pub denied : List ℕ → ℕ → List ℕ
@@ -62,16 +64,34 @@ denied words number = codes "rule 1 (own): not granted: " ++ (words ++ (codes ",
 
 -- The other rules
 
--- the bodies that an actor is in, the innermost first (9.5.1)
+-- a body that is under way (9.5.1)
+abbrev pub body_line : List Shape → Begun → List ℕ
+body_line shapes it =
+    codes "held by " ++ (actor_text (who shapes it.call.actor) ++ (codes ": " ++ (target_text (target shapes it.call.object it.call.operation)
+    ++ (codes ", since entry " ++ (decimal it.number ++ 10 ∷ [])))))
+
+-- those that an actor is in, the innermost first
 abbrev pub held_text : List Shape → ℕ → List Begun → List ℕ
 held_text shapes actor [] = []
 held_text shapes actor (it ∷ bodies) =
     (if it.call.actor == actor then body_line shapes it else []) ++ held_text shapes actor bodies
 
--- the two priorities (D.3)
+-- the greatest of a base priority and the ceilings of the objects that an actor holds by these bodies (D.3)
+abbrev pub priority_by : List Shape → ℕ → ℕ → List Begun → ℕ
+priority_by shapes base actor [] = base
+priority_by shapes base actor (it ∷ bodies) =
+    if it.call.actor == actor then max (ceiling shapes it.call.object) (priority_by shapes base actor bodies)
+    else priority_by shapes base actor bodies
+
+-- the two priorities
 abbrev pub priorities_line : History → ℕ → ℕ → List ℕ
 priorities_line h actor object =
     codes "active priority " ++ (decimal (active h actor) ++ (codes ", ceiling " ++ (decimal (ceiling h.shapes object) ++ 10 ∷ [])))
+
+-- actors one behind another, with this mark before the first, and commas between them
+abbrev pub actor_names : List Shape → List ℕ → List ℕ → List ℕ
+actor_names shapes mark [] = []
+actor_names shapes mark (actor ∷ actors) = (mark ++ actor_text (who shapes actor)) ++ actor_names shapes (codes ", ") actors
 
 -- who waits in the queue of an object, the one that waits longest first
 abbrev pub queue_line : History → ℕ → List ℕ
@@ -102,10 +122,14 @@ dropped_line actor past lists =
     denied (dropping_words actor past lists) (drop_list actor past)
     ++ (codes ", when entry " ++ (decimal (drop_entry actor past) ++ (codes " dropped its call" ++ 10 ∷ [])))
 
+-- a request breaks a rule
+abbrev pub broken_text : History → ℕ → Request → Rule → List ℕ
+broken_text h actor request rule = broken_rule rule ++ against h actor (aim h.shapes actor request).0 rule
+
 -- why a request was refused
 abbrev pub refused_text : History → ℕ → Request → Rule → List ℕ
 refused_text h actor Resume rule = dropped_line actor h.past h.lists
-refused_text h actor request rule = broken_rule rule ++ against h actor (aim h.shapes actor request).0 rule
+refused_text h actor request rule = broken_text h actor request rule
 
 -- What else is answered
 
@@ -125,16 +149,16 @@ reason h actor request word = answer_line word
 
 -- What an entry ends
 
--- so long ago, since what began
-abbrev pub after_text : History → Begun → List ℕ
-after_text h it = codes ", after " ++ (decimal (clock h.past - it.tick) ++ codes " ticks")
+-- so long ago, since what began; and then
+abbrev pub after_text : History → Begun → List ℕ → List ℕ
+after_text h it more = codes ", after " ++ (decimal (clock h.past - it.tick) ++ (codes " ticks" ++ more))
 
 -- the body that it ends (9.5.1)
 abbrev pub ended_body : History → Option Begun → List ℕ
 ended_body h None = []
 ended_body h (Some it) =
     codes "it ends the body of " ++ (target_text (target h.shapes it.call.object it.call.operation)
-    ++ (codes " that began in entry " ++ (decimal it.number ++ (after_text h it ++ (codes " (9.5.1)" ++ 10 ∷ [])))))
+    ++ (codes " that began in entry " ++ (decimal it.number ++ after_text h it (codes " (9.5.1)" ++ 10 ∷ []))))
 
 -- how it ends a wait, and by which section of the standard
 abbrev pub freeing : Next → List ℕ
@@ -152,22 +176,31 @@ abbrev pub dropping_line : History → Next → List ℕ
 dropping_line h (Dropped actor line) = denied (line_words (line_at (force h) line)) (list_since h.past) ++ 10 ∷ []
 dropping_line h next = []
 
--- the wait that it ends
+-- whose wait it ends
+abbrev pub freed_line : History → Next → Begun → List ℕ
+freed_line h next it =
+    freeing next ++ (actor_text (who h.shapes it.call.actor) ++ (codes ", who called in entry " ++ (decimal it.number
+    ++ after_text h it (freeing_section next ++ 10 ∷ []))))
+
 abbrev pub ended_wait : History → Next → Option Begun → List ℕ
 ended_wait h next None = []
-ended_wait h next (Some it) =
-    (freeing next ++ (actor_text (who h.shapes it.call.actor) ++ (codes ", who called in entry " ++ (decimal it.number
-    ++ (after_text h it ++ (freeing_section next ++ 10 ∷ [])))))) ++ dropping_line h next
+ended_wait h next (Some it) = freed_line h next it ++ dropping_line h next
 
-abbrev pub ends_text : History → Entry → List ℕ
-ends_text h entry =
-    ended_body h (end_of Bodies h.shapes h.past entry) ++ ended_wait h (next_of entry) (end_of Waits h.shapes h.past entry)
+-- what it ends, where that is this body and this wait
+abbrev pub ends_by : History → Next → Option Begun → Option Begun → List ℕ
+ends_by h next body wait = ended_body h body ++ ended_wait h next wait
 
 -- The entry that is asked about, behind the history before it
 
--- why it is there: a request by its rules
+-- why a request was answered so, where it ends this body and this wait
+abbrev pub why_by : History → ℕ → Request → Recorded → Option Begun → Option Begun → List ℕ
+why_by h actor request word body wait =
+    decision_line h (call_of h.shapes actor request)
+    ++ (reason h actor request word ++ ends_by h (next_of (Asked actor request word)) body wait)
+
 abbrev pub why : History → Entry → List ℕ
-why h (Asked actor request word) = decision_line h (call_of h.shapes actor request) ++ (reason h actor request word ++ ends_text h (Asked actor request word))
+why h (Asked actor request word) =
+    why_by h actor request word (end_of Bodies h.shapes h.past (Asked actor request word)) (end_of Waits h.shapes h.past (Asked actor request word))
 why h entry = []
 
 abbrev pub at_entry : History → Entry → List ℕ → List ℕ → List ℕ
@@ -177,7 +210,7 @@ at_entry h entry unit list = entry_line h.shapes (suc (length h.past)) entry uni
 
 -- when, how long after its begin, and by which section
 abbrev pub when_text : History → Begun → List ℕ → List ℕ
-when_text h it section = codes " at tick " ++ (decimal (clock h.past) ++ (after_text h it ++ (section ++ (codes ":" ++ 10 ∷ []))))
+when_text h it section = codes " at tick " ++ (decimal (clock h.past) ++ after_text h it (section ++ (codes ":" ++ 10 ∷ [])))
 
 -- the entry of this number, whose line this is, ends the wait of the one that is asked about
 abbrev pub later_wait : ℕ → History → ℕ → Next → List ℕ → Option Begun → List ℕ
@@ -187,12 +220,16 @@ later_wait asked h number next line (Some it) =
     then end_text next number ++ (when_text h it (freeing_section next) ++ (line ++ dropping_line h next))
     else []
 
+-- which entry ends the body that another began
+abbrev pub body_end_text : ℕ → List ℕ
+body_end_text number = codes "the body that it began ended in entry " ++ decimal number
+
 -- it ends the body that the one that is asked about began
 abbrev pub later_body : ℕ → History → ℕ → List ℕ → Option Begun → List ℕ
 later_body asked h number line None = []
 later_body asked h number line (Some it) =
     if it.number == asked
-    then codes "the body that it began ended in entry " ++ (decimal number ++ (when_text h it (codes " (9.5.1)") ++ line))
+    then body_end_text number ++ (when_text h it (codes " (9.5.1)") ++ line)
     else []
 
 -- what it ends of that
@@ -241,6 +278,10 @@ still number h = still_by number (lasting Waits h.shapes h.past) (lasting Bodies
 -- there is an entry of a number, among so many
 abbrev pub is_entry : ℕ → ℕ → Bool
 is_entry number entries = nat_lt 0 number && nat_le number entries
+
+-- there is none of a number, where there are so many
+abbrev pub no_entry : ℕ → ℕ → List ℕ
+no_entry number entries = codes "no entry " ++ (decimal number ++ (codes ": the journal has " ++ (decimal entries ++ 10 ∷ [])))
 
 -- the explanation of the entry of a number
 abbrev pub explanation : ℕ → History → List ℕ

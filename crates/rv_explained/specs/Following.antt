@@ -4,6 +4,8 @@ use Rattle.std.specs.Option.{option_map}
 use Rattle.rv_event.specs.Past as past
 use Rattle.rv_event.specs.Text.{entry_line}
 use Rattle.rv_event.specs.declared.entry.Entry.{Entry}
+use Rattle.rv_event.specs.declared.entry.Recorded.{Recorded}
+use Rattle.rv_event.specs.declared.entry.Request.{Request}
 use Rattle.rv_history.specs.History.{History}
 use Rattle.rv_history.specs.Journal.{lists_before}
 use Rattle.rv_lasting.specs.Calls.{KeepsCalls}
@@ -11,7 +13,7 @@ use Rattle.rv_lasting.specs.Lasting.{since, waiting_by}
 use Rattle.rv_lasting.specs.Tracks.{closed, ended, opened}
 use Rattle.rv_asked.specs.Holding.{Keeps}
 use Rattle.rv_waits.specs.Lasting.{Waits, Bodies, freed_by, lasting}
-use Rattle.rv_explained.specs.Explanations.{later_body, later_wait, said_of, says_of, tick_line, why}
+use Rattle.rv_explained.specs.Explanations.{later_body, later_wait, said_of, says_of, tick_line, why_by}
 use Rattle.rv_explained.specs.Ties.{KeepsDrops, list_since}
 use Rattle.rv_explained.specs.declared.explained.Explained.{Explained}
 use Rattle.rv_explained.specs.declared.ties.Ends.{Ends}
@@ -63,11 +65,11 @@ pub record Follows (begun it : Explained) (h : History) : Type 0 where
   pub ties : KeepsTies it.ties h
   pub text : string_bytes it.text ≡ said_of begun.entry h
 
--- the entry that is asked about is put, with this line
-abbrev pub PutsAsked : Explained → Explained → History → Entry → List ℕ → Ends → Type 0
-PutsAsked old new h entry line ends =
-    KeepsTies old.ties h → EndsAre old.ties h entry ends
-    → string_bytes new.text ≡ string_bytes old.text ++ (line ++ (tick_line h ++ why h entry))
+-- the request that is asked about is put with its answer, with this line, where it ends this
+abbrev pub PutsAsked : Explained → Explained → History → ℕ → Request → Recorded → List ℕ → Ends → Type 0
+PutsAsked old new h actor request word line ends =
+    KeepsTies old.ties h
+    → string_bytes new.text ≡ string_bytes old.text ++ (line ++ (tick_line h ++ why_by h actor request word ends.body ends.wait))
 
 -- what a later entry of this number and with this line ends is put
 abbrev pub PutsLater : Explained → Explained → History → ℕ → Entry → List ℕ → Ends → Type 0

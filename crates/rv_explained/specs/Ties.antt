@@ -46,6 +46,6 @@ line_in (Some it) = string_bytes it.line
 
 -- how each actor was last dropped
 pub record KeepsDrops (it : Drops) (past : List Entry) (lists : List (List Words)) : Type 0 where
-  pub entries : (actor : ℕ) → entry_in (get nat_eq it.items actor) ≡ drop_entry actor past
-  pub lists : (actor : ℕ) → list_in (get nat_eq it.items actor) ≡ drop_list actor past
+  pub numbers : (actor : ℕ) → entry_in (get nat_eq it.items actor) ≡ drop_entry actor past
+  pub since : (actor : ℕ) → list_in (get nat_eq it.items actor) ≡ drop_list actor past
   pub lines : (actor : ℕ) → line_in (get nat_eq it.items actor) ≡ dropping_words actor past lists

@@ -1,16 +1,13 @@
 //! The bodies that an actor is in (9.5.1), and its active priority by them (D.3).
 
-ghost use Rattle.std.specs.Prelude.{◌≡◌, ◌==◌, ◌++◌, ◌∷◌, [], OnOk, codes, if◌then◌else◌, map, max, string_bytes};
+ghost use Rattle.std.specs.Prelude.{◌≡◌, ◌==◌, ◌++◌, ◌∷◌, [], OnOk, codes, if◌then◌else◌, max, string_bytes};
 ghost use Rattle.std.specs.Fmt.{decimal};
-ghost use Rattle.std.specs.List.{filter};
-ghost use Rattle.rv_prio.specs.Priority.{greatest};
 ghost use Rattle.rv_shape.specs.Catalogue.{ceiling, who};
 ghost use Rattle.rv_shape.specs.Printed.{actor_text, target_text};
 ghost use Rattle.rv_shape.specs.Readers.{target_of, who_of};
 ghost use Rattle.rv_history.specs.Subject.{active, base_of};
-ghost use Rattle.rv_state.specs.States.{body_line};
 ghost use Rattle.rv_waits.specs.Lasting.{Bodies, lasting};
-ghost use Rattle.rv_explained.specs.Explanations.{held_text, priorities_line};
+ghost use Rattle.rv_explained.specs.Explanations.{body_line, held_text, priorities_line, priority_by};
 
 use rv_host::host::Host;
 use rv_irq::priority;
@@ -29,7 +26,7 @@ fn put_held(
 ) -> Result<(), AllocError>
     ensures { OnOk result (string_bytes text.new ≡ string_bytes text.old
         ++ (codes "held by " ++ (actor_text (who_of who.now) ++ (codes ": " ++ (target_text (target_of callee.now)
-        ++ ((codes ", since entry " ++ decimal number) ++ 10 ∷ [])))))) }
+        ++ (codes ", since entry " ++ (decimal number ++ 10 ∷ []))))))) }
 {
     write!(text, "held by {who}: {callee}, since entry {number}\n")
 }
@@ -115,8 +112,7 @@ fn greater(one: usize, other: usize) -> usize
 
 // The greatest of a base priority and the ceilings of the objects that an actor holds by these bodies.
 fn greatest(catalogue: &Catalogue, base: usize, actor: usize, bodies: &[Begun]) -> usize
-    ensures { result ≡ greatest base (map (λ body. ceiling catalogue.now body.object)
-        (filter (λ body. body.actor == actor) (map (λ it. it.call) bodies.now))) }
+    ensures { result ≡ priority_by catalogue.now base actor bodies.now }
 {
     let [it, bodies @ ..] = bodies else {
         return base;
@@ -137,6 +133,14 @@ fn active(host: &Host, actor: usize, bodies: &[Begun]) -> usize
     greatest(catalogue, base_priority(catalogue, actor), actor, bodies)
 }
 
+// Puts an active priority and a ceiling.
+fn put_two(text: &mut String, active: usize, ceiling: usize) -> Result<(), AllocError>
+    ensures { OnOk result (string_bytes text.new ≡ string_bytes text.old
+        ++ (codes "active priority " ++ (decimal active ++ (codes ", ceiling " ++ (decimal ceiling ++ 10 ∷ []))))) }
+{
+    write!(text, "active priority {active}, ceiling {ceiling}\n")
+}
+
 /// Puts the active priority of an actor, and the ceiling of an object. Err where memory was refused.
 pub fn put_priorities(
     text: &mut String,
@@ -150,5 +154,5 @@ pub fn put_priorities(
 {
     let active = active(host, actor, bodies);
     let ceiling = ceiling(host.catalogue(), object);
-    write!(text, "active priority {active}, ceiling {ceiling}\n")
+    put_two(text, active, ceiling)
 }

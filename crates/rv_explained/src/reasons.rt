@@ -2,18 +2,25 @@
 
 ghost use Rattle.std.specs.Prelude.{◌≡◌, ◌∷◌, ◌++◌, [], OnOk, codes, string_bytes};
 ghost use Rattle.std.specs.Fmt.{decimal};
-ghost use Rattle.rv_event.specs.declared.entry.Entry.TheVariants.{Asked};
-ghost use Rattle.rv_explained.specs.Explanations.{answer_line, ends_text, reason, tick_line, why};
-ghost use Rattle.rv_explained.specs.Following.{EndsAre, KeepsTies};
+ghost use Rattle.rv_explained.specs.Explanations.{answer_line, ends_by, reason, tick_line, why_by};
+ghost use Rattle.rv_explained.specs.Following.{KeepsTies};
 
-use crate::refusals::{call_of, put_deciding, put_refused};
+use crate::refusals::{put_call, put_refused};
 use crate::ties::{Ends, Ties};
 use crate::turning::{put_ended_body, put_ended_wait};
 use crate::words::force_text;
-use rv_event::entry::{EntryRef, Recorded, Request};
+use rv_event::entry::{EntryRef, Next, Recorded, Request};
 use rv_event::one_entry::next_of;
 use rv_host::host::Host;
 use std::alloc::{AllocError, Global};
+
+// Puts the tick, and which list is in force.
+fn put_clock(text: &mut String, tick: u64, force: &str) -> Result<(), AllocError>
+    ensures { OnOk result (string_bytes text.new ≡ string_bytes text.old
+        ++ (codes "tick " ++ (decimal tick ++ (codes ", " ++ (force.now ++ 10 ∷ []))))) }
+{
+    write!(text, "tick {tick}, {force}\n")
+}
 
 /// Puts the clock and the list in force. Err where memory was refused.
 pub fn put_tick(
@@ -25,9 +32,7 @@ pub fn put_tick(
     ensures { OnOk result (KeepsTies ties.now host.now → string_bytes text.new ≡ string_bytes text.old ++ tick_line host.now) }
 {
     let force = force_text(alloc, host.version(), ties.list_entry())?;
-    let force = force.as_str();
-    let tick = host.clock();
-    write!(text, "tick {tick}, {force}\n")
+    put_clock(text, host.clock(), force.as_str())
 }
 
 // What an answer says.
@@ -65,7 +70,23 @@ fn put_reason(
     }
 }
 
-/// Puts why the next entry is there, which ends this. Err where memory was refused.
+// Puts the body and the wait that the next entry ends, where this becomes of a queue by it.
+fn put_ends(
+    alloc: Global,
+    text: &mut String,
+    host: &Host,
+    ties: &Ties,
+    next: Next,
+    ends: &Ends,
+) -> Result<(), AllocError>
+    ensures { OnOk result (KeepsTies ties.now host.now →
+        string_bytes text.new ≡ string_bytes text.old ++ ends_by host.now next ends.now.body ends.now.wait) }
+{
+    put_ended_body(text, host, ends.body)?;
+    put_ended_wait(alloc, text, host, ties, next, ends.wait)
+}
+
+/// Puts why a request was answered so, where it ends this. Err where memory was refused.
 pub fn put_why(
     alloc: Global,
     text: &mut String,
@@ -76,13 +97,11 @@ pub fn put_why(
     word: Recorded,
     ends: &Ends,
 ) -> Result<(), AllocError>
-    ensures { OnOk result (KeepsTies ties.now host.now → EndsAre ties.now host.now (Asked actor request.now word) ends.now →
-        string_bytes text.new ≡ string_bytes text.old ++ why host.now (Asked actor request.now word)) }
+    ensures { OnOk result (KeepsTies ties.now host.now →
+        string_bytes text.new ≡ string_bytes text.old ++ why_by host.now actor request.now word ends.now.body ends.now.wait) }
 {
-    let call = call_of(host.catalogue(), actor, request);
-    put_deciding(alloc, text, host, ties, call)?;
+    put_call(alloc, text, host, ties, actor, request)?;
     put_reason(alloc, text, host, ties, actor, request, word)?;
-    put_ended_body(text, host, ends.body)?;
     let next = next_of(&EntryRef::Asked(actor, request, word));
-    put_ended_wait(alloc, text, host, ties, next, ends.wait)
+    put_ends(alloc, text, host, ties, next, ends)
 }

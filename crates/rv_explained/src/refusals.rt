@@ -1,19 +1,19 @@
 //! Why a request was refused: the line of the list that decides, and the rules (docs/RULES.md).
 
-ghost use Rattle.std.specs.Prelude.{◌≡◌, ◌∷◌, ◌++◌, ◌-◌, ℕ, List, [], IfOk, OnOk, codes, string_bytes};
+ghost use Rattle.std.specs.Prelude.{◌≡◌, ◌∷◌, ◌++◌, ◌-◌, List, [], IfOk, OnOk, codes, string_bytes};
 ghost use Rattle.std.specs.Fmt.{decimal};
 ghost use Rattle.rv_access.specs.Words.{Words};
 ghost use Rattle.rv_event.specs.Past.{fired, waiter};
 ghost use Rattle.rv_event.specs.declared.entry.Entry.{Entry};
-ghost use Rattle.rv_history.specs.Rules.{aim, aim_at};
+ghost use Rattle.rv_history.specs.Rules.{aim};
 ghost use Rattle.rv_shape.specs.Catalogue.{handler};
 ghost use Rattle.rv_shape.specs.Printed.{actor_text};
 ghost use Rattle.rv_shape.specs.Readers.{who_of};
-ghost use Rattle.rv_state.specs.States.{actor_names};
-ghost use Rattle.rv_explained.specs.Explanations.{against, broken_rule, call_of, decision_line, denied, dropped_line, queue_line, refused_text, waiter_line};
+ghost use Rattle.rv_explained.specs.Explanations.{actor_names, against, broken_rule, broken_text, call_of, decided_line, decision_line, denied, dropped_line, held_text, priorities_line, queue_line, refused_text, waiter_line};
+ghost use Rattle.rv_waiting.specs.Queues.{callers};
+ghost use Rattle.rv_waits.specs.Lasting.{Bodies, lasting};
 ghost use Rattle.rv_explained.specs.Following.{KeepsTies};
-ghost use Rattle.rv_explained.specs.Ties.{KeepsDrops, drop_entry};
-ghost use Rattle.rv_explained.specs.Words.{since_text};
+ghost use Rattle.rv_explained.specs.Ties.{KeepsDrops};
 
 use crate::bodies::{put_bodies, put_priorities};
 use crate::drops::Drops;
@@ -64,8 +64,28 @@ fn put_decision(text: &mut String, decision: &str, subject: &str) -> Result<(), 
     write!(text, "rule 1 (own): {decision}, for {subject}\n")
 }
 
-/// Puts what the line of the list in force decides of a call, if there is one. Err where memory was refused.
-pub fn put_deciding(
+// Puts what the line of the list in force decides of this call.
+fn put_decided(
+    alloc: Global,
+    text: &mut String,
+    host: &Host,
+    ties: &Ties,
+    call: &Body,
+) -> Result<(), AllocError>
+    ensures { OnOk result (KeepsTies ties.now host.now → string_bytes text.new ≡ string_bytes text.old ++ decided_line host.now call.now) }
+{
+    let holding = ties.holding();
+    let number = decided_in_force(host, holding, call);
+    let decision = decision_text(alloc, line_in_force(host, number))?;
+    put_decision(
+        text,
+        decision.as_str(),
+        holding.subject(host.catalogue(), call.actor),
+    )
+}
+
+// The same, if there is one.
+fn put_deciding(
     alloc: Global,
     text: &mut String,
     host: &Host,
@@ -74,17 +94,26 @@ pub fn put_deciding(
 ) -> Result<(), AllocError>
     ensures { OnOk result (KeepsTies ties.now host.now → string_bytes text.new ≡ string_bytes text.old ++ decision_line host.now call) }
 {
-    let Some(call) = call else {
-        return Ok(());
-    };
-    let holding = ties.holding();
-    let number = decided_in_force(host, holding, &call);
-    let decision = decision_text(alloc, line_in_force(host, number))?;
-    put_decision(
-        text,
-        decision.as_str(),
-        holding.subject(host.catalogue(), call.actor),
-    )
+    match call {
+        Some(call) => put_decided(alloc, text, host, ties, &call),
+        None => Ok(()),
+    }
+}
+
+/// Puts what the line of the list in force decides of the call that a request makes, if it makes one. Err where memory was refused.
+pub fn put_call(
+    alloc: Global,
+    text: &mut String,
+    host: &Host,
+    ties: &Ties,
+    actor: usize,
+    request: &Request,
+) -> Result<(), AllocError>
+    ensures { OnOk result (KeepsTies ties.now host.now →
+        string_bytes text.new ≡ string_bytes text.old ++ decision_line host.now (call_of host.now.shapes actor request.now)) }
+{
+    let call = call_of(host.catalogue(), actor, request);
+    put_deciding(alloc, text, host, ties, call)
 }
 
 /// That a queued call isn't granted any more, by a line of these words of the list that the entry of this number brought.
@@ -94,6 +123,14 @@ pub fn denied(alloc: Global, words: &str, number: usize) -> Result<String, Alloc
     let since = since_text(alloc, number)?;
     let since = since.as_str();
     format!(in alloc; "rule 1 (own): not granted: {words}, {since}")
+}
+
+// Puts in which entry a call was dropped, behind why.
+fn put_drop(text: &mut String, denied: &str, number: usize) -> Result<(), AllocError>
+    ensures { OnOk result (string_bytes text.new ≡ string_bytes text.old
+        ++ (denied.now ++ (codes ", when entry " ++ (decimal number ++ (codes " dropped its call" ++ 10 ∷ []))))) }
+{
+    write!(text, "{denied}, when entry {number} dropped its call\n")
 }
 
 // Puts by which line the call of a resume was dropped, and in which entry.
@@ -107,9 +144,7 @@ fn put_dropped(
         string_bytes text.new ≡ string_bytes text.old ++ dropped_line actor past lists) }
 {
     let denied = denied(alloc, drops.line(actor), drops.list_entry(actor))?;
-    let denied = denied.as_str();
-    let number = drops.number(actor);
-    write!(text, "{denied}, when entry {number} dropped its call\n")
+    put_drop(text, denied.as_str(), drops.number(actor))
 }
 
 // The object that a request calls, 0 where it calls none.
@@ -138,24 +173,46 @@ fn put_actors(
 ) -> Result<(), AllocError>
     ensures { OnOk result (string_bytes text.new ≡ string_bytes text.old ++ actor_names catalogue.now mark.now actors.now) }
 {
-    let [actor, others @ ..] = actors else {
+    let Some((actor, others)) = actors.split_first() else {
         return Ok(());
     };
     put_actor(text, mark, &catalogue.who(*actor))?;
     put_actors(text, catalogue, ", ", others)
 }
 
-// Puts who waits in the queue of an object.
-fn put_queue(text: &mut String, host: &Host, object: usize) -> Result<(), AllocError>
-    ensures { OnOk result (string_bytes text.new ≡ string_bytes text.old ++ queue_line host.now object) }
+// Ends a line.
+fn put_feed(text: &mut String) -> Result<(), AllocError>
+    ensures { OnOk result (string_bytes text.new ≡ string_bytes text.old ++ 10 ∷ []) }
+{
+    text.push_str("\n")
+}
+
+// Puts who waits in the queue of an object, without the end of the line.
+fn put_callers(text: &mut String, host: &Host, object: usize) -> Result<(), AllocError>
+    ensures { OnOk result (string_bytes text.new ≡ string_bytes text.old
+        ++ actor_names host.now.shapes (codes "in the queue: ") (callers object host.now.past)) }
 {
     put_actors(
         text,
         host.catalogue(),
         "in the queue: ",
         host.callers(object),
-    )?;
-    text.push_str("\n")
+    )
+}
+
+// Puts who waits in the queue of an object.
+fn put_queue(text: &mut String, host: &Host, object: usize) -> Result<(), AllocError>
+    ensures { OnOk result (string_bytes text.new ≡ string_bytes text.old ++ queue_line host.now object) }
+{
+    put_callers(text, host, object)?;
+    put_feed(text)
+}
+
+// Puts a line with the name of an actor behind a mark.
+fn put_named(text: &mut String, mark: &str, who: &Actor<'_>) -> Result<(), AllocError>
+    ensures { OnOk result (string_bytes text.new ≡ string_bytes text.old ++ (mark.now ++ (actor_text (who_of who.now) ++ 10 ∷ []))) }
+{
+    write!(text, "{mark}{who}\n")
 }
 
 // Puts who waits on a suspension object, if somebody does.
@@ -166,11 +223,39 @@ fn put_waiter(
 ) -> Result<(), AllocError>
     ensures { OnOk result (string_bytes text.new ≡ string_bytes text.old ++ waiter_line catalogue.now waiter) }
 {
-    let Some(actor) = waiter else {
-        return Ok(());
-    };
-    put_actor(text, "waiting there: ", &catalogue.who(actor))?;
-    text.push_str("\n")
+    match waiter {
+        Some(actor) => put_named(text, "waiting there: ", &catalogue.who(actor)),
+        None => Ok(()),
+    }
+}
+
+// The same of the object of a number.
+fn put_waiter_on(text: &mut String, host: &Host, object: usize) -> Result<(), AllocError>
+    ensures { OnOk result (string_bytes text.new ≡ string_bytes text.old ++ waiter_line host.now.shapes (waiter object host.now.past)) }
+{
+    put_waiter(text, host.catalogue(), host.waiter(object))
+}
+
+// Puts the bodies that an actor is in.
+fn put_held(text: &mut String, host: &Host, ties: &Ties, actor: usize) -> Result<(), AllocError>
+    ensures { OnOk result (KeepsTies ties.now host.now →
+        string_bytes text.new ≡ string_bytes text.old ++ held_text host.now.shapes actor (lasting Bodies host.now.shapes host.now.past)) }
+{
+    put_bodies(text, host.catalogue(), actor, ties.bodies())
+}
+
+// Puts the two priorities.
+fn put_both(
+    text: &mut String,
+    host: &Host,
+    ties: &Ties,
+    actor: usize,
+    object: usize,
+) -> Result<(), AllocError>
+    ensures { OnOk result (KeepsTies ties.now host.now →
+        string_bytes text.new ≡ string_bytes text.old ++ priorities_line host.now actor object) }
+{
+    put_priorities(text, host, actor, object, ties.bodies())
 }
 
 // Puts what stands against a request that calls this object, by a rule.
@@ -186,10 +271,11 @@ fn put_against(
 {
     match rule {
         Rule::Grant => Ok(()),
-        Rule::Blocking | Rule::Reentry => put_bodies(text, host.catalogue(), actor, ties.bodies()),
-        Rule::Ceiling => put_priorities(text, host, actor, object, ties.bodies()),
+        Rule::Blocking => put_held(text, host, ties, actor),
+        Rule::Reentry => put_held(text, host, ties, actor),
+        Rule::Ceiling => put_both(text, host, ties, actor, object),
         Rule::Queue => put_queue(text, host, object),
-        Rule::Waiter => put_waiter(text, host.catalogue(), host.waiter(object)),
+        Rule::Waiter => put_waiter_on(text, host, object),
     }
 }
 
@@ -206,6 +292,53 @@ fn put_rule(alloc: Global, text: &mut String, rule: Rule) -> Result<(), AllocErr
     }
 }
 
+// Puts what stands against a request, by a rule.
+fn put_against_it(
+    text: &mut String,
+    host: &Host,
+    ties: &Ties,
+    actor: usize,
+    request: &Request,
+    rule: Rule,
+) -> Result<(), AllocError>
+    ensures { OnOk result (KeepsTies ties.now host.now →
+        string_bytes text.new ≡ string_bytes text.old ++ against host.now actor (aim host.now.shapes actor request.now).0 rule) }
+{
+    let object = aimed(host.catalogue(), actor, request);
+    put_against(text, host, ties, actor, object, rule)
+}
+
+// Puts that a request broke a rule.
+fn put_broken(
+    alloc: Global,
+    text: &mut String,
+    host: &Host,
+    ties: &Ties,
+    actor: usize,
+    request: &Request,
+    rule: Rule,
+) -> Result<(), AllocError>
+    ensures { OnOk result (KeepsTies ties.now host.now →
+        string_bytes text.new ≡ string_bytes text.old ++ broken_text host.now actor request.now rule) }
+{
+    put_rule(alloc, text, rule)?;
+    put_against_it(text, host, ties, actor, request, rule)
+}
+
+// Puts by which line the call of a resume was dropped, by what is kept.
+fn put_resumed(
+    alloc: Global,
+    text: &mut String,
+    _host: &Host,
+    ties: &Ties,
+    actor: usize,
+) -> Result<(), AllocError>
+    ensures { OnOk result (KeepsTies ties.now _host.now →
+        string_bytes text.new ≡ string_bytes text.old ++ dropped_line actor _host.now.past _host.now.lists) }
+{
+    put_dropped(alloc, text, ties.drops(), actor)
+}
+
 /// Puts why a request was refused. Err where memory was refused.
 pub fn put_refused(
     alloc: Global,
@@ -220,11 +353,7 @@ pub fn put_refused(
         string_bytes text.new ≡ string_bytes text.old ++ refused_text host.now actor request.now rule) }
 {
     match *request {
-        Request::Resume => put_dropped(alloc, text, ties.drops(), actor),
-        _ => {
-            put_rule(alloc, text, rule)?;
-            let object = aimed(host.catalogue(), actor, request);
-            put_against(text, host, ties, actor, object, rule)
-        }
+        Request::Resume => put_resumed(alloc, text, host, ties, actor),
+        _ => put_broken(alloc, text, host, ties, actor, request, rule),
     }
 }

@@ -1,13 +1,15 @@
 //! What an entry ends, and what ended what another began.
 
-ghost use Rattle.std.specs.Prelude.{◌≡◌, ◌==◌, ◌-◌, ◌∷◌, ◌++◌, [], IfOk, OnOk, codes, if◌then◌else◌, length, string_bytes, suc};
+ghost use Rattle.std.specs.Prelude.{◌≡◌, ◌-◌, ◌∷◌, ◌++◌, [], OnOk, codes, string_bytes};
 ghost use Rattle.std.specs.Fmt.{decimal};
-ghost use Rattle.rv_event.specs.Lent.{whole};
-ghost use Rattle.rv_event.specs.Past.{clock, next_of};
+ghost use Rattle.rv_access.specs.Lines.{line_at};
+ghost use Rattle.rv_history.specs.History.{force};
 ghost use Rattle.rv_lasting.specs.Lines.{end_text, how};
+ghost use Rattle.rv_refused.specs.Refusals.{line_words};
 ghost use Rattle.rv_shape.specs.Printed.{actor_text, target_text};
 ghost use Rattle.rv_shape.specs.Readers.{target_of, who_of};
-ghost use Rattle.rv_explained.specs.Explanations.{dropping_line, ended_body, ended_wait, freeing, freeing_section, later_body, later_wait, when_text};
+ghost use Rattle.rv_explained.specs.Explanations.{body_end_text, denied, dropping_line, ended_body, ended_wait, freed_line, freeing, freeing_section, later_body, later_wait, when_text};
+ghost use Rattle.rv_explained.specs.Ties.{list_since};
 ghost use Rattle.rv_explained.specs.Following.{KeepsTies};
 
 use crate::refusals::denied;
@@ -29,7 +31,7 @@ fn put_body_words(
 ) -> Result<(), AllocError>
     ensures { OnOk result (string_bytes text.new ≡ string_bytes text.old
         ++ (codes "it ends the body of " ++ (target_text (target_of callee.now) ++ (codes " that began in entry " ++ (decimal number
-        ++ ((codes ", after " ++ (decimal ticks ++ codes " ticks")) ++ (codes " (9.5.1)" ++ 10 ∷ []))))))) }
+        ++ (codes ", after " ++ (decimal ticks ++ (codes " ticks" ++ (codes " (9.5.1)" ++ 10 ∷ []))))))))) }
 {
     write!(
         text,
@@ -74,6 +76,29 @@ fn freeing_section(next: Next) -> &'static str
     }
 }
 
+// Puts a text as a line.
+fn put_text_line(text: &mut String, line: &str) -> Result<(), AllocError>
+    ensures { OnOk result (string_bytes text.new ≡ string_bytes text.old ++ (line.now ++ 10 ∷ [])) }
+{
+    write!(text, "{line}\n")
+}
+
+// Puts that the line of this number of the list in force grants a queued call no more.
+fn put_denied(
+    alloc: Global,
+    text: &mut String,
+    host: &Host,
+    ties: &Ties,
+    number: usize,
+) -> Result<(), AllocError>
+    ensures { OnOk result (KeepsTies ties.now host.now → string_bytes text.new ≡ string_bytes text.old
+        ++ (denied (line_words (line_at (force host.now) number)) (list_since host.now.past) ++ 10 ∷ [])) }
+{
+    let words = line_words(alloc, line_in_force(host, number))?;
+    let denied = denied(alloc, words.as_str(), ties.list_entry())?;
+    put_text_line(text, denied.as_str())
+}
+
 // Puts by which line of the list in force a caller is dropped, if one is.
 fn put_dropping(
     alloc: Global,
@@ -84,13 +109,11 @@ fn put_dropping(
 ) -> Result<(), AllocError>
     ensures { OnOk result (KeepsTies ties.now host.now → string_bytes text.new ≡ string_bytes text.old ++ dropping_line host.now next) }
 {
-    let Next::Dropped(_, number) = next else {
-        return Ok(());
-    };
-    let words = line_words(alloc, line_in_force(host, number))?;
-    let denied = denied(alloc, words.as_str(), ties.list_entry())?;
-    let denied = denied.as_str();
-    write!(text, "{denied}\n")
+    match next {
+        Next::Nothing => Ok(()),
+        Next::HandedTo(_) => Ok(()),
+        Next::Dropped(_, number) => put_denied(alloc, text, host, ties, number),
+    }
 }
 
 // Puts whose wait ends, and how long after its begin.
@@ -103,13 +126,43 @@ fn put_wait_words(
     section: &str,
 ) -> Result<(), AllocError>
     ensures { OnOk result (string_bytes text.new ≡ string_bytes text.old ++ (how.now ++ (actor_text (who_of who.now)
-        ++ (codes ", who called in entry " ++ (decimal number ++ ((codes ", after " ++ (decimal ticks ++ codes " ticks"))
-        ++ (section.now ++ 10 ∷ []))))))) }
+        ++ (codes ", who called in entry " ++ (decimal number ++ (codes ", after " ++ (decimal ticks ++ (codes " ticks"
+        ++ (section.now ++ 10 ∷ []))))))))) }
 {
     write!(
         text,
         "{how}{who}, who called in entry {number}, after {ticks} ticks{section}\n"
     )
+}
+
+// The same of this wait.
+fn put_freed(text: &mut String, host: &Host, next: Next, it: &Begun) -> Result<(), AllocError>
+    ensures { OnOk result (string_bytes text.new ≡ string_bytes text.old ++ freed_line host.now next it.now) }
+{
+    put_wait_words(
+        text,
+        freeing(next),
+        &host.catalogue().who(it.call.actor),
+        it.number,
+        host.clock().saturating_sub(it.tick),
+        freeing_section(next),
+    )
+}
+
+// Puts that a wait ends, and by which line its caller is dropped, if it is.
+fn put_freed_wait(
+    alloc: Global,
+    text: &mut String,
+    host: &Host,
+    ties: &Ties,
+    next: Next,
+    it: &Begun,
+) -> Result<(), AllocError>
+    ensures { OnOk result (KeepsTies ties.now host.now → string_bytes text.new ≡ string_bytes text.old
+        ++ (freed_line host.now next it.now ++ dropping_line host.now next)) }
+{
+    put_freed(text, host, next, it)?;
+    put_dropping(alloc, text, host, ties, next)
 }
 
 /// Puts the wait that the next entry ends, if it ends one, where this becomes of a queue by it. Err where memory was refused.
@@ -123,24 +176,16 @@ pub fn put_ended_wait(
 ) -> Result<(), AllocError>
     ensures { OnOk result (KeepsTies ties.now host.now → string_bytes text.new ≡ string_bytes text.old ++ ended_wait host.now next it) }
 {
-    let Some(it) = it else {
-        return Ok(());
-    };
-    put_wait_words(
-        text,
-        freeing(next),
-        &host.catalogue().who(it.call.actor),
-        it.number,
-        host.clock().saturating_sub(it.tick),
-        freeing_section(next),
-    )?;
-    put_dropping(alloc, text, host, ties, next)
+    match it {
+        Some(it) => put_freed_wait(alloc, text, host, ties, next, &it),
+        None => Ok(()),
+    }
 }
 
 // Puts at which tick something ended, and how long after its begin.
 fn put_when(text: &mut String, tick: u64, ticks: u64, section: &str) -> Result<(), AllocError>
     ensures { OnOk result (string_bytes text.new ≡ string_bytes text.old ++ (codes " at tick " ++ (decimal tick
-        ++ ((codes ", after " ++ (decimal ticks ++ codes " ticks")) ++ (section.now ++ (codes ":" ++ 10 ∷ [])))))) }
+        ++ (codes ", after " ++ (decimal ticks ++ (codes " ticks" ++ (section.now ++ (codes ":" ++ 10 ∷ [])))))))) }
 {
     write!(text, " at tick {tick}, after {ticks} ticks{section}:\n")
 }
@@ -164,6 +209,28 @@ fn how(next: Next) -> &'static str
     }
 }
 
+// Puts how the entry of this number ends a wait.
+fn put_end(text: &mut String, next: Next, number: usize) -> Result<(), AllocError>
+    ensures { OnOk result (string_bytes text.new ≡ string_bytes text.old ++ end_text next number) }
+{
+    let how = how(next);
+    write!(text, "{how} in entry {number}")
+}
+
+// Puts when it does.
+fn put_wait_when(text: &mut String, host: &Host, next: Next, it: &Begun) -> Result<(), AllocError>
+    ensures { OnOk result (string_bytes text.new ≡ string_bytes text.old ++ when_text host.now it.now (freeing_section next)) }
+{
+    put_ended_at(text, host, it, freeing_section(next))
+}
+
+/// Puts a line of the journal. Err where memory was refused.
+pub fn put_line(text: &mut String, line: &str) -> Result<(), AllocError>
+    ensures { OnOk result (string_bytes text.new ≡ string_bytes text.old ++ line.now) }
+{
+    text.push_str(line)
+}
+
 // Puts how the entry of this number ends a wait, and its line of the journal.
 fn put_wait_end(
     alloc: Global,
@@ -178,10 +245,9 @@ fn put_wait_end(
     ensures { OnOk result (KeepsTies ties.now host.now → string_bytes text.new ≡ string_bytes text.old
         ++ (end_text next number ++ (when_text host.now it.now (freeing_section next) ++ (line.now ++ dropping_line host.now next)))) }
 {
-    let how = how(next);
-    write!(text, "{how} in entry {number}")?;
-    put_ended_at(text, host, it, freeing_section(next))?;
-    text.push_str(line)?;
+    put_end(text, next, number)?;
+    put_wait_when(text, host, next, it)?;
+    put_line(text, line)?;
     put_dropping(alloc, text, host, ties, next)
 }
 
@@ -203,10 +269,40 @@ pub fn put_later_wait(
     let Some(it) = it else {
         return Ok(());
     };
-    if it.number != asked {
-        return Ok(());
+    if it.number == asked {
+        return put_wait_end(alloc, text, host, ties, number, next, line, &it);
     }
-    put_wait_end(alloc, text, host, ties, number, next, line, &it)
+    Ok(())
+}
+
+// Puts which entry ends a body.
+fn put_body_number(text: &mut String, number: usize) -> Result<(), AllocError>
+    ensures { OnOk result (string_bytes text.new ≡ string_bytes text.old ++ body_end_text number) }
+{
+    write!(text, "the body that it began ended in entry {number}")
+}
+
+// Puts when it does.
+fn put_body_when(text: &mut String, host: &Host, it: &Begun) -> Result<(), AllocError>
+    ensures { OnOk result (string_bytes text.new ≡ string_bytes text.old ++ when_text host.now it.now (codes " (9.5.1)")) }
+{
+    put_ended_at(text, host, it, " (9.5.1)")
+}
+
+// Puts that the entry of this number ends a body, and its line of the journal.
+fn put_body_end(
+    text: &mut String,
+    host: &Host,
+    number: usize,
+    line: &str,
+    it: &Begun,
+) -> Result<(), AllocError>
+    ensures { OnOk result (string_bytes text.new ≡ string_bytes text.old
+        ++ (body_end_text number ++ (when_text host.now it.now (codes " (9.5.1)") ++ line.now))) }
+{
+    put_body_number(text, number)?;
+    put_body_when(text, host, it)?;
+    put_line(text, line)
 }
 
 /// Puts that the next entry, of this number, ends the body that the entry that is asked about began, if it does. Err where memory was
@@ -224,10 +320,8 @@ pub fn put_later_body(
     let Some(it) = it else {
         return Ok(());
     };
-    if it.number != asked {
-        return Ok(());
+    if it.number == asked {
+        return put_body_end(text, host, number, line, &it);
     }
-    write!(text, "the body that it began ended in entry {number}")?;
-    put_ended_at(text, host, &it, " (9.5.1)")?;
-    text.push_str(line)
+    Ok(())
 }

@@ -1,5 +1,5 @@
 use Rattle.std.proofs.Common.{◌∙◌}
-use Rattle.rv_explained.proofs.Bodies.{active_is}
+use Rattle.rv_explained.proofs.UnderWay.{active_is}
 use Rattle.rv_explained.proofs.bodies.active.Goals as goal
 
 pub returns : goal.returns
