@@ -95,6 +95,16 @@ expect 2 nothing --journal "$work/journal" <"$work/units"
 expect 2 nothing ten --journal "$work/journal" <"$work/units"
 expect 1 waits_not_legal 7 --journal "$work/wrong" <"$work/units"
 
+# Why an entry was answered so, and what became of it: calls that wait, are handed over, released and dropped, their ends, a delay, a list.
+asked=explain
+for number in 1 2 4 6 7 9 14 16 17 23 24 25 26; do
+    expect 0 "explain_$number" "$number" --journal "$work/journal" <"$work/units"
+    expect 0 "explain_$number" "$number" <"$work/whole"
+done
+expect 2 nothing 0 --journal "$work/journal" <"$work/units"
+expect 2 nothing 27 --journal "$work/journal" <"$work/units"
+expect 1 waits_not_legal 7 --journal "$work/wrong" <"$work/units"
+
 # Who was at what when, as letters and as a picture.
 asked=timeline
 drawn
@@ -126,6 +136,31 @@ expect 0 no_difference --against "$here/bench/review/granting.list" --journal "$
 expect 0 no_difference --of Plant.Ready --against "$here/bench/review/stricter.list" --journal "$work/journal" <"$work/units"
 asked="who"
 expect 0 who plant.valve.set --journal "$work/journal" <"$work/units"
+
+# Each rule by which an entry of the examples is refused: the line that decided is the one that `refusals` names.
+for script in "$here"/examples/*.raven "$here"/bench/review/*.raven; do
+    name=$(basename "$script" .raven)
+    [ -f "$here/bench/review/explain_refused_$name" ] || continue
+    play "$script"
+    "$review" refusals --journal "$work/journal" <"$work/units" >"$work/refused" 2>/dev/null
+    while read -r number line; do
+        "$review" explain "$number" --journal "$work/journal" <"$work/units" >"$work/one" || differs "explain $number of $name"
+        case $line in *"-> not granted: "*)
+            grep -qF -- "not granted: ${line##*-> not granted: }" "$work/one" || differs "explain $number of $name: another line than refusals" ;;
+        esac
+        cat "$work/one"
+    done <"$work/refused" >"$work/said"
+    cmp -s "$work/said" "$here/bench/review/explain_refused_$name" ||
+        differs "explain_refused_$name: $(diff "$work/said" "$here/bench/review/explain_refused_$name" | head -n 3)"
+done
+
+# The plant of the examples: a call that waits and is handed over, the end that does that, a call that still waits, and one that is refused.
+cat "$here/examples/new/plant.raven" "$here/examples/new/steps.raven" >"$work/plant.raven"
+play "$work/plant.raven"
+for number in 5 18 22 26; do
+    "$review" explain "$number" --journal "$work/journal" <"$work/units" || differs "explain $number of the plant"
+done >"$work/said"
+cmp -s "$work/said" "$here/bench/review/explain_plant" || differs "explain_plant: $(diff "$work/said" "$here/bench/review/explain_plant" | head -n 3)"
 
 play "$here/examples/window.raven"
 asked=whatif

@@ -8,8 +8,9 @@ use rv_access::AccessList;
 use rv_fault::Failure;
 use rv_inquiry::inquiry::{From, Inquiry, Question};
 use rv_review::{
-    Audited, Filter, Nobody, Since, hits, hits_file, refusals, refusals_file, rights, rights_file,
-    state, state_file, timeline, timeline_file, waits, waits_file, what_if, what_if_file,
+    Audited, Filter, Nobody, Since, explain, explain_file, hits, hits_file, refusals,
+    refusals_file, rights, rights_file, state, state_file, timeline, timeline_file, waits,
+    waits_file, what_if, what_if_file,
 };
 use std::alloc::Global;
 use std::fs;
@@ -87,6 +88,7 @@ fn said<I: Read, W: Write>(
         Question::Hits => hits(alloc, reader, writer, filter),
         Question::WhatIf => what_if(alloc, reader, writer, filter, or_empty(alloc, list)),
         Question::State => state(alloc, reader, writer, entry_of(asked)),
+        Question::Explain => explain(alloc, reader, writer, entry_of(asked)),
         Question::Timeline => timeline(alloc, reader, writer, wish_of(asked, filter)),
     }
 }
@@ -123,6 +125,10 @@ fn said_of_file<I: Read, J: Read, W: Write>(
         Question::State => {
             let entry = entry_of(asked);
             state_file(alloc, reader, journal, torn, watch, writer, entry)
+        }
+        Question::Explain => {
+            let entry = entry_of(asked);
+            explain_file(alloc, reader, journal, torn, watch, writer, entry)
         }
         Question::Timeline => {
             let wish = wish_of(asked, filter);

@@ -1,7 +1,7 @@
 -- The command line of `ravenreview` (own): each subcommand may be given `--journal FILE` and, with it, `--torn`; `refusals`, `waits`,
 -- `hits` and `whatif` also `--since WHEN`, these and `access` and `timeline` `--by CALLER` and `--of CALLED`, `who` the word CALLED,
--- `access` `--against LIST`, and `timeline` `--from N`, `--to N` and `--text` or `--svg`. `state` must be given a number N, and `whatif` a
--- LIST. What words come to is what `clap` says of this command.
+-- `access` `--against LIST`, and `timeline` `--from N`, `--to N` and `--text` or `--svg`. `state` and `explain` must be given a number N,
+-- and `whatif` a LIST. What words come to is what `clap` says of this command.
 use Rattle.std.specs.Prelude.{◌≡◌, ℕ, Bool, true, false, ◌==◌, nat_lt, if◌then◌else◌, List, Option, Some, None, codes, option_map, length}
 use Rattle.std.specs.List.{after_first, before_first, position_or_len}
 use Rattle.std.specs.Borrow.{Bor}
@@ -80,6 +80,7 @@ name_of Questions.Waits = codes "waits"
 name_of Questions.Access = codes "access"
 name_of Questions.Who = codes "who"
 name_of Questions.State = codes "state"
+name_of Questions.Explain = codes "explain"
 name_of Questions.Hits = codes "hits"
 name_of Questions.WhatIf = codes "whatif"
 name_of Questions.Timeline = codes "timeline"
@@ -101,7 +102,7 @@ abbrev pub of_lines : App
 of_lines = with_subcommand (with_subcommand of_rights (filtered_app (codes "hits")).top) what_if_app.top
 
 abbrev pub program : App
-program = with_subcommand (with_subcommand of_lines (entry_app (codes "state")).top) timeline_app.top
+program = with_subcommand (with_subcommand (with_subcommand of_lines (entry_app (codes "state")).top) (entry_app (codes "explain")).top) timeline_app.top
 
 -- the text of a flag, as a flag; a subcommand without that flag has it not
 abbrev pub IsFlag : Option Text → Bool → Type 0

@@ -5,7 +5,7 @@ ghost use Rattle.clap.specs.Words.{app_of, with_subcommand};
 ghost use Rattle.clap.specs.declared.builder.command.Command.TheViews.{out-Command as fields_of};
 ghost use Rattle.rv_inquiry.specs.Inquiries.{alone, of_entries, of_lines, of_rights, program};
 
-use crate::subcommands::{access, hits, refusals, state, timeline, waits, what_if, who};
+use crate::subcommands::{access, explain, hits, refusals, state, timeline, waits, what_if, who};
 use clap::Command;
 use std::alloc::{AllocError, Global};
 
@@ -69,5 +69,6 @@ pub fn command<'a>(alloc: Global) -> Result<Command<'a>, AllocError>
 {
     let command = of_lines(alloc)?;
     let command = with_added(command, state(alloc))?;
+    let command = with_added(command, explain(alloc))?;
     with_added(command, timeline(alloc))
 }

@@ -27,6 +27,8 @@ pub enum Question {
     Who,
     /// What stands behind an entry.
     State,
+    /// Why an entry was answered as it was.
+    Explain,
     /// How often each line of the lists decided.
     Hits,
     /// What another list would have decided otherwise.
@@ -50,7 +52,7 @@ pub struct Inquiry<'a> {
     pub by: Option<&'a str>,
     /// Of what entries are asked for, where that is given.
     pub of: Option<&'a str>,
-    /// The number of the entry that is asked about: always given with `state`, and with no other.
+    /// The number of the entry that is asked about: always given with `state` and `explain`, and with no other.
     pub entry: Option<u64>,
     /// The name of the file that holds another list: always given with `whatif`; with `access` where the difference is asked for.
     pub list: Option<&'a str>,

@@ -27,6 +27,9 @@ fn of_entries(name: &str) -> Option<Question>
     if name == "state" {
         return Some(Question::State);
     }
+    if name == "explain" {
+        return Some(Question::Explain);
+    }
     if name == "timeline" {
         return Some(Question::Timeline);
     }

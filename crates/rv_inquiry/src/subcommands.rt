@@ -110,6 +110,20 @@ pub fn state<'a>(alloc: Global) -> Result<Command<'a>, AllocError>
     )
 }
 
+/// The subcommand `explain`.
+pub fn explain<'a>(alloc: Global) -> Result<Command<'a>, AllocError>
+    ensures app { IfOk result (λ c. app_of c ≡ entry_app (codes "explain")) }
+    ensures local { IfOk result (λ c. (fields_of c).has_globals ≡ false) }
+{
+    entry_question(
+        alloc,
+        "explain",
+        "Say why an entry was answered as it was, by which rule, line and section of the standard, and what became of it",
+        "The number of the entry; the first is 1",
+        "Example: ravenhost explain 17 --journal JOURNAL < UNITS",
+    )
+}
+
 /// The subcommand `hits`.
 pub fn hits<'a>(alloc: Global) -> Result<Command<'a>, AllocError>
     ensures app { IfOk result (λ c. app_of c ≡ filtered_app (codes "hits")) }

@@ -10,6 +10,9 @@ returns c =
     let one : app_of c.in_ok-command-2.command ≡ with_subcommand of_lines (entry_app (codes "state")).top =
     both c.state.result _ _ _ c.in_ok-command-2.ensures c.state.ensures.app
     (λ s p q. p ∙ ap₂ with_subcommand c.in_ok-command.ensures (ap (λ (a : App). a.top) q)) in
-    IfOk-weaker c.with_added-2.result _ _
+    let two : app_of c.in_ok-command-3.command ≡ with_subcommand (with_subcommand of_lines (entry_app (codes "state")).top) (entry_app (codes "explain")).top =
+    both c.explain.result _ _ _ c.in_ok-command-3.ensures c.explain.ensures.app
+    (λ s p q. p ∙ ap₂ with_subcommand one (ap (λ (a : App). a.top) q)) in
+    IfOk-weaker c.with_added-3.result _ _
     (λ r h. both c.timeline.result _ _ _ h c.timeline.ensures.app
-    (λ s p q. p ∙ ap₂ with_subcommand one (ap (λ (a : App). a.top) q))) c.with_added-2.ensures
+    (λ s p q. p ∙ ap₂ with_subcommand two (ap (λ (a : App). a.top) q))) c.with_added-3.ensures

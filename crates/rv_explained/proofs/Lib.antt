@@ -1,0 +1,4 @@
+pub mod Appending
+mod Looking
+pub mod Tying
+mod UnderWay

@@ -1,0 +1,4 @@
+pub mod Explanations
+pub mod Following
+pub mod Ties
+pub mod Words
