@@ -1,7 +1,7 @@
 -- What is kept and said follows a journal.
-use Rattle.std.proofs.Common.{◌≡◌, ℕ, suc, Bool, true, false, List, [], ◌∷◌, ◌++◌, Some, None, Option, Result, Ok, Err, length, refl, sym, ap, ◌∙◌, subst, append-nil, arith, Bor, if◌then◌else◌}
+use Rattle.std.proofs.Common.{◌≡◌, ℕ, suc, Bool, true, false, List, [], ◌∷◌, ◌++◌, Option, Result, Ok, Err, length, refl, sym, ap, ◌∙◌, subst, append-nil, arith, Bor, if◌then◌else◌}
 use Rattle.std.proofs.lemmas.Bool.Decides.{nat_tests}
-use Rattle.std.specs.Prelude.{◌==◌, OnOk, String, string_bytes}
+use Rattle.std.specs.Prelude.{◌==◌, OnOk, string_bytes}
 use Rattle.std.specs.Option.{unwrap_or}
 use Rattle.rv_access.specs.Text.{list_text}
 use Rattle.rv_access.specs.Words.{Words}
@@ -22,7 +22,7 @@ use Rattle.rv_reading.specs.Reads.{told}
 use Rattle.rv_reading.specs.Told.{Told, Asks, Loads, Lists}
 use Rattle.rv_reading.specs.declared.deed.Deed.{Deed}
 use Rattle.rv_reading.specs.declared.deed.Deed.TheVariants as Deeds
-use Rattle.rv_audit.specs.Meant.{Meant, OfList, OfLoad, due, next}
+use Rattle.rv_audit.specs.Meant.{Meant, next}
 use Rattle.rv_audit.specs.Observing.{Notes, Takes}
 use Rattle.rv_audit.proofs.Growing.{name_of_first}
 use Rattle.rv_refused.specs.Looking.{WillHold}

@@ -1,5 +1,5 @@
 -- The bodies that last are those that are under way.
-use Rattle.std.proofs.Common.{◌≡◌, ℕ, Bool, true, false, List, [], ◌∷◌, ◌++◌, Some, None, Option, map, refl, sym, ap, ◌∙◌, if◌then◌else◌}
+use Rattle.std.proofs.Common.{◌≡◌, ℕ, Bool, true, false, List, [], ◌∷◌, Some, None, Option, map, refl, sym, ap, ◌∙◌, if◌then◌else◌}
 use Rattle.std.specs.Prelude.{◌==◌, max}
 use Rattle.std.specs.List.{filter}
 use Rattle.rv_access.specs.Words.{Words}
@@ -10,8 +10,6 @@ use Rattle.rv_event.specs.Past as past
 use Rattle.rv_event.specs.declared.entry.Body.{Body}
 use Rattle.rv_event.specs.declared.entry.Entry.{Entry}
 use Rattle.rv_event.specs.declared.entry.Entry.TheVariants.{Asked, Load, ListChange}
-use Rattle.rv_event.specs.declared.entry.Recorded.{Recorded}
-use Rattle.rv_event.specs.declared.entry.Request.{Request}
 use Rattle.rv_history.specs.History.{History}
 use Rattle.rv_history.specs.Journal.{shapes_before}
 use Rattle.rv_history.specs.Legal.{IsLegal, Legal}

@@ -31,7 +31,7 @@ use Rattle.rv_refused.specs.Refusals.{before_last, dropping_words, line_words}
 use Rattle.rv_asked.specs.Asked.{line_by}
 use Rattle.rv_lasting.specs.Lines.{end_text}
 use Rattle.rv_lasting.specs.declared.track.Begun.{Begun}
-use Rattle.rv_waits.specs.Lasting.{What, Waits, Bodies, end_of, lasting}
+use Rattle.rv_waits.specs.Lasting.{Waits, Bodies, end_of, lasting}
 use Rattle.rv_explained.specs.Ties.{drop_entry, drop_list, list_since}
 use Rattle.rv_explained.specs.Words.{force_text, rule_text, since_text}
 
