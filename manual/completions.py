@@ -21,7 +21,7 @@ BESIDE = ("--script", *REPEATED)
 # The commands that take parts of a script, and the questions about a journal, which have the flags beside them.
 COMPOSING = ("play", "check", "run", "audit")
 QUESTIONS = {"refusals": ("since", "by", "of"), "waits": ("since", "by", "of"), "access": ("against", "by", "of"), "who": (), "hits": ("since", "by", "of"), "whatif": ("since", "by", "of"),
-             "state": ()}
+             "state": (), "explain": (), "timeline": ("by", "of", "from", "to", "text", "svg")}
 
 # Commands that a run is sent.
 SENT = "append remove replace tick halt journal raise load quit"
@@ -30,7 +30,7 @@ SENT = "append remove replace tick halt journal raise load quit"
 FILES, FOLDERS, COMMANDS, NOTHING = "files", "folders", "commands", "nothing"
 WORDS = {"FILE": FILES, "COMMAND": COMMANDS}
 # Of those that have a word of their own before the FILE of a script: what it is, and what completes it.
-OWN_WORDS = {"who": ("CALLED", NOTHING), "whatif": ("LIST", FILES), "state": ("N", NOTHING)}
+OWN_WORDS = {"who": ("CALLED", NOTHING), "whatif": ("LIST", FILES), "state": ("N", NOTHING), "explain": ("N", NOTHING)}
 # Of numbers, some that are usual.
 VALUES = {"FILE": FILES, "PIPE": FILES, "PREFIX": FOLDERS, "WHEN": ("auto", "always", "never"), "HOW": ("each", "second", "never"),
           "MS": ("1000", "100", "10"), "N": ("100", "1000", "10000")}
