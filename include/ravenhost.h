@@ -10,7 +10,7 @@
  *   line for each answer; of an audit the verdict that holds of the journal.
  * - The buffer gets exactly the first bytes of it, as many as there is room for, and keeps the others; the length is that of all.
  * - The status is the program's. Where it is 3 nothing is told, and the buffer stays as it was.
- * - Each call is memory safe on all bytes, and returns.
+ * - Each call is memory safe on all bytes, and returns. How long it takes no contract says: a step `go N` makes N requests.
  *
  * What is only tested (bench/c_library.sh): the words of a fault's line; that memory is found wanting only where it is.
  *

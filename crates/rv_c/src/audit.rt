@@ -12,6 +12,7 @@ use rv_verdict::audit;
 use std::alloc::Global;
 
 // What is said of a script, by how its audit ended.
+#[tactic(auto, using(crate::proofs::Verdicts::verdict_legal, crate::proofs::Verdicts::verdict_other, crate::proofs::Verdicts::verdict_refused, crate::proofs::Verdicts::verdict_nothing))]
 fn told_of(alloc: Global, text: Vec<u8>, ended: Result<bool, Failure>) -> Told
     ensures { (script : List ℕ) → AuditsScript true SaysOfSection (Some []) (Some text.items) script ended
         → SaysVerdict script (said_of result) }

@@ -13,6 +13,7 @@ use rv_play::play::play;
 use std::alloc::Global;
 
 // What is said of a script, by how it ended.
+#[tactic(auto, using(crate::proofs::Runs::run_done, crate::proofs::Runs::run_refused, crate::proofs::Runs::run_nothing))]
 fn told_of(alloc: Global, text: Vec<u8>, ended: Result<(), Failure>) -> Told
     ensures { (all : Bool) → (script : List ℕ) → WritesScript (Some []) (Some text.items) (outcome_of all) script ended
         → SaysRun all script (said_of result) }
