@@ -30,7 +30,7 @@ pub run_nothing : (all : Bool) (script : List ℕ) (said : Said) → said ≡ no
 run_nothing all script said e = (Err Memory, [], [], nothing_written all script, (refl, refl), e)
 
 -- it was refused
-pub run_refused : (all : Bool) (script text : List ℕ) (fault : ScriptFault) (said : Said) → Writes all script text (Err (Refused fault)) → Refuses text said
+pub run_refused : (all : Bool) (script text : List ℕ) (fault : ScriptFault) (said : Said) → Writes all script text (Err (Refused fault)) → Refuses fault text said
     → SaysRun all script said
 run_refused all script text fault said written (inl (line, is, e)) = (Err (Refused fault), text, line, written, is, e)
 run_refused all script text fault said written (inr e) = run_nothing all script said e

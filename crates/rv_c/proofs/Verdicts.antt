@@ -26,6 +26,6 @@ pub verdict_nothing : (script : List ℕ) (said : Said) → said ≡ nothing →
 verdict_nothing script said e = (Err Memory, [], [], record { text = λ is. inl refl; refused = λ error is. refl }, (refl, refl), e)
 
 -- the script was refused
-pub verdict_refused : (script text : List ℕ) (fault : ScriptFault) (said : Said) → Judges script text (Err (Refused fault)) → Refuses text said → SaysVerdict script said
+pub verdict_refused : (script text : List ℕ) (fault : ScriptFault) (said : Said) → Judges script text (Err (Refused fault)) → Refuses fault text said → SaysVerdict script said
 verdict_refused script text fault said judged (inl (line, is, e)) = (Err (Refused fault), text, line, judged, is, e)
 verdict_refused script text fault said judged (inr e) = verdict_nothing script said e
