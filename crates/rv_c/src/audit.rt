@@ -1,6 +1,6 @@
 //! Judging the journal of a script.
 
-ghost use Rattle.std.specs.Prelude.{[], true, ℕ, List, Some};
+ghost use Rattle.std.specs.Prelude.{[], true, ℕ, List, Some, Err};
 ghost use Rattle.rv_c.specs.Calls.{SaysVerdict};
 ghost use Rattle.rv_c.specs.Said.{said_of};
 ghost use Rattle.rv_verdict.specs.Audits.{AuditsScript, SaysOfSection};
@@ -11,8 +11,19 @@ use rv_fault::Failure;
 use rv_verdict::audit;
 use std::alloc::Global;
 
+// What is said of a script whose audit failed.
+fn told_failed(alloc: Global, text: Vec<u8>, failure: Failure) -> Told
+    ensures { (script : List ℕ) → AuditsScript true SaysOfSection (Some []) (Some text.items) script (Err failure)
+        → SaysVerdict script (said_of result) }
+{
+    match failure {
+        Failure::Refused(fault) => refused(alloc, text, fault),
+        Failure::Memory | Failure::Io(_) => nothing(alloc),
+    }
+}
+
 // What is said of a script, by how its audit ended.
-#[tactic(auto, using(crate::proofs::Verdicts::verdict_legal, crate::proofs::Verdicts::verdict_other, crate::proofs::Verdicts::verdict_refused, crate::proofs::Verdicts::verdict_nothing))]
+#[tactic(auto, using(crate::proofs::Verdicts::verdict_legal, crate::proofs::Verdicts::verdict_other))]
 fn told_of(alloc: Global, text: Vec<u8>, ended: Result<bool, Failure>) -> Told
     ensures { (script : List ℕ) → AuditsScript true SaysOfSection (Some []) (Some text.items) script ended
         → SaysVerdict script (said_of result) }
@@ -20,8 +31,7 @@ fn told_of(alloc: Global, text: Vec<u8>, ended: Result<bool, Failure>) -> Told
     match ended {
         Ok(true) => said(0, text),
         Ok(false) => said(1, text),
-        Err(Failure::Refused(fault)) => refused(alloc, text, fault),
-        Err(Failure::Memory) | Err(Failure::Io(_)) => nothing(alloc),
+        Err(failure) => told_failed(alloc, text, failure),
     }
 }
 
