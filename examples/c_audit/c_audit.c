@@ -1,7 +1,10 @@
 /*
- * Says of a script what `ravenhost audit` or `ravenhost play` prints of it, and ends with the status that they would end with.
+ * Says of a script what `ravenhost audit` or `ravenhost play` prints of it, and ends with the status that they would end with. It asks
+ * in a thread, whose stack holds the deepest bodies that a script may have.
  */
+#define _POSIX_C_SOURCE 200809L
 #include <errno.h>
+#include <pthread.h>
 #include <stdio.h>
 #include <stdlib.h>
 #include <string.h>
@@ -9,7 +12,7 @@
 #include <ravenhost.h>
 
 /* The program's own statuses, beside those of ravenhost.h. */
-enum { USAGE = 2, NOT_READ = 4 };
+enum { USAGE = 2, NOT_READ = 4, NOT_WRITTEN = 4 };
 
 /* What is asked of a script. */
 enum deed { AUDIT, PLAY, PLAY_ALL };
@@ -92,32 +95,58 @@ static int print(const rh_text *told)
     return written == told->fault && !ferror(stdout);
 }
 
-static int say(enum deed deed, const char *name)
+/* What is to be said of which file, and the status that it came to. */
+struct job {
+    enum deed deed;
+    const char *name;
+    int status;
+};
+
+static void *say(void *given)
 {
+    struct job *job = given;
     struct script script = {NULL, 0};
     rh_text told;
-    int32_t status = read_file(name, &script);
-    if (status == 0) {
-        status = ask_whole(deed, &script, &told);
-        if (status == RH_NO_MEMORY)
+    job->status = read_file(job->name, &script);
+    if (job->status == 0) {
+        job->status = ask_whole(job->deed, &script, &told);
+        if (job->status == RH_NO_MEMORY)
             fputs("c_audit: out of memory\n", stderr);
         else if (!print(&told))
-            status = NOT_READ;
+            job->status = NOT_WRITTEN;
         if (told.capacity > 0)
             free(told.bytes);
     }
     free(script.bytes);
-    return status;
+    return NULL;
+}
+
+/* Does a job in a thread with stack for any bodies, and gives its status. */
+static int done(enum deed deed, const char *name)
+{
+    struct job job = {AUDIT, NULL, RH_NO_MEMORY};
+    pthread_attr_t how;
+    pthread_t thread;
+    job.deed = deed;
+    job.name = name;
+    if (pthread_attr_init(&how) != 0)
+        return RH_NO_MEMORY;
+    if (pthread_attr_setstacksize(&how, RH_STACK_BYTES) != 0 || pthread_create(&thread, &how, say, &job) != 0)
+        fputs("c_audit: no thread can be started\n", stderr);
+    else
+        pthread_join(thread, NULL);
+    pthread_attr_destroy(&how);
+    return job.status;
 }
 
 int main(int count, char **words)
 {
     if (count == 3 && strcmp(words[1], "audit") == 0)
-        return say(AUDIT, words[2]);
+        return done(AUDIT, words[2]);
     if (count == 3 && strcmp(words[1], "play") == 0)
-        return say(PLAY, words[2]);
+        return done(PLAY, words[2]);
     if (count == 4 && strcmp(words[1], "play") == 0 && strcmp(words[2], "--all") == 0)
-        return say(PLAY_ALL, words[3]);
+        return done(PLAY_ALL, words[3]);
     fputs("usage: c_audit audit FILE | c_audit play [--all] FILE\n", stderr);
     return USAGE;
 }
