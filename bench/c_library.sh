@@ -4,7 +4,7 @@
 # - each row of crates/rv_rows/data that is played, and each whose journal stands in a section and is judged, goes through c_audit, and
 #   what it writes, tells and ends with is what stands beside the row; without --all the lines that no entry has are left out;
 # - it is called with a buffer of no byte, of one, of fewer than are told, of just as many and of more;
-# - each of its allocations is refused in turn;
+# - each of its allocations is refused in turn, and four threads call it at the same time;
 # - sizes and offsets of the header are held against what the exports read and write;
 # - ada/tell.adb says the same of the rows, where gnatmake is.
 # Statuses: 0 as due, 1 something isn't, 2 the library can't be built, 127 a tool is missing. Needs rt, make, cc, ar, nm, pkg-config,
@@ -160,7 +160,12 @@ if [ "$played" = 0 ] || [ "$judged" = 0 ]; then
 fi
 
 cat >"$folder/buffers.c" <<'END'
-/* Calls with buffers of several sizes, with each allocation refused in turn, and looks at what the exports read and write. */
+/*
+ * Calls with buffers of several sizes, by threads at once, and with each allocation refused in turn, and looks at what the exports
+ * read and write.
+ */
+#define _POSIX_C_SOURCE 200809L
+#include <pthread.h>
 #include <ravenhost.h>
 #include <stdio.h>
 #include <stdlib.h>
@@ -201,7 +206,10 @@ static void with_room(int is_audit, const char *due, size_t before, int32_t stat
     rh_text told;
     memset(space, '#', sizeof space);
     told = rh_text_over(room == 0 ? NULL : space + 64, room);
-    check((is_audit ? rh_audit(judged, sizeof judged - 1, &told) : rh_play(played, sizeof played - 1, 0, &told)) == status, "status", room);
+    if (is_audit)
+        check(rh_audit(judged, sizeof judged - 1, &told) == status, "status", room);
+    else
+        check(rh_play(played, sizeof played - 1, 0, &told) == status, "status", room);
     check(told.length == all && told.fault == before && told.capacity == room, "lengths", room);
     check(memcmp(space + 64, due, got) == 0, "the first bytes", room);
     for (at = 0; at < 64; at++)
@@ -252,12 +260,41 @@ static void layout(void)
           "sizes and offsets", sizeof(rh_text));
 }
 
+/* Calls again and again, while other threads do. Gives a null pointer where each told what is due. */
+static void *again(void *due)
+{
+    char space[256];
+    int turn;
+    for (turn = 0; turn < 200; turn++) {
+        rh_text told = rh_text_over(space, sizeof space);
+        int32_t status = rh_play(played, sizeof played - 1, 0, &told);
+        if (status != RH_FAULT || told.length != strlen(due) || memcmp(space, due, told.length) != 0)
+            return due;
+    }
+    return NULL;
+}
+
+static void at_once(char *due)
+{
+    pthread_t threads[4];
+    size_t at;
+    for (at = 0; at < 4; at++)
+        if (pthread_create(&threads[at], NULL, again, due) != 0)
+            exit(2);
+    for (at = 0; at < 4; at++) {
+        void *other;
+        pthread_join(threads[at], &other);
+        check(other == NULL, "calls at the same time", at);
+    }
+}
+
 int main(void)
 {
     char due[256];
     size_t all, room;
     long number = 0;
     strcat(strcpy(due, journal), line);
+    at_once(due);
     all = strlen(due);
     for (room = 0; room <= all + 8; room++)
         with_room(0, due, strlen(journal), RH_FAULT, room);
@@ -272,9 +309,10 @@ int main(void)
 }
 END
 # shellcheck disable=SC2046,SC2086 # flags
-holds "buffers.c builds" cc $strict -g $checks -Wl,--wrap=malloc -Wl,--wrap=realloc "$folder/buffers.c" \
+holds "buffers.c builds" cc $strict -g $checks -pthread -Wl,--wrap=malloc -Wl,--wrap=realloc "$folder/buffers.c" \
     $(pkg-config --cflags --libs ravenhost) -o "$folder/buffers"
-holds "buffers of no byte, of one, of fewer, of just as many, of more; refused allocations; sizes and offsets" "$folder/buffers"
+holds "buffers of no byte, of one, of fewer, of just as many, of more; refused allocations; calls at once; sizes and offsets" \
+    "$folder/buffers"
 tail -n 1 "$folder/said"
 
 if [ $faults -gt 0 ]; then
