@@ -1,0 +1,4 @@
+pub mod Said
+pub mod Endings
+pub mod Laid
+pub mod Calls
