@@ -1,6 +1,6 @@
 //! What a timeline shows: bars, and the entries that are its scale.
 
-ghost use Rattle.std.specs.Prelude.{◌≡◌, ◌==◌, ◌&&◌, IfOk, option_map};
+ghost use Rattle.std.specs.Prelude.{◌≡◌, IfOk};
 ghost use Rattle.rv_picture.specs.Bars.{covers, has, in_frame, is_from, is_on, is_until, showing, shows, within};
 
 use rv_lasting::track::Begun;

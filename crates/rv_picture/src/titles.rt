@@ -1,8 +1,6 @@
 //! What a bar stands for, in words.
 
-ghost use Rattle.std.specs.Prelude.{◌≡◌, ◌++◌, ◌∷◌, IfOk, codes, string_bytes};
-ghost use Rattle.std.specs.Fmt.{decimal};
-ghost use Rattle.rv_shape.specs.Printed.{actor_text};
+ghost use Rattle.std.specs.Prelude.{◌≡◌, IfOk, string_bytes};
 ghost use Rattle.rv_shape.specs.Readers.{target_of, who_of};
 ghost use Rattle.rv_picture.specs.Titles.{callee_text, end_text, extent_text, span_text, title, was_at, words_text};
 

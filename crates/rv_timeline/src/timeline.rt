@@ -1,6 +1,6 @@
 //! What a timeline shows, by an observer of a journal's audit.
 
-ghost use Rattle.std.specs.Prelude.{◌≡◌, ◌++◌, ◌∷◌, [], IfOk, OnOk, string_bytes};
+ghost use Rattle.std.specs.Prelude.{◌≡◌, ◌++◌, IfOk, OnOk, string_bytes};
 ghost use Rattle.rv_event.specs.Lent.{whole};
 ghost use Rattle.rv_event.specs.Past.{clock};
 ghost use Rattle.rv_event.specs.declared.entry.Entry.TheVariants.{Asked};
