@@ -88,32 +88,6 @@ impl Machine {
         }
     }
 
-    // Whether something comes to the frame on top.
-    fn is_coming(&self) -> bool
-        ensures { result ≡ is_coming self.now.point }
-    {
-        match self.point {
-            Point::At(step) => comes_in(step),
-            Point::Closes(_)
-            | Point::Reaches(_)
-            | Point::Starts(_, _, _)
-            | Point::Outside(_)
-            | Point::Exited(_)
-            | Point::Quitted(_) => true,
-            _ => false,
-        }
-    }
-
-    // Whether something comes, and nothing waits for it.
-    fn is_over(&self) -> bool
-        ensures yes { IsTrue result → is_coming self.now.point ≡ true }
-        ensures empty { IsTrue result → waiting self.now.stack ≡ [] }
-        ensures alone { IsTrue result → set_aside self.now.stack ≡ [] }
-        ensures no { IsFalse result → is_coming self.now.point ≡ true → waiting self.now.stack ≡ [] → set_aside self.now.stack ≡ [] → ⊥ }
-    {
-        self.is_coming() && self.stack.is_empty()
-    }
-
     // How the run ended, where it has.
     fn end(&self) -> Final
         ensures { result ≡ final_at self.now.point self.now.activation }
