@@ -36,12 +36,14 @@ _ravenhost_launcher_flags() {
         hits) echo "--journal --torn --since --by --of --script --host --shape --unit --list" ;;
         whatif) echo "--journal --torn --since --by --of --script --host --shape --unit --list" ;;
         state) echo "--journal --torn --script --host --shape --unit --list" ;;
+        explain) echo "--journal --torn --script --host --shape --unit --list" ;;
+        timeline) echo "--journal --torn --by --of --from --to --text --svg --script --host --shape --unit --list" ;;
     esac
 }
 
 # The subcommands that the launcher adds, and the commands of a run that one of them sends.
 _ravenhost_launcher_subcommands() {
-    echo "new send refusals waits access who hits whatif state"
+    echo "new send refusals waits access who hits whatif state explain timeline"
 }
 _ravenhost_sent() {
     echo "append remove replace tick halt journal raise load quit"
@@ -67,6 +69,8 @@ _ravenhost_value() {
         --by) echo "nothing" ;;
         --of) echo "nothing" ;;
         --against) echo "files" ;;
+        --from) echo "nothing" ;;
+        --to) echo "nothing" ;;
     esac
 }
 
@@ -83,6 +87,7 @@ _ravenhost_word() {
         access) echo "files" ;;
         hits) echo "files" ;;
         whatif) echo "files" ;;
+        timeline) echo "files" ;;
     esac
 }
 
