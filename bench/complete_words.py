@@ -94,7 +94,7 @@ OF_PROGRAM = [
     ("{} audit --journal x-one.journal --", ALL, "{} audit --journal x-one.journal --color --explain --notes --torn"),
 ]
 OF_LAUNCHER = [
-    ("{} ", ALL, "{} access audit check help hits manual new play refusals run send state waits whatif who"),
+    ("{} ", ALL, "{} access audit check explain help hits manual new play refusals run send state timeline waits whatif who"),
     ("{} whatif z", ONE, "{} whatif z.raven "),
     ("{} access --against z", ONE, "{} access --against z.raven "),
     ("{} play --", ALL, "{} play --all --color --explain --help --host --list --no-explain --notes --shape --unit --warnings-are-errors "),
