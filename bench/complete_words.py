@@ -183,6 +183,8 @@ def faults_of(shell, command, rows):
             line, due = sorted_behind(typed, line), sorted_behind(typed, due)
         elif typed.endswith("--j"):
             line = line.rstrip("= ")
+        elif line.endswith("="):  # (zsh puts it behind a flag that takes a value)
+            line = line[:-1] + " "
         if line != due:
             faults += 1
             print(f"NOT AS DUE: {shell.name}: {typed!r} gave {as_told!r}, due {due!r}")

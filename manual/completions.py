@@ -371,7 +371,8 @@ def zsh_asked(asked):
     """The questions about a journal, with their flags; the first word of some is no script."""
     lines = []
     for name, of in asked.items():
-        own = [f"1:{OWN_WORDS[name][0]}:{ZSH_VALUES[OWN_WORDS[name][1]]}"] if name in OWN_WORDS else []
+        # (an empty list, and not a space, behind which zsh would complete no flag)
+        own = [f"1:{OWN_WORDS[name][0]}:{ZSH_VALUES[OWN_WORDS[name][1]].replace(' ', '()')}"] if name in OWN_WORDS else []
         words = [*own, f"{len(own) + 1}:FILE:_files"]
         lines += [f"        {name})", "            _arguments \\"]
         lines += [f"                {zsh_flag(flag, False)} \\" for flag in of if flag.spellings[0] not in REPEATED]
