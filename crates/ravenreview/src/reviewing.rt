@@ -7,7 +7,7 @@ use rv_access::AccessList;
 use rv_fault::Failure;
 use rv_inquiry::inquiry::{From, Inquiry, Question};
 use rv_review::{
-    Audited, Filter, Nobody, Since, explain, explain_file, hits, hits_file, refusals,
+    Audited, Filter, Nobody, Since, explain, explain_file, export, export_file, hits, hits_file, refusals,
     refusals_file, rights, rights_file, state, state_file, waits, waits_file, what_if,
     what_if_file,
 };
@@ -88,6 +88,7 @@ fn said<I: Read, W: Write>(
         Question::WhatIf => what_if(alloc, reader, writer, filter, or_empty(alloc, list)),
         Question::State => state(alloc, reader, writer, entry_of(asked)),
         Question::Explain => explain(alloc, reader, writer, entry_of(asked)),
+        Question::Export => export(alloc, reader, writer),
     }
 }
 
@@ -128,6 +129,7 @@ fn said_of_file<I: Read, J: Read, W: Write>(
             let entry = entry_of(asked);
             explain_file(alloc, reader, journal, torn, watch, writer, entry)
         }
+        Question::Export => export_file(alloc, reader, journal, torn, watch, writer),
     }
 }
 

@@ -33,6 +33,8 @@ pub enum Question {
     Hits,
     /// What another list would have decided otherwise.
     WhatIf,
+    /// Each entry, with what follows from those before it, as JSON.
+    Export,
 }
 
 /// What the words of a command line ask.

@@ -3,7 +3,7 @@
 ghost use Rattle.std.specs.Prelude.{◌≡◌, false, codes, IfOk};
 ghost use Rattle.clap.specs.Words.{app_of};
 ghost use Rattle.clap.specs.declared.builder.command.Command.TheViews.{out-Command as fields_of};
-ghost use Rattle.rv_inquiry.specs.Inquiries.{access_app, entry_app, filtered_app, what_if_app, who_app};
+ghost use Rattle.rv_inquiry.specs.Inquiries.{access_app, entry_app, export_app, filtered_app, what_if_app, who_app};
 
 use crate::args::{about_entry, about_list, against_list, filtered, named, over_journal, since};
 use clap::Command;
@@ -147,4 +147,15 @@ pub fn what_if<'a>(alloc: Global) -> Result<Command<'a>, AllocError>
         "Example: ravenhost whatif LIST --journal JOURNAL < UNITS",
     )?;
     about_list(alloc, command)
+}
+
+/// The subcommand `export`.
+pub fn export<'a>(alloc: Global) -> Result<Command<'a>, AllocError>
+    ensures app { IfOk result (λ c. app_of c ≡ export_app) }
+    ensures local { IfOk result (λ c. (fields_of c).has_globals ≡ false) }
+{
+    let command = Command::new(alloc, "export")
+        .about("Write each entry as a line of JSON, with what follows from the entries before it")
+        .after_help("Example: ravenhost export --journal JOURNAL < UNITS | jq .caller");
+    over_journal(alloc, command)
 }

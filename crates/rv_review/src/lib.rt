@@ -8,6 +8,7 @@
 mod changed;
 mod decided;
 mod explained;
+mod exported;
 mod granted;
 mod refused;
 mod review;
@@ -18,6 +19,7 @@ mod waited;
 pub use changed::{what_if, what_if_file};
 pub use decided::{hits, hits_file};
 pub use explained::{explain, explain_file};
+pub use exported::{export, export_file};
 pub use granted::{rights, rights_file};
 pub use refused::{refusals, refusals_file};
 pub use rv_audit::observer::{Nobody, Watch};

@@ -1,15 +1,11 @@
-use Rattle.std.proofs.Common.{◌≡◌, ◌∙◌, ap, ap₂, codes}
+use Rattle.std.proofs.Common.{◌∙◌, ap, ap₂}
 use Rattle.std.proofs.lemmas.Result.{IfOk-weaker}
-use Rattle.clap.specs.Words.{App, app_of, with_subcommand}
-use Rattle.rv_inquiry.specs.Inquiries.{entry_app, of_lines}
+use Rattle.clap.specs.Words.{App, with_subcommand}
 use Rattle.rv_inquiry.proofs.Adding.{both}
 use Rattle.rv_inquiry.proofs.command.command.Goals as goal
 
 pub returns : goal.returns
 returns c =
-    let one : app_of c.in_ok-command-2.command ≡ with_subcommand of_lines (entry_app (codes "state")).top =
-    both c.state.result _ _ _ c.in_ok-command-2.ensures c.state.ensures.app
-    (λ s p q. p ∙ ap₂ with_subcommand c.in_ok-command.ensures (ap (λ (a : App). a.top) q)) in
-    IfOk-weaker c.with_added-2.result _ _
-    (λ r h. both c.explain.result _ _ _ h c.explain.ensures.app
-    (λ s p q. p ∙ ap₂ with_subcommand one (ap (λ (a : App). a.top) q))) c.with_added-2.ensures
+    IfOk-weaker c.with_added.result _ _
+    (λ r h. both c.export.result _ _ _ h c.export.ensures.app
+    (λ s p q. p ∙ ap₂ with_subcommand c.in_ok-command.ensures (ap (λ (a : App). a.top) q))) c.with_added.ensures
