@@ -1,5 +1,5 @@
 -- What runs between a start and its end. (own)
-use Rattle.std.specs.Prelude.{◌≡◌, ℕ, ℤ, List, [], if◌then◌else◌, Option, Some, None}
+use Rattle.std.specs.Prelude.{◌≡◌, ℕ, ℤ, List, [], Option, Some, None}
 use Rattle.rv_event.specs.declared.entry.Request.{Request}
 use Rattle.rv_event.specs.declared.entry.Request.TheVariants.{Complete}
 use Rattle.rv_event.specs.declared.entry.Exit.{Exit}
@@ -8,13 +8,10 @@ use Rattle.rv_event.specs.declared.entry.Exception.TheVariants.{ProgramError}
 use Rattle.rv_code.specs.Bodies.{UnitBodies}
 use Rattle.rv_exec.specs.Asking.{Along}
 use Rattle.rv_exec.specs.Blocks.{operation_run_at}
+use Rattle.rv_outside.specs.Ends.{given_by}
 use Rattle.rv_port.specs.declared.body.Ended.{Ended}
 use Rattle.rv_behind.specs.declared.event.Begun.{Begun}
 use Rattle.rv_port.specs.Traces.{Trace}
-
--- the scalars that an end gives: a function's gives none (9.5.1)
-abbrev pub given_by : Begun → List ℤ → List ℤ
-given_by begun scalars = if begun.is_function then [] else scalars
 
 -- where the bodies couldn't be had the body leaves the scalars and exits by `raise Program_Error` (own)
 abbrev pub left_alone : Begun → List ℤ → Ended

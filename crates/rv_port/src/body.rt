@@ -6,7 +6,7 @@ ghost use Rattle.rv_exec.specs.Bodies.{bodies_view};
 ghost use Rattle.rv_behind.specs.Acting.{lent_view};
 ghost use Rattle.rv_port.specs.Traces.{Trace, Went};
 ghost use Rattle.rv_event.specs.declared.entry.Request.TheVariants.{Complete};
-ghost use Rattle.rv_port.specs.Bodies.{RunsTo, left_alone, given_by};
+ghost use Rattle.rv_port.specs.Bodies.{RunsTo, left_alone};
 ghost use Rattle.rv_port.specs.Calls.{marked};
 ghost use Rattle.rv_port.specs.Held.{held_by};
 
@@ -14,7 +14,7 @@ use crate::asker::Asker;
 use rv_behind::event::{Begun, Lent};
 use rv_event::entry::{Exception, Exit, Request};
 use rv_exec::bodies::Bodies;
-use rv_exec::machine::run_body_at;
+use rv_outside::{put_end, run_body};
 use rv_value::{Args, Scalars};
 use std::sync::Wait;
 
@@ -23,17 +23,6 @@ use std::sync::Wait;
 pub(crate) struct Ended {
     pub(crate) scalars: Scalars,
     pub(crate) exit: Exit,
-}
-
-// Puts a request for the end of a body: with what it leaves of these scalars, and by this exit.
-fn put_end(request: &mut Request, begun: &Begun, scalars: &Scalars, exit: &Exit)
-    ensures { request.new ≡ Complete (given_by begun.now scalars.now) exit.now }
-{
-    if begun.is_function {
-        *request = Request::Complete(Scalars::new(), *exit);
-    } else {
-        *request = Request::Complete(*scalars, *exit);
-    }
 }
 
 // The end of a body that couldn't be had.
@@ -59,18 +48,16 @@ fn run_one<R: Wait>(
     ensures runs { (trace : Trace) × RunsTo (Some (bodies_view bodies.now)) (held_by asker.old.pass) begun.now scalars.now args.now trace request.new result × Went asker.old.pass trace asker.new.pass }
     ensures mark { asker.new.is_refused ≡ asker.old.is_refused }
 {
-    let ended = run_body_at(
+    run_body(
         rt,
         bodies,
         asker.held as usize,
-        begun.object,
-        begun.operation,
-        *scalars,
-        *args,
+        begun,
+        scalars,
+        args,
         asker,
-    );
-    put_end(request, begun, &ended.scalars, &ended.exit);
-    ended.exit
+        request,
+    )
 }
 
 /// Runs the body of an operation on these scalars, with these values, asking by the port's own

@@ -18,7 +18,7 @@ use crate::port::Port;
 use rv_behind::event::{Ask, Lent, Reply};
 use rv_event::entry::Exit;
 use rv_exec::bodies::Bodies;
-use rv_exec::machine::{Machine, run_task};
+use rv_outside::run_text;
 use rv_turn::Worn;
 use std::sync::Wait;
 
@@ -56,7 +56,7 @@ impl Asker {
     {
         let actor = self.pass.actor() as usize;
         self.course = Course::fresh(budget);
-        let exit = run_task(&Machine { budget }, rt, bodies, actor, self);
+        let exit = run_text(rt, bodies, actor, budget, self);
         (exit, ending_by(bodies, actor, &exit, budget, self.course))
     }
 
