@@ -8,7 +8,7 @@ use Rattle.rv_behind.specs.declared.event.Ask.{Ask}
 use Rattle.rv_behind.specs.declared.event.Ask.TheVariants.{Step, Read, View}
 use Rattle.rv_behind.specs.declared.event.Ask.TheVariants as asks
 use Rattle.rv_behind.specs.declared.event.Reply.{Reply}
-use Rattle.rv_denied.specs.Denied.{denial}
+use Rattle.rv_tally.specs.Denied.{denial}
 use Rattle.rv_event.specs.declared.entry.Request.{Request}
 use Rattle.rv_event.specs.declared.entry.Request.TheVariants.{Tick}
 use Rattle.rv_port.specs.Traces.{Passing}

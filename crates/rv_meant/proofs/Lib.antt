@@ -5,3 +5,5 @@ pub mod Openings
 pub mod Explaining
 pub mod Settles
 pub mod NeverSettling
+pub mod Counting
+pub mod Goes

@@ -4,3 +4,5 @@ pub mod Nested
 pub mod Histories
 pub mod Explained
 pub mod Told
+pub mod Holds
+pub mod Answers

@@ -1,6 +1,9 @@
-//! What recorded ends of bodies mean. Laws, each on a function that does nothing.
+//! What recorded ends of bodies mean, what runs of bodies ask, and what the host answers to that. Laws, each on a function that
+//! does nothing.
 #![tactic(auto)]
 
+ghost use Rattle.rv_meant.specs.Answers.{CallsGoOn, ResumesGoOn};
+ghost use Rattle.rv_meant.specs.Holds.{AsksCountTheHeld};
 ghost use Rattle.rv_meant.specs.Nested.{BodiesNest, TasksNest};
 ghost use Rattle.rv_meant.specs.Settles.{BodiesNeverSettle, TasksNeverSettle};
 ghost use Rattle.rv_meant.specs.Told.{InnerEndsAreExplained, OuterEndsAreExplained, TaskEndsAreExplained};
@@ -42,4 +45,21 @@ pub fn bodies_never_settle()
 /// Nor does a task.
 pub fn tasks_never_settle()
     ensures { TasksNeverSettle }
+{}
+
+/// By its starts and ends an actor holds as many objects as the history's open starts say: so a body whose end is explained ran
+/// with as many as its actor held at the start. Only between a hand-over and the caller's wake the history counts one more.
+pub fn asks_count_the_held()
+    ensures { AsksCountTheHeld }
+{}
+
+/// A request of a callee that fits the host's units goes on by its answer, where it needn't be made again and isn't `Halted`
+/// or `Full`: no answer is of a form that what called can't go on by.
+pub fn calls_go_on()
+    ensures { CallsGoOn }
+{}
+
+/// And so does the resume of an actor that waits by such a request.
+pub fn resumes_go_on()
+    ensures { ResumesGoOn }
 {}

@@ -13,8 +13,8 @@ use Rattle.rv_fits.specs.Fits.{callee_fits}
 use Rattle.rv_fits.proofs.Keeps.{callee_keeps}
 use Rattle.rv_history.specs.Due.{out}
 use Rattle.rv_history.specs.History.{History}
-use Rattle.rv_replies.specs.Answers.{queued, paused as is_paused, waits_by}
-use Rattle.rv_replies.proofs.Goes.{calls_go_on, resumes_go_on}
+use Rattle.rv_meant.specs.Answers.{queued, paused as is_paused, waits_by}
+use Rattle.rv_meant.proofs.Goes.{calls_go_on, resumes_go_on}
 use Rattle.rv_exec.specs.declared.end.Asked.TheVariants as Come
 use Rattle.rv_exec.specs.declared.end.Cause.TheVariants as cause
 use Rattle.rv_exec.specs.declared.end.Reply.{Reply}

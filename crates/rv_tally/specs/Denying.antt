@@ -1,7 +1,7 @@
 -- The line that denies a unit everything, and what is said of it (own).
 use Rattle.std.specs.Prelude.{◌≡◌, ℕ, Bool, true, false, List, [], ◌∷◌, ◌++◌, codes, slice_get, Some, None, Result, Ok, Err}
 use Rattle.rv_access.specs.Words.{Words}
-use Rattle.rv_denied.specs.Denied.{denial}
+use Rattle.rv_tally.specs.Denied.{denial}
 use Rattle.rv_event.specs.declared.entry.Answer.{Answer}
 use Rattle.rv_event.specs.declared.entry.Answer.TheVariants.{Accepted, BadLine, Full}
 use Rattle.rv_shape.specs.Shape.{Shape}

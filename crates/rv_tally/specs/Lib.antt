@@ -3,3 +3,4 @@ pub mod Guarding
 pub mod Tallying
 pub mod Watching
 pub mod Wording
+pub mod Denied

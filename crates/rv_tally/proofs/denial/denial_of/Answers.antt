@@ -1,6 +1,6 @@
 use Rattle.std.proofs.Common.{◌≡◌, ◌∙◌, ap, sym, subst, ℕ, List, IsTrue, slice_get, Some}
 use Rattle.rv_access.specs.Spelled.{is_star_or}
-use Rattle.rv_denied.specs.Denied.{denial}
+use Rattle.rv_tally.specs.Denied.{denial}
 use Rattle.rv_text.specs.Names.{is_identifier}
 use Rattle.rv_tally.proofs.Naming.{unit_at, unit_spelled}
 use Rattle.rv_tally.proofs.denial.denial_of.Goals as goal

@@ -31,7 +31,7 @@ use Rattle.rv_history.specs.Subject.{subject}
 use Rattle.rv_history.proofs.Answered.{both}
 use Rattle.rv_history.proofs.Tells.{Behind, each_call, each_halted, each_waiting, out_all}
 use Rattle.rv_history.proofs.Violations.{each_refused, is_found}
-use Rattle.rv_replies.specs.Answers.{queued, paused, waits_by, CallsGoOn, ResumesGoOn}
+use Rattle.rv_meant.specs.Answers.{queued, paused, waits_by, CallsGoOn, ResumesGoOn}
 
 -- it stands, is final, or goes on
 abbrev goes : Callee → Answer → Bool

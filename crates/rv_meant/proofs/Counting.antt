@@ -48,7 +48,7 @@ use Rattle.rv_history.proofs.Waits.{Waits}
 use Rattle.rv_meant.specs.Asks.{held_after, held_behind}
 use Rattle.rv_meant.specs.Histories.{ask_of, asked_in, asks_of, own_ask}
 use Rattle.rv_meant.proofs.Nesting.{held_both}
-use Rattle.rv_holds.specs.Holds.{handed_one, AsksCountTheHeld}
+use Rattle.rv_meant.specs.Holds.{handed_one, AsksCountTheHeld}
 
 -- What an answer leaves held
 

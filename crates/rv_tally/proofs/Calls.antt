@@ -19,8 +19,8 @@ use Rattle.rv_history.specs.Legal.{Legal, after, entered}
 use Rattle.rv_history.specs.Rules.{breaks, decided, first_among, granted}
 use Rattle.rv_history.specs.Subject.{home, subject, subject_of}
 use Rattle.rv_history.proofs.Answered.{word_is}
-use Rattle.rv_denied.specs.Denied.{AddsItsRefusal, CallsAreRefused, DeniesAll, RecordedCallsAreRefused, TasksAreRefused}
-use Rattle.rv_denied.proofs.Lists.{denied_grants}
+use Rattle.rv_tally.specs.Denied.{AddsItsRefusal, CallsAreRefused, DeniesAll, RecordedCallsAreRefused, TasksAreRefused}
+use Rattle.rv_tally.proofs.Lists.{denied_grants}
 
 -- an answer that isn't recorded, or a refusal by the list
 abbrev Refusing : History → Answer → Type 0

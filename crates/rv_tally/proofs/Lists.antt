@@ -7,7 +7,7 @@ use Rattle.rv_shape.proofs.NumberingLemmas.{same_laws}
 use Rattle.rv_access.specs.Lines.{allows, decides, fits, grants, line_at, matches}
 use Rattle.rv_access.specs.Windows.{is_open}
 use Rattle.rv_access.specs.Words.{Words}
-use Rattle.rv_denied.specs.Denied.{DeniesAll, IsDenial, LastDenialStands, denial, may_grant}
+use Rattle.rv_tally.specs.Denied.{DeniesAll, IsDenial, LastDenialStands, denial, may_grant}
 
 -- a line decides, and doesn't allow
 record Denies (lines : List Words) (number : ℕ) : Type 0 where

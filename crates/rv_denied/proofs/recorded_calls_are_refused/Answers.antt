@@ -1,5 +1,0 @@
-use Rattle.rv_denied.proofs.Calls.{recorded_refused}
-use Rattle.rv_denied.proofs.recorded_calls_are_refused.Goals as goal
-
-pub returns : goal.returns
-returns c = recorded_refused

@@ -1,5 +1,0 @@
-use Rattle.rv_replies.proofs.Goes.{calls_go_on}
-use Rattle.rv_replies.proofs.calls_go_on.Goals as goal
-
-pub returns : goal.returns
-returns c = calls_go_on
