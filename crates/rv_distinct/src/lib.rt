@@ -5,7 +5,6 @@
 
 mod bodies;
 mod names;
-mod noted;
 mod protected;
 mod region;
 mod unit;
