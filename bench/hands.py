@@ -6,10 +6,11 @@
 Two runs on one journal; a journal that others cut off, remove or replace; standard input, output or error closed before the
 start; a limit on the size of files; a journal's file that a wrong command line would leave behind; texts that are sent to a run, and
 hold commands, are cut short or large, by several senders at once; scripts that are named to the wrong command; notes on long lists; parts
-of a script in files of their own that hold sections, are cut short or refused. It needs flock, and a program: the proved one or the trial
-that is kept. Where ravenreview isn't there, its questions aren't asked.
+of a script in files of their own that hold sections, are cut short or refused; plays that never end, and are ended by signals and Ctrl-C.
+It needs flock, and a program: the proved one or the trial that is kept. Where ravenreview isn't there, its questions aren't asked.
 """
 import contextlib
+import fcntl
 import os
 import pty
 import random
@@ -18,6 +19,7 @@ import signal
 import subprocess
 import sys
 import tempfile
+import termios
 import time
 from pathlib import Path
 from typing import Callable
@@ -426,10 +428,54 @@ def many_bad_commands(hands: Hands) -> None:
     hands.due("explanations of commands grow with their number alone", whole <= 3 * half, (half, whole))
 
 
+def ended_play(hands: Hands, words: list[str], lines: int, how: signal.Signals | None) -> tuple[int, bytes]:
+    """How a play ends, and all that it printed: once it has printed so many lines it is sent a signal, or Ctrl-C is typed at its terminal."""
+    near, far = pty.openpty()
+
+    def at_that_terminal() -> None:
+        os.setsid()
+        fcntl.ioctl(far, termios.TIOCSCTTY, 0)
+
+    with subprocess.Popen([hands.launcher, *words], cwd=hands.folder, stdin=far, stdout=subprocess.PIPE, stderr=subprocess.DEVNULL, preexec_fn=at_that_terminal) as play:
+        assert play.stdout
+        said = b"".join(play.stdout.readline() for _ in range(lines))
+        time.sleep(0.5)  # (so that it goes on behind its last line, or waits for its reader)
+        if how:
+            play.send_signal(how)
+        else:
+            os.write(near, b"\x03")
+        said += play.stdout.read()
+        status = play.wait(SECONDS)
+    os.close(near)
+    os.close(far)
+    return status, said
+
+
+def plays_that_are_ended(hands: Hands) -> None:
+    """A play that never ends is ended by a signal, or by Ctrl-C, with its journal so far: whole lines, and all where it had got behind them."""
+    for name, text in (("plant.ada", PLANT.split(b"@list")[0].removeprefix(b"@unit\n")), ("rights", b"allow * * *\n"), ("short", b"@steps\nPlant.Pump go 5000\n"),
+                       ("endless", b"@steps\nPlant.Pump go 999999999999999999\n")):
+        hands.file(name, text)
+    hands.file("whole", PLANT.removesuffix(b"@run\n") + (hands.folder / "endless").read_bytes())
+    parts = ["play", "--unit", "plant.ada", "--list", "rights"]
+    due = of_parts(hands, [*parts, "short"])[1]
+    count = due.count(b"\n")
+    hands.due("the play that ends has a journal of more than a pipe holds", count > 1000 and len(due) > 70_000, (count, len(due)))
+    for words in (["play", "whole"], [*parts, "endless"]):
+        for how in (signal.SIGINT, signal.SIGTERM, None):
+            named = f"{' '.join(words)}, by {how.name if how else 'Ctrl-C'}"
+            number = how or signal.SIGINT
+            for lines in (count, 10):
+                status, said = ended_play(hands, words, lines, how)
+                hands.due(f"{named}, ends by it", status in (-number, 128 + number), status)
+                hands.due(f"{named}, has whole lines of its journal", due.startswith(said) and said.endswith(b"\n"), said[-100:])
+                hands.due(f"{named}, has all that was written", said.count(b"\n") >= lines, (said.count(b"\n"), lines))
+
+
 CASES: tuple[Callable[[Hands], None], ...] = (
     two_runs_on_one_file, journals_that_others_change, streams_that_are_closed, limits_on_files, wrong_command_lines, texts_that_are_sent,
     senders_at_once, wrong_sends, scripts_to_the_wrong_command, hostile_parts, parts_that_are_taken, faults_of_parts, runs_of_parts, notes_on_long_lists,
-    many_bad_commands)
+    many_bad_commands, plays_that_are_ended)
 
 
 def main(words: list[str]) -> int:
