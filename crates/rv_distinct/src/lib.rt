@@ -5,6 +5,7 @@
 
 mod bodies;
 mod names;
+mod noted;
 mod protected;
 mod region;
 mod unit;

@@ -6,17 +6,22 @@ ghost use Rattle.std.specs.Option.{is_none};
 ghost use Rattle.rv_tree.specs.NameView.{identifier_view, identifiers_view};
 ghost use Rattle.rv_distinct.specs.Regions.{are_distinct};
 
-use indexmap::IndexSet;
-use rv_shape::name::Name;
+use crate::noted::Noted;
 use rv_text::is_same_name;
 use rv_tree::name::Identifier;
 use std::alloc::{AllocError, Global};
 use std::marker::Model;
 
 /// The identifiers that a region declares, in the order of the text.
-#[derive(Drop)]
 pub(crate) struct Region<'a> {
     declared: Vec<&'a Identifier>,
+}
+
+impl Drop for Region<'_> {
+    // A function of its own: a derived one is written out wherever a value is let go, and proved there.
+    fn drop(self) {
+        let Region { declared: _ } = self;
+    }
 }
 
 impl<'a> Model for Region<'a> {
@@ -68,15 +73,14 @@ impl<'a> Region<'a> {
         }
     }
 
-    // The same, by a set of the names so far.
+    // The same, by the names so far.
     #[tactic(auto, using(crate::proofs::Again::new_are_distinct))]
     fn again_of_many(&self, alloc: Global) -> Result<Option<usize>, AllocError>
         ensures { IfOk result (λ at. is_none at ≡ are_distinct self.now) }
     {
-        let mut names: IndexSet<Name> = IndexSet::new(alloc);
+        let mut noted = Noted::new(alloc);
         for identifier in &self.declared {
-            let name = Name::new(String::from_str(alloc, identifier.text.as_str())?);
-            let is_new = names.insert(name)?;
+            let is_new = noted.note(alloc, identifier)?;
             if !is_new {
                 return Ok(Some(identifier.at));
             }
