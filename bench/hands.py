@@ -5,8 +5,8 @@
 
 Two runs on one journal; a journal that others cut off, remove or replace; standard input, output or error closed before the
 start; a limit on the size of files; a journal's file that a wrong command line would leave behind; texts that are sent to a run, and
-hold commands, are cut short or large, by several senders at once; scripts that are named to the wrong command; notes on long lists;
-shapes of more lines than fit; parts of a script in files of their own that hold sections, are cut
+hold commands, are cut short or large, by several senders at once; scripts that are named to the wrong command; notes on long lists, and on many
+changes of one; shapes of more lines than fit; parts of a script in files of their own that hold sections, are cut
 short or refused. It needs flock, and a program: the proved one or the trial that is kept. Where ravenreview isn't there, its questions aren't asked.
 """
 import contextlib
@@ -415,13 +415,32 @@ def notes_on_long_lists(hands: Hands) -> None:
     """512 lines that deny what none of 4,096 operations is: their notes take at most ten times what the check of the script takes."""
     shapes = "".join("@shape\nunit U%d\n" % unit + "".join("protected O%d 20\n" % place + "".join("procedure %s\n" % name for name in names) for place, names in enumerate(objects))
                      for unit, objects in enumerate(many_operations()))
-    script = (shapes + "@list\n" + "deny * * MISSPELT\n" * 512).encode()
-    found = {}
-    for when, due in (("never", 0), ("always", 512)):
-        found[when], done = seconds_of(hands, ["check", "--notes", when], script)
-        hands.due(f"check of a long list with --notes {when}", done.returncode == 0, done)
-        hands.due(f"its notes with --notes {when}", done.stderr.count(b" names MISSPELT; no object has it") == due, done.stderr[-200:])
-    hands.due("notes on long lists take at most ten times the check", found["always"] <= 10 * found["never"], found)
+    for what, lines in (("the same word", "deny * * MISSPELT\n" * 512), ("as many words", "".join(f"deny * * MISSPELT{number}\n" for number in range(512)))):
+        found = {}
+        for when, due in (("never", 0), ("always", 512)):
+            found[when], done = seconds_of(hands, ["check", "--notes", when], (shapes + "@list\n" + lines).encode())
+            hands.due(f"check of a long list of {what} with --notes {when}", done.returncode == 0, done)
+            told = len(re.findall(rb" names MISSPELT[0-9]*; no object has it", done.stderr))
+            hands.due(f"its notes on {what} with --notes {when}", told == due, done.stderr[-200:])
+        hands.due(f"notes on long lists of {what} take at most ten times the check", found["always"] <= 10 * found["never"], found)
+
+
+def notes_on_many_appends(hands: Hands) -> None:
+    """500 denials that are appended in a run over 4,096 operations: with notes they take at most ten times what they take without."""
+    units = "".join(f"@unit\npackage U{unit} is\n" + "".join(f"protected O{place} is\n" + "".join(f"procedure {name};\n" for name in names) + f"end O{place};\n"
+                                                                 for place, names in enumerate(objects))
+                    + f"end U{unit};\npackage body U{unit} is\n" + "".join(f"protected body O{place} is\n" + "".join(f"procedure {name} is begin null; end;\n" for name in names)
+                                                                            + f"end O{place};\n" for place, names in enumerate(objects)) + f"end U{unit};\n"
+                    for unit, objects in enumerate(many_operations()))
+    for what, line, due in (("of a word", "append deny * * MISSPELT%d\n", 500), ("of an object", "append deny U1 U1.O%d *\n", 484)):
+        script = (units + "@list\nallow * * *\n@run\n" + "".join(line % number for number in range(500)) + "quit\n").encode()
+        found = {}
+        for when in ("never", "always"):
+            found[when], done = seconds_of(hands, ["run", "--notes", when], script)
+            hands.due(f"500 denials {what} with --notes {when}", done.stdout == b"accepted 0\n" * 500 + b"entries 518\n", done.stdout[-100:])
+            told = done.stderr.count(b"warning: list line ")
+            hands.due(f"their notes with --notes {when} ({what})", told == (due if when == "always" else 0), (told, done.stderr[-200:]))
+        hands.due(f"notes on 500 denials {what} take at most ten times the denials", found["always"] <= 10 * found["never"], found)
 
 
 def shapes_of_many_lines(hands: Hands) -> None:
@@ -455,7 +474,7 @@ def many_bad_commands(hands: Hands) -> None:
 CASES: tuple[Callable[[Hands], None], ...] = (
     two_runs_on_one_file, journals_that_others_change, streams_that_are_closed, limits_on_files, wrong_command_lines, texts_that_are_sent,
     senders_at_once, wrong_sends, scripts_to_the_wrong_command, hostile_parts, parts_that_are_taken, faults_of_parts, runs_of_parts, notes_on_long_lists,
-    shapes_of_many_lines, many_bad_commands)
+    notes_on_many_appends, shapes_of_many_lines, many_bad_commands)
 
 
 def main(words: list[str]) -> int:
