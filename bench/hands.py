@@ -5,9 +5,10 @@
 
 Two runs on one journal; a journal that others cut off, remove or replace; standard input, output or error closed before the
 start; a limit on the size of files; a journal's file that a wrong command line would leave behind; texts that are sent to a run, and
-hold commands, are cut short or large, by several senders at once; scripts that are named to the wrong command; notes on long lists; parts
-of a script in files of their own that hold sections, are cut short or refused; plays that never end, and are ended by signals and Ctrl-C.
-It needs flock, and a program: the proved one or the trial that is kept. Where ravenreview isn't there, its questions aren't asked.
+hold commands, are cut short or large, by several senders at once; scripts that are named to the wrong command; notes on long lists, and on
+many changes of one; shapes of more lines than fit; parts of a script in files of their own that hold sections, are cut short or refused;
+plays that never end, and are ended by signals and Ctrl-C. It needs flock, and a program: the proved one or the trial that is kept. Where
+ravenreview isn't there, its questions aren't asked.
 """
 import contextlib
 import fcntl
@@ -15,6 +16,7 @@ import os
 import pty
 import random
 import re
+import resource
 import signal
 import subprocess
 import sys
@@ -393,38 +395,82 @@ def runs_of_parts(hands: Hands) -> None:
         hands.due(f"no file is left behind {how!r}", not left, left)
 
 
-def notes_on_long_lists(hands: Hands) -> None:
-    """512 lines that deny what none of 4,096 operations is: their notes take at most ten times what the check of the script takes."""
+def seconds_of(hands: Hands, words: list[str], script: bytes) -> tuple[float, subprocess.CompletedProcess[bytes]]:
+    """The least processor time of three starts, and what the last printed."""
+    found = []
+    for _ in range(3):
+        before = resource.getrusage(resource.RUSAGE_CHILDREN)
+        done = hands.asked(words, script)
+        after = resource.getrusage(resource.RUSAGE_CHILDREN)
+        found.append(after.ru_utime + after.ru_stime - before.ru_utime - before.ru_stime)
+    return min(found), done
+
+
+def many_operations() -> list[list[list[str]]]:
+    """4,096 names of operations, drawn: sixteen for each of sixteen objects of sixteen units."""
     draw = random.Random(1)
     names = ["".join(draw.choice("abcdefghijklmnoprstuvw") for _ in range(8)).capitalize() + str(number) for number in range(4096)]
-    script = "".join("@shape\nunit U%d\n" % unit + "".join("protected O%d 20\n" % place + "".join(
-        "procedure %s\n" % name for name in names[(unit * 16 + place) * 16:][:16]) for place in range(16)) for unit in range(16))
-    script += "@list\n" + "deny * * MISSPELT\n" * 512
+    objects = [names[at:at + 16] for at in range(0, 4096, 16)]
+    return [objects[at:at + 16] for at in range(0, 256, 16)]
 
-    def seconds(when: str) -> float:
-        before = os.times()
-        done = hands.asked(["check", "--notes", when], script.encode())
-        after = os.times()
-        hands.due(f"check of a long list with --notes {when}", done.returncode == 0, done)
-        hands.due(f"its notes with --notes {when}", done.stderr.count(b" names MISSPELT; no object has it") == (512 if when == "always" else 0), done.stderr[-200:])
-        return after.children_user + after.children_system - before.children_user - before.children_system
 
-    alone, told = min(seconds("never") for _ in range(3)), min(seconds("always") for _ in range(3))
-    hands.due("notes on long lists take at most ten times the check", told <= 10 * alone, (alone, told))
+def notes_on_long_lists(hands: Hands) -> None:
+    """512 lines that deny what none of 4,096 operations is: their notes take at most ten times what the check of the script takes."""
+    shapes = "".join("@shape\nunit U%d\n" % unit + "".join("protected O%d 20\n" % place + "".join("procedure %s\n" % name for name in names) for place, names in enumerate(objects))
+                     for unit, objects in enumerate(many_operations()))
+    for what, lines in (("the same word", "deny * * MISSPELT\n" * 512), ("as many words", "".join(f"deny * * MISSPELT{number}\n" for number in range(512)))):
+        found = {}
+        for when, due in (("never", 0), ("always", 512)):
+            found[when], done = seconds_of(hands, ["check", "--notes", when], (shapes + "@list\n" + lines).encode())
+            hands.due(f"check of a long list of {what} with --notes {when}", done.returncode == 0, done)
+            told = len(re.findall(rb" names MISSPELT[0-9]*; no object has it", done.stderr))
+            hands.due(f"its notes on {what} with --notes {when}", told == due, done.stderr[-200:])
+        hands.due(f"notes on long lists of {what} take at most ten times the check", found["always"] <= 10 * found["never"], found)
+
+
+def notes_on_many_appends(hands: Hands) -> None:
+    """500 denials that are appended in a run over 4,096 operations: with notes they take at most ten times what they take without."""
+    units = "".join(f"@unit\npackage U{unit} is\n" + "".join(f"protected O{place} is\n" + "".join(f"procedure {name};\n" for name in names) + f"end O{place};\n"
+                                                                 for place, names in enumerate(objects))
+                    + f"end U{unit};\npackage body U{unit} is\n" + "".join(f"protected body O{place} is\n" + "".join(f"procedure {name} is begin null; end;\n" for name in names)
+                                                                            + f"end O{place};\n" for place, names in enumerate(objects)) + f"end U{unit};\n"
+                    for unit, objects in enumerate(many_operations()))
+    for what, line, due in (("of a word", "append deny * * MISSPELT%d\n", 500), ("of an object", "append deny U1 U1.O%d *\n", 484)):
+        script = (units + "@list\nallow * * *\n@run\n" + "".join(line % number for number in range(500)) + "quit\n").encode()
+        found = {}
+        for when in ("never", "always"):
+            found[when], done = seconds_of(hands, ["run", "--notes", when], script)
+            hands.due(f"500 denials {what} with --notes {when}", done.stdout == b"accepted 0\n" * 500 + b"entries 518\n", done.stdout[-100:])
+            told = done.stderr.count(b"warning: list line ")
+            hands.due(f"their notes with --notes {when} ({what})", told == (due if when == "always" else 0), (told, done.stderr[-200:]))
+        hands.due(f"notes on 500 denials {what} take at most ten times the denials", found["always"] <= 10 * found["never"], found)
+
+
+def shapes_of_many_lines(hands: Hands) -> None:
+    """A shape with more parts than fit is refused in a time that grows with its lines alone, and where a name stands twice that is told first."""
+    for kind, head, line in (("tasks", "", "task T%d 10\n"), ("suspension objects", "", "suspension T%d\n"), ("protected objects", "", "protected T%d 10\n"),
+                             ("procedures", "protected O 40\n", "procedure T%d\n"), ("handlers", "protected O 40\n", "handler T%d 1\n")):
+        found = []
+        for count in (40_000, 80_000):
+            script = "@shape\nunit A\n" + head + "".join(line % number for number in range(count))
+            seconds, done = seconds_of(hands, ["check"], script.encode())
+            hands.due(f"a shape of {count} {kind} is refused", (done.returncode, done.stderr) == (1, b"script line 1: shape TooMany\n"), done)
+            found.append(seconds)
+        done = hands.asked(["check"], (script + (line % 0).replace(" T0", " t0")).encode())
+        hands.due(f"{kind} with a name that stands twice", (done.returncode, done.stderr) == (1, b"script line 1: shape NameTaken\n"), done)
+        hands.due(f"shapes of {kind} grow with their lines alone", found[1] <= 3 * found[0], found)
 
 
 def many_bad_commands(hands: Hands) -> None:
     """Of 16,000 lines that are no commands each is explained by its own line: twice as many take at most three times as long."""
 
     def seconds(count: int) -> float:
-        before = os.times()
-        done = hands.asked(["run", "--explain", "--notes", "never"], b"@list\n@run\n" + b"raise 10\n" * count + b"quit\n")
-        after = os.times()
+        found, done = seconds_of(hands, ["run", "--explain", "--notes", "never"], b"@list\n@run\n" + b"raise 10\n" * count + b"quit\n")
         hands.due(f"{count} lines are answered", done.stdout == b"bad command\n" * count + b"entries 2\n", done.stdout[-100:])
         hands.due(f"{count} lines are explained", done.stderr.count(b"\n  = raise takes the number of an interrupt line, 0 .. 9\n") == count, done.stderr[-300:])
-        return after.children_user + after.children_system - before.children_user - before.children_system
+        return found
 
-    half, whole = min(seconds(8_000) for _ in range(3)), min(seconds(16_000) for _ in range(3))
+    half, whole = seconds(8_000), seconds(16_000)
     hands.due("explanations of commands grow with their number alone", whole <= 3 * half, (half, whole))
 
 
@@ -475,7 +521,7 @@ def plays_that_are_ended(hands: Hands) -> None:
 CASES: tuple[Callable[[Hands], None], ...] = (
     two_runs_on_one_file, journals_that_others_change, streams_that_are_closed, limits_on_files, wrong_command_lines, texts_that_are_sent,
     senders_at_once, wrong_sends, scripts_to_the_wrong_command, hostile_parts, parts_that_are_taken, faults_of_parts, runs_of_parts, notes_on_long_lists,
-    many_bad_commands, plays_that_are_ended)
+    notes_on_many_appends, shapes_of_many_lines, many_bad_commands, plays_that_are_ended)
 
 
 def main(words: list[str]) -> int:

@@ -4,7 +4,7 @@ use Rattle.std.specs.Prelude.{◌==◌, ◌↔◌, if◌then◌else◌, slice_ge
 use Rattle.std.specs.List.{All, Contains}
 use Rattle.std.proofs.lemmas.Bool.{cases_lt}
 use Rattle.std.proofs.lemmas.Bool.Decides.{nat_tests}
-use Rattle.std.proofs.lemmas.List.Elements.{All-push, Contains-append_left, Contains-push}
+use Rattle.std.proofs.lemmas.List.Elements.{All-push, Contains-append_left, Contains-push, Contains-push_cases}
 use Rattle.std.proofs.lemmas.Option.{slice_get-get_or, slice_get_past}
 use Rattle.rv_access.specs.Words.{Words}
 use Rattle.rv_access.specs.Lines.{line_at}
@@ -24,13 +24,25 @@ all_told : (P : Note → Type 0) (b : Bool) (note : Note) (notes : List Note) �
 all_told P true note notes p all = All-push P notes note all (p refl)
 all_told P false note notes p all = all
 
+-- notes of a number, and others
+abbrev Apart : ℕ → List Note → List Note → Type 0
+Apart number before notes = (other : Note) → Contains notes other → Contains before other ⊎ (number_of other ≡ number)
+
+one_more : (number : ℕ) (before : List Note) (b : Bool) (note : Note) (notes : List Note) → number_of note ≡ number → Apart number before notes → Apart number before (told b note notes)
+one_more number before true note notes e apart other c = by_cases (Contains-push_cases notes note other c)
+  where
+    by_cases : Contains notes other ⊎ (note ≡ other) → Contains before other ⊎ (number_of other ≡ number)
+    by_cases (inl c) = apart other c
+    by_cases (inr same) = inr (subst (λ (n : Note). number_of n ≡ number) same e)
+one_more number before false note notes e apart other c = apart other c
+
 there : (b : Bool) (note : Note) (notes : List Note) → b ≡ true → Contains (told b note notes) note
 there true note notes e = Contains-push notes note
 there false note notes e = absurd (cc)
 
 -- The line of a number
 
-line_behind : (list : List Words) (k : ℕ) → line_at list (suc k) ≡ slice_get list (suc k - 1)
+pub line_behind : (list : List Words) (k : ℕ) → line_at list (suc k) ≡ slice_get list (suc k - 1)
 line_behind list k =
     let counted : (suc k == 0) ≡ false = grind (arith, nat_tests) in
     ap (λ (b : Bool). if b then None else slice_get list (suc k - 1)) counted
@@ -75,6 +87,13 @@ adds scene list number line caller home object operation past covered one two th
       (subst (All (Due scene list)) (sym e1) (all_told (Due scene list) caller (Caller number) one (due_by caller (lacks_caller scene) tests.caller) all)))))))))));
   kept = λ note c. to_seven note (to_six note (to_five note (to_four note (to_three note (to_two note c)))));
   all = every;
+  apart =
+      subst (Apart number one) (sym e6) (one_more number one covered (Covered number) six refl
+      (subst (Apart number one) (sym e5) (one_more number one past (Past number) five refl
+      (subst (Apart number one) (sym e4) (one_more number one operation (Operation number) four refl
+      (subst (Apart number one) (sym e3) (one_more number one object (Object number) three refl
+      (subst (Apart number one) (sym e2) (one_more number one home (Home number) two refl
+      (subst (Apart number one) (sym e1) (one_more number one caller (Caller number) one refl (λ other c. inl c))))))))))));
 }
   where
     at : line_at list number ≡ Some line
@@ -155,7 +174,7 @@ pub record SoFar (scene : Scene) (list : List Words) (number : ℕ) (notes : Lis
   pub due : All (Due scene list) notes
   pub all : (note : Note) → number_of note ≤ number → Due scene list note → Contains notes note
 
-within : (list : List Words) (number : ℕ) (test : Words → Bool) → Passes list number test → (0 < number) × (number ≤ length list)
+pub within : (list : List Words) (number : ℕ) (test : Words → Bool) → Passes list number test → (0 < number) × (number ≤ length list)
 within list zero test p = absurd (no_line list test p)
 within list (suc k) test p = (omega arith, by_cases (cases_lt (length list) (suc k)))
   where
@@ -163,7 +182,7 @@ within list (suc k) test p = (omega arith, by_cases (cases_lt (length list) (suc
     by_cases (inl past) = absurd (past_lines list (suc k) test past p)
     by_cases (inr less) = less
 
-numbered : (scene : Scene) (list : List Words) (note : Note) → Due scene list note → (0 < number_of note) × (number_of note ≤ length list)
+pub numbered : (scene : Scene) (list : List Words) (note : Note) → Due scene list note → (0 < number_of note) × (number_of note ≤ length list)
 numbered scene list (Caller k) d = within list k (lacks_caller scene) d
 numbered scene list (Home k) d = within list k (lacks_home scene) d
 numbered scene list (Object k) d = within list k (lacks_object scene) d

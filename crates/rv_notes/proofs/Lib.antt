@@ -5,3 +5,4 @@ pub mod Objects
 pub mod Adding
 pub mod Changing
 pub mod Named
+pub mod Appending

@@ -1,5 +1,5 @@
 -- What is told of the lines of an access list (own).
-use Rattle.std.specs.Prelude.{◌≡◌, ◌<◌, ◌≤◌, ℕ, Bool, true, false, List, [], ◌∷◌, ◌++◌, length, Option, Some, None}
+use Rattle.std.specs.Prelude.{◌≡◌, ◌⊎◌, ◌<◌, ◌≤◌, ℕ, Bool, true, false, List, [], ◌∷◌, ◌++◌, length, Option, Some, None}
 use Rattle.std.specs.List.{All, Contains}
 use Rattle.rv_access.specs.Words.{Words}
 use Rattle.rv_access.specs.Lines.{line_at}
@@ -45,8 +45,9 @@ abbrev pub told : Bool → Note → List Note → List Note
 told true note notes = notes ++ note ∷ []
 told false note notes = notes
 
--- the notes of the line of a number came behind others
+-- the notes of the line of a number came behind others, and no more
 pub record AddsNotes (scene : Scene) (list : List Words) (number : ℕ) (before after : List Note) : Type 0 where
   pub due : All (Due scene list) before → All (Due scene list) after
   pub kept : (note : Note) → Contains before note → Contains after note
   pub all : (note : Note) → number_of note ≡ number → Due scene list note → Contains after note
+  pub apart : (note : Note) → Contains after note → Contains before note ⊎ (number_of note ≡ number)

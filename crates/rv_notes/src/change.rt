@@ -8,7 +8,7 @@ ghost use Rattle.rv_notes.specs.Telling.{TellsChange};
 ghost use Rattle.rv_notes.specs.Names.{Scene};
 ghost use Rattle.rv_access.specs.Words.{Words};
 
-use crate::judge::{notes, tell};
+use crate::judge::{notes, notes_on_last, tell};
 use crate::note::Note;
 use crate::scene::Scene;
 use crate::telling::put_notes;
@@ -100,8 +100,25 @@ pub fn denies(change: &Change) -> bool
     }
 }
 
-// The notes on a change that makes this list.
+// The notes on a change that makes this list. A line that is appended, and denies, brings notes on itself alone: what stood before it is as
+// it was, and what it covers it covers on purpose.
 fn notes_made(
+    alloc: Global,
+    scene: &Scene<'_>,
+    before: &AccessList,
+    after: &AccessList,
+    change: &Change,
+) -> Result<Vec<Note>, AllocError>
+    ensures { Some after.now ≡ made before.now change.now → IfOk result (λ notes. AreChangeNotes scene.now before.now change.now notes.items) }
+{
+    match change {
+        Change::Append(line) if !line.allows() => notes_on_last(alloc, scene, after),
+        _ => notes_compared(alloc, scene, before, after, change),
+    }
+}
+
+// The notes on any change that makes this list: those on the one list, but for those on the other.
+fn notes_compared(
     alloc: Global,
     scene: &Scene<'_>,
     before: &AccessList,

@@ -1,6 +1,6 @@
 //! The notes on a list.
 
-ghost use Rattle.std.specs.Prelude.{◌≡◌, ◌<◌, ◌≤◌, length, IfOk, OnOk};
+ghost use Rattle.std.specs.Prelude.{◌≡◌, ◌<◌, ◌≤◌, [], length, IfOk, OnOk};
 ghost use Rattle.rv_notes.specs.Notes.{AddsNotes, AreNotes, told};
 
 use crate::covered::{has_ended, is_covered};
@@ -46,6 +46,23 @@ fn add_notes(
     tell(notes, past, Note::Past(number))?;
     tell(notes, covered, Note::Covered(number))?;
     Ok(())
+}
+
+/// The notes on the last line of a list, if it has one. Err where memory was refused.
+pub(crate) fn notes_on_last(
+    alloc: Global,
+    scene: &Scene<'_>,
+    list: &AccessList,
+) -> Result<Vec<Note>, AllocError>
+    ensures { 0 < length list.now
+        → IfOk result (λ notes. AddsNotes scene.now list.now (length list.now) [] notes.items) }
+{
+    let mut notes = Vec::new(alloc);
+    let last = list.len();
+    if last > 0 {
+        add_notes(alloc, scene, list, last, &mut notes)?;
+    }
+    Ok(notes)
 }
 
 /// The notes on a list over units, at a tick, in the order of its lines: each that is due, and no other. Err where

@@ -103,12 +103,25 @@ fn count_missing(word: &str, name: &str) -> usize {
     missing
 }
 
-// Whether a name may be near to a word. This is quickly told, and spares most names the table of edits.
-fn may_be_near(word: &str, name: &str) -> bool {
+// The bytes that a word has, each as one of 64 bits, case of ASCII letters ignored. Two bytes may share a bit.
+fn bits_of(word: &str) -> u64 {
+    let mut bits: u64 = 0;
+    for byte in word.as_bytes() {
+        bits |= 1 << (byte.to_ascii_lowercase() & 63);
+    }
+    bits
+}
+
+// Whether a name may be near to a word that has these bits. This is quickly told, and spares most names the table of edits.
+fn may_be_near(word: &str, bits: u64, name: &str) -> bool {
     let most = word.len() / 3;
-    word.len() <= name.len().saturating_add(most)
-        && name.len() <= word.len().saturating_add(most)
-        && count_missing(word, name) <= most
+    if word.len() > name.len().saturating_add(most)
+        || name.len() > word.len().saturating_add(most)
+    {
+        return false;
+    }
+    let missing = (bits & !bits_of(name)).count_ones() as usize;
+    missing <= most && count_missing(word, name) <= most
 }
 
 // The name that is nearest to a word, among the first of those that may be near. Err where memory was refused.
@@ -117,9 +130,10 @@ fn nearest_of<'a>(
     word: &str,
     names: &[&'a str],
 ) -> Result<Option<&'a str>, AllocError> {
+    let bits = bits_of(word);
     let mut candidates = Vec::new(alloc);
     for name in names {
-        if candidates.len() < MOST_CANDIDATES && may_be_near(word, *name) {
+        if candidates.len() < MOST_CANDIDATES && may_be_near(word, bits, *name) {
             candidates.push(*name)?;
         }
     }

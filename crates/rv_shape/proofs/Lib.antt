@@ -8,3 +8,4 @@ pub mod Faultless
 pub mod Added
 pub mod FitsLemmas
 pub mod FoundByName
+pub mod Again

@@ -1,10 +1,8 @@
-use Rattle.std.proofs.Common.{sym, subst}
-use Rattle.rv_notes.specs.Notes.{AreNotes}
-use Rattle.rv_notes.proofs.Changing.{change_told}
+use Rattle.std.proofs.Common.{◌∙◌, sym}
+use Rattle.rv_notes.proofs.Appending.{denial_told}
 use Rattle.rv_notes.proofs.change.notes_made.Goals as goal
 
-pub returns : goal.returns
-returns c = λ list.
-    let old : AreNotes c.args.scene.now c.args.before.now c.as_slice.result.now = subst (AreNotes c.args.scene.now c.args.before.now) (sym c.as_slice.ensures.value) c.in_ok-old.ensures in
-    let new : AreNotes c.args.scene.now c.args.after.now c.as_slice-2.result.now = subst (AreNotes c.args.scene.now c.args.after.now) (sym c.as_slice-2.ensures.value) c.in_ok-new.ensures in
-    change_told c.args.scene.now c.args.before.now c.args.change.now c.args.after.now (λ (v : _). v.items) c.line_changed.result c.denies.result list c.line_changed.ensures c.denies.ensures c.new_ones.result (c.new_ones.ensures c.args.scene.now c.args.before.now c.args.after.now old new)
+pub returns-in-Append : goal.returns-in-Append
+returns-in-Append c = λ same.
+    denial_told c.args.scene.now c.args.before.now c.args.change.now c.in-Append.line c.args.after.now (λ (v : _). v.items) c.in-Append.is
+    (sym c.allows.ensures ∙ c.if-not-allows.true) same c.notes_on_last.result c.notes_on_last.ensures
