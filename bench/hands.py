@@ -454,10 +454,10 @@ def shapes_of_many_lines(hands: Hands) -> None:
         for count in (40_000, 80_000):
             script = "@shape\nunit A\n" + head + "".join(line % number for number in range(count))
             seconds, done = seconds_of(hands, ["check"], script.encode())
-            hands.due(f"a shape of {count} {kind} is refused", (done.returncode, done.stderr) == (1, b"script line 1: shape TooMany\n"), done)
+            hands.due(f"a shape of {count} {kind} is refused", done.returncode == 1 and done.stderr.endswith(b"script line 1: shape TooMany\n"), done)
             found.append(seconds)
         done = hands.asked(["check"], (script + (line % 0).replace(" T0", " t0")).encode())
-        hands.due(f"{kind} with a name that stands twice", (done.returncode, done.stderr) == (1, b"script line 1: shape NameTaken\n"), done)
+        hands.due(f"{kind} with a name that stands twice", done.returncode == 1 and done.stderr.endswith(b"script line 1: shape NameTaken\n"), done)
         hands.due(f"shapes of {kind} grow with their lines alone", found[1] <= 3 * found[0], found)
 
 
