@@ -1,5 +1,5 @@
 -- The frames that stand on a machine's stack (own).
-use Rattle.std.specs.Prelude.{◌≤◌, ◌<◌, ◌+◌, ℕ, pos, List, [], ◌∷◌, reverse, map, length, replicate, false, Option, Some, None}
+use Rattle.std.specs.Prelude.{◌≡◌, ◌≤◌, ◌<◌, ◌+◌, ℕ, pos, List, [], ◌∷◌, reverse, map, length, replicate, false, Option, Some, None}
 use Rattle.rv_code.specs.Bodies.{Body}
 use Rattle.rv_exec.specs.declared.activation.Activation.{Activation}
 use Rattle.rv_exec.specs.Activations.{opened}
@@ -101,6 +101,10 @@ waiting stack = reverse stack.frames.items.items
 
 abbrev pub set_aside : Stack → List Activation
 set_aside stack = reverse stack.activations.items.items
+
+-- nothing waits on it
+abbrev pub IsEmpty : Stack → Type 0
+IsEmpty stack = (waiting stack ≡ []) × (set_aside stack ≡ [])
 
 -- what waits on a stack, by the bodies of a unit
 abbrev pub below : FlatUnit → Stack → List Frame

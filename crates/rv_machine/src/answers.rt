@@ -119,6 +119,7 @@ impl Machine {
         ensures answered { stands unit.now self.new ≡ answered (stands unit.now self.old) answer }
         ensures less { left unit.now self.new < left unit.now self.old }
         ensures fits { Fits unit.now self.new }
+        ensures kept { room self.new.stack ≡ room self.old.stack }
     {
         let point = self.point;
         self.answer_at(unit, point, answer);

@@ -6,6 +6,7 @@ ghost use Rattle.rv_exec.specs.Blocks.{operation_run_at};
 ghost use Rattle.rv_flat.specs.FlatUnits.{flat_view};
 ghost use Rattle.rv_frames.specs.Frames.{exit};
 ghost use Rattle.rv_machine.specs.Machines.{stands, Fits, IsFor};
+ghost use Rattle.rv_machine.specs.Stacks.{room};
 
 use crate::calls::{begun, inner, no_activation};
 use crate::frame::EndFrame;
@@ -35,6 +36,7 @@ impl Machine {
         requires { IsFor unit.now stack }
         ensures stands { stands unit.now result ≡ and_then (operation_run_at (flat_view unit.now) held object number values components) (exit ended) }
         ensures fits { Fits unit.now result }
+        ensures kept { room result.stack ≡ room stack }
     {
         let setting = of_operation(held, object);
         let mut frames = stack;

@@ -23,6 +23,7 @@ pub mod pile;
 pub mod point;
 mod returns;
 mod running;
+pub mod runs;
 pub mod select;
 pub mod stack;
 mod stacking;

@@ -2,7 +2,7 @@
 
 ghost use Rattle.std.specs.Prelude.{◌≡◌, ◌≤◌, ◌<◌, [], IsTrue, IsFalse, Some, None, true};
 ghost use Rattle.rv_machine.specs.Machines.{stands, left, question, comes_in, is_coming, final_at, Fits, OnAsks, OnEnded, AsksNow, EndsNow};
-ghost use Rattle.rv_machine.specs.Stacks.{waiting, set_aside};
+ghost use Rattle.rv_machine.specs.Stacks.{waiting, set_aside, room, IsEmpty};
 
 use crate::machine::Machine;
 use crate::point::{Point, Step};
@@ -110,6 +110,8 @@ impl Machine {
         ensures ended { OnEnded result (λ how. EndsNow (stands unit.now self.new) how) }
         ensures left { left unit.now self.new ≤ left unit.now self.old }
         ensures fits { Fits unit.now self.new }
+        ensures kept { room self.new.stack ≡ room self.old.stack }
+        ensures empty { OnEnded result (λ how. IsEmpty self.new.stack) }
     {
         'moves: loop {
             if self.rests() {

@@ -4,6 +4,7 @@ ghost use Rattle.std.specs.Prelude.{◌≡◌};
 ghost use Rattle.rv_exec.specs.Asking.{Ran};
 ghost use Rattle.rv_frames.specs.Frames.{Now};
 ghost use Rattle.rv_machine.specs.Machines.{stands, final_of, Fits};
+ghost use Rattle.rv_machine.specs.Stacks.{room, IsEmpty};
 
 use crate::machine::Machine;
 use crate::next::{Final, Next};
@@ -14,7 +15,9 @@ impl Machine {
     /// Runs to its end by the outside's answers, and says how it ended. It takes no memory.
     pub fn run<R, O: Outward<R>>(&mut self, unit: &FlatUnit, runtime: &R, outward: &mut O) -> Final
         requires { Fits unit.now self.old }
-        ensures { (now : Now) × Ran O.went outward.old (stands unit.now self.old) outward.new now × (result ≡ final_of now) }
+        ensures kept { room self.new.stack ≡ room self.old.stack }
+        ensures empty { IsEmpty self.new.stack }
+        ensures ran { (now : Now) × Ran O.went outward.old (stands unit.now self.old) outward.new now × (result ≡ final_of now) }
     {
         'requests: loop {
             match self.next(unit) {

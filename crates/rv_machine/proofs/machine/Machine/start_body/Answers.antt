@@ -63,3 +63,6 @@ returns-in-None-clause-fits c =
     (body_missing_low c.args.unit.now c.of_operation-setting.result (closes (Err (cause.Raised ProgramError)) c.args.components 100000) (below c.args.unit.now c.args.stack) (below c.args.unit.now c.push_exiting.new.self)
     (nothing_waits c.args.unit.now c.args.stack c.requires.empty c.requires.alone)
     (exiting_on c.args.unit.now c.args.stack c.push_exiting.new.self c.push_exiting.ensures.frames c.push_exiting.ensures.activations))
+
+pub returns-in-Some-clause-kept : goal.returns-in-Some-clause-kept
+returns-in-Some-clause-kept c = c.push_end-in-Some.ensures.kept ∙ (c.push_end.ensures.kept ∙ c.push_exiting.ensures.kept)
