@@ -7,6 +7,7 @@ ghost use Rattle.rv_crew.specs.Hiring.{hired};
 mod actuator;
 mod hands;
 mod host_caller;
+mod panel;
 mod plant;
 mod sensor;
 
@@ -41,5 +42,7 @@ fn main(rt: HostRuntime) -> io::Result<()> {
     println!(rt; "# A plain host")?;
     host_caller::play(&rt)?;
     println!(rt; "# A plant on threads")?;
-    plant::play(&rt, &hands)
+    plant::play(&rt, &hands)?;
+    println!(rt; "# A panel of another process")?;
+    panel::play(&rt)
 }

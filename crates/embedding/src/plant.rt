@@ -63,6 +63,7 @@ end Plant;
 const DEVICES: &str = "unit Devices
 task Sensor 15
 task Valve 15
+task Panel 15
 ";
 
 const LIST: &str = "allow Devices Plant.Tank *
@@ -81,8 +82,8 @@ fn load<R: Wait>(rt: &R, alloc: Global, control: &mut Control) -> Option<()> {
     Some(())
 }
 
-// The port of a task, by its name.
-fn port_of(control: &mut Control, task: &str) -> Option<Port>
+/// The port of a task, by its name.
+pub fn port_of(control: &mut Control, task: &str) -> Option<Port>
     ensures given { IfSome result (λ port. port.turn ≡ control.new.turn) }
     ensures turn { control.new.turn ≡ control.old.turn }
 {
@@ -175,8 +176,8 @@ fn run<R: Threads + Wait + AllocGlobal>(
     Some((sent, close(rt, crew, control)?))
 }
 
-// The control of a new host with the tank and its devices.
-fn loaded<R: Wait>(rt: &R, alloc: Global) -> Option<Control> {
+/// The control of a new host with the tank and its devices.
+pub fn loaded<R: Wait>(rt: &R, alloc: Global) -> Option<Control> {
     let mut control = Control::of_new(alloc, CAPACITY, QUEUE)?;
     load(rt, alloc, &mut control)?;
     Some(control)
