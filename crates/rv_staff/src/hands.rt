@@ -9,7 +9,9 @@ use crate::hires::Hires;
 use crate::work::Work;
 use rv_crew::crew::Crew;
 use rv_crew::hiring::HireFault;
+use rv_pipes::{Ender, Pipes};
 use rv_port::port::Port;
+use rv_shape::actor::Actor;
 
 /// Starts threads by a closure of `main`, which boxes their jobs.
 #[derive(Drop)]
@@ -26,5 +28,9 @@ impl Hires for Hands {
         ensures { crew.new ≡ hired crew.old port result }
     {
         (self.begin)(crew, port, work)
+    }
+
+    fn pipes_of(&self, _who: &Actor<'_>) -> Option<(Pipes, Ender)> {
+        None
     }
 }

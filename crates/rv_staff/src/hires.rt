@@ -6,11 +6,16 @@ ghost use Rattle.rv_crew.specs.Hiring.{hired};
 use crate::work::Work;
 use rv_crew::crew::Crew;
 use rv_crew::hiring::HireFault;
+use rv_pipes::{Ender, Pipes};
 use rv_port::port::Port;
+use rv_shape::actor::Actor;
 
 /// Starts the threads of a crew. Their jobs are boxed where the runtime is, in `main`.
 pub trait Hires {
     /// Starts a thread that does the work of a port's actor.
     fn hire(&self, crew: &mut Crew, port: Port, work: Work) -> Result<(), HireFault>
         ensures { crew.new ≡ hired crew.old port result };
+
+    /// The pipes of a task that belongs to another process, and what ends its requests; none of another task. They are given once.
+    fn pipes_of(&self, who: &Actor<'_>) -> Option<(Pipes, Ender)>;
 }

@@ -8,6 +8,7 @@ use crate::staff::Staff;
 use crossbeam_channel::Sender;
 use rv_crew::crew::Closed;
 use rv_crew::notice::Notice;
+use rv_pipes::Ender;
 use rv_port::control::Control;
 use std::alloc::Global;
 use std::sync::Wait;
@@ -41,6 +42,8 @@ pub struct Session {
     pub staff: Staff,
     /// The lines that have a thread.
     pub(crate) channels: Vec<LineChannel>,
+    /// What ends the requests of tasks that belong to other processes.
+    pub(crate) enders: Vec<Ender>,
     /// The devices that were loaded.
     pub devices: Vec<DeviceJob>,
     /// How many requests a task's own body may make.
@@ -58,11 +61,19 @@ impl Drop for Session {
             alloc: _,
             staff: _,
             channels: _,
+            enders: _,
             devices: _,
             budget: _,
             capacity: _,
             notices: _,
         } = self;
+    }
+}
+
+// Ends the requests of tasks that belong to other processes.
+fn end_each<R: Wait>(rt: &R, enders: &[Ender]) {
+    for ender in enders {
+        ender.end(rt);
     }
 }
 
@@ -84,6 +95,7 @@ impl Session {
             alloc,
             staff: Staff::new(alloc, control),
             channels: Vec::new(alloc),
+            enders: Vec::new(alloc),
             devices,
             budget,
             capacity,
@@ -91,8 +103,8 @@ impl Session {
         }
     }
 
-    /// Halts the host, closes the channels of its lines and joins its threads, which have to end then. Gives the host, and
-    /// the actors whose ports were lost; none where memory was refused.
+    /// Closes the channels of its lines, ends the requests of other processes, halts the host and joins its threads, which have to
+    /// end then. Gives the host, and the actors whose ports were lost; none where memory was refused.
     pub fn end<R: Threads + Wait>(self, rt: &R) -> Option<Closed>
         ensures { IfSome result (Ended self.staff) }
     {
@@ -100,12 +112,14 @@ impl Session {
             alloc: _,
             staff,
             channels,
+            enders,
             devices: _,
             budget: _,
             capacity: _,
             notices: _,
         } = self;
         drop(channels);
+        end_each(rt, enders.as_slice());
         staff.end(rt)
     }
 }

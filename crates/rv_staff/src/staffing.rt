@@ -13,6 +13,7 @@ use crate::work::Work;
 use crossbeam_channel::{Sender, unbounded};
 use rv_crew::hiring::HireFault;
 use rv_crew::notice::Notice;
+use rv_pipes::{Ender, Pipes};
 use rv_port::fault::PortFault;
 use rv_port::port::Port;
 use rv_shape::actor::FIRST_TASK;
@@ -71,6 +72,50 @@ fn hire_line<H: Hires>(
     }
 }
 
+// A thread for a task that belongs to another process, with the names of what is loaded by now.
+fn hire_lines<H: Hires>(
+    hires: &H,
+    session: &mut Session,
+    pipes: Pipes,
+    ender: Ender,
+    port: Port,
+) -> Result<(), HireFault>
+    requires { port.turn ≡ session.old.staff.control.turn }
+    ensures { session.new.staff ≡ record session.old.staff { crew = hired session.old.staff.crew port result } }
+{
+    if session.enders.reserve(1).is_err() {
+        return session.staff.give_up(port);
+    }
+    let Ok(names) = session.staff.catalogue().copy(session.alloc) else {
+        return session.staff.give_up(port);
+    };
+    let work = Work::Lines(session.alloc, pipes, names);
+    match session.staff.hire(hires, port, work) {
+        Ok(()) => {
+            session.enders.push_reserved(ender);
+            Ok(())
+        }
+        Err(fault) => Err(fault),
+    }
+}
+
+// A thread for a task on its port.
+fn hire_task<H: Hires>(
+    hires: &H,
+    session: &mut Session,
+    actor: usize,
+    port: Port,
+) -> Result<(), HireFault>
+    requires { port.turn ≡ session.old.staff.control.turn }
+    ensures { session.new.staff ≡ record session.old.staff { crew = hired session.old.staff.crew port result } }
+{
+    if let Some((pipes, ender)) = hires.pipes_of(&session.staff.catalogue().who(actor)) {
+        return hire_lines(hires, session, pipes, ender, port);
+    }
+    let work = work_of(session, actor);
+    session.staff.hire(hires, port, work)
+}
+
 // A thread for an actor on its port.
 fn hire<H: Hires>(
     hires: &H,
@@ -84,8 +129,7 @@ fn hire<H: Hires>(
     if actor < FIRST_TASK {
         return hire_line(hires, session, actor.saturating_sub(1) as u8, port);
     }
-    let work = work_of(session, actor);
-    session.staff.hire(hires, port, work)
+    hire_task(hires, session, actor, port)
 }
 
 // Says why an actor has no thread, if it should have one.

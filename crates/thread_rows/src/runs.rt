@@ -18,9 +18,11 @@ use row_files::names_before;
 use rv_crew::crew::Crew;
 use rv_crew::hiring::HireFault;
 use rv_fault::Failure;
+use rv_pipes::{Ender, Pipes};
 use rv_port::port::Port;
 use rv_run::outputs::Outputs;
 use rv_run::run::run;
+use rv_shape::actor::Actor;
 use rv_staff::{Hires, Work};
 use std::alloc::Global;
 use std::cell::RefCell;
@@ -36,6 +38,10 @@ impl Hires for Hands {
         ensures { crew.new ≡ hired crew.old port result }
     {
         self.start(crew, port, Role::Work(work))
+    }
+
+    fn pipes_of(&self, _who: &Actor<'_>) -> Option<(Pipes, Ender)> {
+        None
     }
 }
 

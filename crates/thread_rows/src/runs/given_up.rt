@@ -5,9 +5,11 @@ ghost use Rattle.rv_crew.specs.Hiring.{hired};
 
 use rv_crew::crew::Crew;
 use rv_crew::hiring::{HireFault, give_up};
+use rv_pipes::{Ender, Pipes};
 use rv_port::port::Port;
 use rv_run::outputs::Outputs;
 use rv_run::run::run;
+use rv_shape::actor::Actor;
 use rv_staff::{Hires, Work};
 use std::alloc::Global;
 use std::sync::Wait;
@@ -37,6 +39,10 @@ impl Hires for NoThreads {
         ensures { crew.new ≡ hired crew.old port result }
     {
         give_up(crew, port)
+    }
+
+    fn pipes_of(&self, _who: &Actor<'_>) -> Option<(Pipes, Ender)> {
+        None
     }
 }
 
