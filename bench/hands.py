@@ -480,6 +480,7 @@ def ended_play(hands: Hands, words: list[str], lines: int, how: signal.Signals |
 
     def at_that_terminal() -> None:
         os.setsid()
+        signal.signal(signal.SIGINT, signal.SIG_DFL)  # (a bench in the background has it ignored)
         fcntl.ioctl(far, termios.TIOCSCTTY, 0)
 
     with subprocess.Popen([hands.launcher, *words], cwd=hands.folder, stdin=far, stdout=subprocess.PIPE, stderr=subprocess.DEVNULL, preexec_fn=at_that_terminal) as play:
