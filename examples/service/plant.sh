@@ -16,13 +16,14 @@
 # Status 0: it was ended. 1: the script was refused, or is cut off, so that it lacks its line @run and nothing was started. 5: it ended by
 # itself, since its journal has no room left.
 set -u
+unset CDPATH
 here=$(dirname "$(readlink -f "${BASH_SOURCE[0]}")")
 script=
 if [ -n "${2:-}" ]; then
     if [ ! -f "$2" ] || [ ! -r "$2" ]; then echo "plant.sh: $2 can't be read" >&2 && exit 4; fi
     script=$(readlink -f "$2")
 fi
-cd "${1:-${STATE_DIRECTORY:-.}}" || exit 4
+cd -- "${1:-${STATE_DIRECTORY:-.}}" || exit 4
 date=$(date +%Y%m%dT%H%M%S)
 
 # A copy of the script, up to its line @run, beside the journal that it is to be judged with; the commands behind it come by the pipe.
