@@ -239,7 +239,7 @@ def wrong_sends(hands: Hands) -> None:
         done = hands.sent(*words)
         hands.due(f"send {words} is usage", (done.returncode, done.stdout, done.stderr) == (2, b"", SEND), done)
     for words, status, why in ((("mute", "tick 1\nquit"), 2, "a command is one line, and a word here has a line feed"), (("nowhere", "quit"), 4, "nowhere is no named pipe"),
-                               (("text", "quit"), 4, "text is no named pipe"), ((".", "quit"), 4, ". is no named pipe"), (("mute", "load", "nowhere"), 4, "nowhere can't be read"),
+                               (("text", "quit"), 4, "text is no named pipe"), ((".", "quit"), 4, ". is no named pipe"), (("mute", "load", "nowhere"), 4, "nowhere can't be read: No such file or directory"),
                                (("mute", "load", "."), 4, ". is a folder"), (("mute", "quit"), 4, "nobody reads mute; nothing is sent"),
                                (("mute", "load", text), 4, "nobody reads mute; nothing is sent")):
         begun = time.monotonic()

@@ -23,7 +23,8 @@ if [ -n "${2:-}" ]; then
     if [ ! -f "$2" ] || [ ! -r "$2" ]; then echo "plant.sh: $2 can't be read" >&2 && exit 4; fi
     script=$(readlink -f "$2")
 fi
-cd -- "${1:-${STATE_DIRECTORY:-.}}" || exit 4
+folder=${1:-${STATE_DIRECTORY:-.}}
+cd -- "$folder" 2>/dev/null || { echo "plant.sh: the folder $folder can't be entered" >&2 && exit 4; }
 date=$(date +%Y%m%dT%H%M%S)
 
 # A copy of the script, up to its line @run, beside the journal that it is to be judged with; the commands behind it come by the pipe.
