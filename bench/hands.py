@@ -7,7 +7,7 @@ Two runs on one journal; a journal that others cut off, remove or replace; stand
 start; a limit on the size of files; a journal's file that a wrong command line would leave behind; texts that are sent to a run, and
 hold commands, are cut short or large, by several senders at once; scripts that are named to the wrong command; notes on long lists, and on
 many changes of one; shapes of more lines than fit; parts of a script in files of their own that hold sections, are cut short or refused;
-plays that never end, and are ended by signals and Ctrl-C. It needs flock, and a program: the proved one or the trial that is kept. Where
+plays that never end, and are ended by signals and Ctrl-C; words that the launcher alone takes. It needs flock, and a program: the proved one or the trial that is kept. Where
 ravenreview isn't there, its questions aren't asked.
 """
 import contextlib
@@ -519,10 +519,38 @@ def plays_that_are_ended(hands: Hands) -> None:
                 hands.due(f"{named}, has all that was written", said.count(b"\n") >= lines, (said.count(b"\n"), lines))
 
 
+def words_of_the_launcher(hands: Hands) -> None:
+    """Help of the words that the launcher adds, a FILE of a question, a service's folder, and what is told of a new plant."""
+    for word in ("send", "new", "waits", "who"):
+        for asks, status in (("manual", 0), ("help", 2)):
+            seen = of_parts(hands, [asks, word])
+            told = seen[1] if asks == "manual" else seen[2]
+            hands.due(f"{asks} {word}", seen[0] == status and told.startswith(b"  " + word.encode()) and seen[1 if asks == "help" else 2] == b"", seen)
+    for words in (["manual", "send"], ["--version"], ["manual"]):
+        done = hands.asked(words, b"", streams=">/dev/full")
+        hands.due(f"{words} on a full output", (done.returncode, done.stderr) == (4, b"ravenhost: standard output can't be written\n"), done)
+    hands.file("journal", b"1 operator load A -> accepted 0\n")
+    hands.file("units", b"@unit\n" + small_unit("A"))
+    if hands.has_review():
+        for words, due in ((["hits", "units", "--journal", "journal"], 0), (["state", "1", "--journal=journal", "units"], 0), (["waits", "--journal", "journal", "nowhere"], 4),
+                           (["waits", "--journal", "journal", "."], 4), (["waits", "--journal", "journal", "units", "units"], 2)):
+            seen = of_parts(hands, words)
+            hands.due(f"{words} ends with {due}", seen[0] == due and (due == 0) == (seen[2] == b""), seen)
+        told = at_terminal(hands, ["waits", "--journal", "journal", hands.file("listed", b"@unit\n" + small_unit("A") + b"@list\n")])
+        hands.due("a question is told how to pass over a list", b"listed has @list, which a question about a journal doesn't take: with --script" in told, told)
+    seen = of_parts(hands, ["new", "plant/of/mine"])
+    hands.due("new says which folder there isn't", seen == (4, b"", b"ravenhost: there is no folder plant/of\n"), seen)
+    done = hands.asked(["new", str(hands.folder / "cut")], b"", before="ulimit -f 0;")
+    hands.due("a new plant that can't be written leaves nothing", done.returncode == 4 and not (hands.folder / "cut").exists(), done)
+    service = subprocess.run([TOP / "examples" / "service" / "plant.sh", "elsewhere"], cwd=hands.folder, env={"PATH": os.environ["PATH"], "CDPATH": str(hands.folder.parent)},
+                             stdin=subprocess.DEVNULL, capture_output=True, timeout=SECONDS, check=False)
+    hands.due("a service says which folder it can't enter", (service.returncode, service.stderr) == (4, b"plant.sh: the folder elsewhere can't be entered\n"), service)
+
+
 CASES: tuple[Callable[[Hands], None], ...] = (
     two_runs_on_one_file, journals_that_others_change, streams_that_are_closed, limits_on_files, wrong_command_lines, texts_that_are_sent,
     senders_at_once, wrong_sends, scripts_to_the_wrong_command, hostile_parts, parts_that_are_taken, faults_of_parts, runs_of_parts, notes_on_long_lists,
-    notes_on_many_appends, shapes_of_many_lines, many_bad_commands, plays_that_are_ended)
+    notes_on_many_appends, shapes_of_many_lines, many_bad_commands, plays_that_are_ended, words_of_the_launcher)
 
 
 def main(words: list[str]) -> int:
