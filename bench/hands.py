@@ -540,8 +540,8 @@ def words_of_the_launcher(hands: Hands) -> None:
         hands.due("a question is told how to pass over a list", b"listed has @list, which a question about a journal doesn't take: with --script" in told, told)
     seen = of_parts(hands, ["new", "plant/of/mine"])
     hands.due("new says which folder there isn't", seen == (4, b"", b"ravenhost: there is no folder plant/of\n"), seen)
-    done = hands.asked(["new", str(hands.folder / "cut")], b"", before="ulimit -f 0;")
-    hands.due("a new plant that can't be written leaves nothing", done.returncode == 4 and not (hands.folder / "cut").exists(), done)
+    done = hands.asked(["new", str(hands.folder / "cut plant")], b"", before="ulimit -f 0;")
+    hands.due("a new plant that can't be written leaves nothing", done.returncode == 4 and not (hands.folder / "cut plant").exists(), done)
     service = subprocess.run([TOP / "examples" / "service" / "plant.sh", "elsewhere"], cwd=hands.folder, env={"PATH": os.environ["PATH"], "CDPATH": str(hands.folder.parent)},
                              stdin=subprocess.DEVNULL, capture_output=True, timeout=SECONDS, check=False)
     hands.due("a service says which folder it can't enter", (service.returncode, service.stderr) == (4, b"plant.sh: the folder elsewhere can't be entered\n"), service)
