@@ -154,6 +154,22 @@ for script in "$here"/examples/*.raven "$here"/bench/review/*.raven; do
         differs "explain_refused_$name: $(diff "$work/said" "$here/bench/review/explain_refused_$name" | head -n 3)"
 done
 
+# Each journal as lines of JSON, of which its bytes can be made again.
+for script in "$here"/examples/*.raven "$here"/bench/review/*.raven; do
+    name=$(basename "$script" .raven)
+    "$host" play <"$script" >/dev/null 2>&1 || continue
+    play "$script"
+    "$review" export --journal "$work/journal" <"$work/units" >"$work/lines" || differs "export of $name"
+    "$review" export <"$work/whole" | cmp -s - "$work/lines" || differs "export of $name in a section"
+    python3 "$here/bench/review/journal_of.py" <"$work/lines" | cmp -s - "$work/journal" ||
+        differs "export of $name: the journal can't be made of it again"
+done
+play "$here/bench/review/waiting.raven"
+asked=export
+expect 0 export --journal "$work/journal" <"$work/units"
+sed 's/accepted 0$/accepted 1/' "$work/journal" >"$work/wrong"
+expect 1 waits_not_legal --journal "$work/wrong" <"$work/units"
+
 # The plant of the examples: a call that waits and is handed over, the end that does that, a call that still waits, and one that is refused.
 cat "$here/examples/new/plant.raven" "$here/examples/new/steps.raven" >"$work/plant.raven"
 play "$work/plant.raven"

@@ -21,7 +21,7 @@ BESIDE = ("--script", *REPEATED)
 # The commands that take parts of a script, and the questions about a journal, which have the flags beside them.
 COMPOSING = ("play", "check", "run", "audit")
 QUESTIONS = {"refusals": ("since", "by", "of"), "waits": ("since", "by", "of"), "access": ("against", "by", "of"), "who": (), "hits": ("since", "by", "of"), "whatif": ("since", "by", "of"),
-             "state": (), "explain": (), "timeline": ("by", "of", "from", "to", "text", "svg")}
+             "state": (), "explain": (), "timeline": ("by", "of", "from", "to", "text", "svg"), "export": ()}
 
 # Commands that a run is sent.
 SENT = "append remove replace tick halt journal raise load quit"

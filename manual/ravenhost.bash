@@ -38,12 +38,13 @@ _ravenhost_launcher_flags() {
         state) echo "--journal --torn --script --host --shape --unit --list" ;;
         explain) echo "--journal --torn --script --host --shape --unit --list" ;;
         timeline) echo "--journal --torn --by --of --from --to --text --svg --script --host --shape --unit --list" ;;
+        export) echo "--journal --torn --script --host --shape --unit --list" ;;
     esac
 }
 
 # The subcommands that the launcher adds, and the commands of a run that one of them sends.
 _ravenhost_launcher_subcommands() {
-    echo "new send refusals waits access who hits whatif state explain timeline"
+    echo "new send refusals waits access who hits whatif state explain timeline export"
 }
 _ravenhost_sent() {
     echo "append remove replace tick halt journal raise load quit"
@@ -88,6 +89,7 @@ _ravenhost_word() {
         hits) echo "files" ;;
         whatif) echo "files" ;;
         timeline) echo "files" ;;
+        export) echo "files" ;;
     esac
 }
 

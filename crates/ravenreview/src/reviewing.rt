@@ -8,9 +8,9 @@ use rv_access::AccessList;
 use rv_fault::Failure;
 use rv_inquiry::inquiry::{From, Inquiry, Question};
 use rv_review::{
-    Audited, Filter, Nobody, Since, explain, explain_file, hits, hits_file, refusals,
-    refusals_file, rights, rights_file, state, state_file, timeline, timeline_file, waits,
-    waits_file, what_if, what_if_file,
+    Audited, Filter, Nobody, Since, explain, explain_file, export, export_file, hits, hits_file,
+    refusals, refusals_file, rights, rights_file, state, state_file, timeline, timeline_file,
+    waits, waits_file, what_if, what_if_file,
 };
 use std::alloc::Global;
 use std::fs;
@@ -90,6 +90,7 @@ fn said<I: Read, W: Write>(
         Question::State => state(alloc, reader, writer, entry_of(asked)),
         Question::Explain => explain(alloc, reader, writer, entry_of(asked)),
         Question::Timeline => timeline(alloc, reader, writer, wish_of(asked, filter)),
+        Question::Export => export(alloc, reader, writer),
     }
 }
 
@@ -134,6 +135,7 @@ fn said_of_file<I: Read, J: Read, W: Write>(
             let wish = wish_of(asked, filter);
             timeline_file(alloc, reader, journal, torn, watch, writer, wish)
         }
+        Question::Export => export_file(alloc, reader, journal, torn, watch, writer),
     }
 }
 

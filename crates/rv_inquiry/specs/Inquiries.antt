@@ -73,6 +73,9 @@ what_if_app = with_rule (filtered_app (codes "whatif")) (needed_rule (codes "lis
 abbrev pub timeline_app : App
 timeline_app = with_forms (with_span (with_filter (with_journal (new_app (codes "timeline")))))
 
+abbrev pub export_app : App
+export_app = with_journal (new_app (codes "export"))
+
 -- the name by which each question is asked
 abbrev pub name_of : Question → Text
 name_of Questions.Refusals = codes "refusals"
@@ -84,6 +87,7 @@ name_of Questions.Explain = codes "explain"
 name_of Questions.Hits = codes "hits"
 name_of Questions.WhatIf = codes "whatif"
 name_of Questions.Timeline = codes "timeline"
+name_of Questions.Export = codes "export"
 
 -- the program, of which one subcommand must be named
 abbrev pub versioned : App
@@ -101,8 +105,11 @@ of_rights = with_subcommand (with_subcommand of_entries access_app.top) who_app.
 abbrev pub of_lines : App
 of_lines = with_subcommand (with_subcommand of_rights (filtered_app (codes "hits")).top) what_if_app.top
 
+abbrev pub of_one : App
+of_one = with_subcommand (with_subcommand (with_subcommand of_lines (entry_app (codes "state")).top) (entry_app (codes "explain")).top) timeline_app.top
+
 abbrev pub program : App
-program = with_subcommand (with_subcommand (with_subcommand of_lines (entry_app (codes "state")).top) (entry_app (codes "explain")).top) timeline_app.top
+program = with_subcommand of_one export_app.top
 
 -- the text of a flag, as a flag; a subcommand without that flag has it not
 abbrev pub IsFlag : Option Text → Bool → Type 0

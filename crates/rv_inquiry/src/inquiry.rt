@@ -35,6 +35,8 @@ pub enum Question {
     WhatIf,
     /// Who held, waited and was refused when.
     Timeline,
+    /// Each entry, with what follows from those before it, as JSON.
+    Export,
 }
 
 /// What the words of a command line ask.

@@ -52,6 +52,9 @@ fn question_of(name: &str) -> Option<Question>
     if name == "whatif" {
         return Some(Question::WhatIf);
     }
+    if name == "export" {
+        return Some(Question::Export);
+    }
     of_entries(name)
 }
 

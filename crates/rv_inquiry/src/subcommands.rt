@@ -3,7 +3,7 @@
 ghost use Rattle.std.specs.Prelude.{◌≡◌, false, codes, IfOk};
 ghost use Rattle.clap.specs.Words.{app_of};
 ghost use Rattle.clap.specs.declared.builder.command.Command.TheViews.{out-Command as fields_of};
-ghost use Rattle.rv_inquiry.specs.Inquiries.{access_app, entry_app, filtered_app, timeline_app, what_if_app, who_app};
+ghost use Rattle.rv_inquiry.specs.Inquiries.{access_app, entry_app, export_app, filtered_app, timeline_app, what_if_app, who_app};
 
 use crate::args::{
     about_entry, about_list, against_list, drawn, filtered, named, over_journal, since, spanned,
@@ -165,4 +165,15 @@ pub fn timeline<'a>(alloc: Global) -> Result<Command<'a>, AllocError>
     let command = filtered(alloc, command)?;
     let command = spanned(alloc, command)?;
     drawn(alloc, command)
+}
+
+/// The subcommand `export`.
+pub fn export<'a>(alloc: Global) -> Result<Command<'a>, AllocError>
+    ensures app { IfOk result (λ c. app_of c ≡ export_app) }
+    ensures local { IfOk result (λ c. (fields_of c).has_globals ≡ false) }
+{
+    let command = Command::new(alloc, "export")
+        .about("Write each entry as a line of JSON, with what follows from the entries before it")
+        .after_help("Example: ravenhost export --journal JOURNAL < UNITS | jq .caller");
+    over_journal(alloc, command)
 }
