@@ -136,6 +136,18 @@ expect 0 no_difference --against "$here/bench/review/granting.list" --journal "$
 expect 0 no_difference --of Plant.Ready --against "$here/bench/review/stricter.list" --journal "$work/journal" <"$work/units"
 asked="who"
 expect 0 who plant.valve.set --journal "$work/journal" <"$work/units"
+expect 0 who.json --json plant.valve.set --journal "$work/journal" <"$work/units"
+# Rows as JSON say what they say as text.
+as_text() {
+    python3 "$here/bench/review/rows_as_text.py" <"$work/said" | cmp -s - "$here/bench/review/$1" || differs "$1 as JSON isn't what it is as text"
+}
+as_text who
+asked=access
+expect 0 access.json --json --journal "$work/journal" <"$work/units"
+as_text access
+expect 0 against.json --json --against "$here/bench/review/stricter.list" --journal "$work/journal" <"$work/units"
+as_text against
+expect 0 nothing --json --against "$here/bench/review/granting.list" --journal "$work/journal" <"$work/units"
 
 # Each rule by which an entry of the examples is refused: the line that decided is the one that `refusals` names.
 for script in "$here"/examples/*.raven "$here"/bench/review/*.raven; do

@@ -20,7 +20,7 @@ BESIDE = ("--script", *REPEATED)
 
 # The commands that take parts of a script, and the questions about a journal, which have the flags beside them.
 COMPOSING = ("play", "check", "run", "audit")
-QUESTIONS = {"refusals": ("since", "by", "of"), "waits": ("since", "by", "of"), "access": ("against", "by", "of"), "who": (), "hits": ("since", "by", "of"), "whatif": ("since", "by", "of"),
+QUESTIONS = {"refusals": ("since", "by", "of"), "waits": ("since", "by", "of"), "access": ("against", "by", "of", "json"), "who": ("json",), "hits": ("since", "by", "of"), "whatif": ("since", "by", "of"),
              "state": (), "explain": (), "timeline": ("by", "of", "from", "to", "text", "svg"), "export": ()}
 
 # Commands that a run is sent.
@@ -139,7 +139,8 @@ def composing(commands):
     told = {"since": ("WHEN", "Leave out what was before entry:N or tick:N", "entry: tick:"), "by": ("CALLER", "Leave out other callers", ""),
             "of": ("CALLED", "Leave out calls of others", ""), "against": ("LIST", "Say what the list in this file would grant otherwise", FILES),
             "from": ("N", "Show nothing before the entry of this number", ""), "to": ("N", "Show nothing behind the entry of this number", ""),
-            "text": (None, "Show text for a terminal", ""), "svg": (None, "Show an SVG picture, for a browser", "")}
+            "text": (None, "Show text for a terminal", ""), "svg": (None, "Show an SVG picture, for a browser", ""),
+            "json": (None, "Write each row as a line of JSON", "")}
     for name, asked in QUESTIONS.items():
         if name not in commands[""].own:
             sys.exit(f"manual/completions.py: {PAGES}/launcher doesn't name {name}")

@@ -31,8 +31,8 @@ _ravenhost_launcher_flags() {
         audit) echo "--script --host --shape --unit --list" ;;
         refusals) echo "--journal --torn --since --by --of --script --host --shape --unit --list" ;;
         waits) echo "--journal --torn --since --by --of --script --host --shape --unit --list" ;;
-        access) echo "--journal --torn --against --by --of --script --host --shape --unit --list" ;;
-        who) echo "--journal --torn --script --host --shape --unit --list" ;;
+        access) echo "--journal --torn --against --by --of --json --script --host --shape --unit --list" ;;
+        who) echo "--journal --torn --json --script --host --shape --unit --list" ;;
         hits) echo "--journal --torn --since --by --of --script --host --shape --unit --list" ;;
         whatif) echo "--journal --torn --since --by --of --script --host --shape --unit --list" ;;
         state) echo "--journal --torn --script --host --shape --unit --list" ;;

@@ -8,9 +8,9 @@ use rv_access::AccessList;
 use rv_fault::Failure;
 use rv_inquiry::inquiry::{From, Inquiry, Question};
 use rv_review::{
-    Audited, Filter, Nobody, Since, explain, explain_file, export, export_file, hits, hits_file,
-    refusals, refusals_file, rights, rights_file, state, state_file, timeline, timeline_file,
-    waits, waits_file, what_if, what_if_file,
+    AccessWish, Audited, Filter, Nobody, Since, explain, explain_file, export, export_file, hits,
+    hits_file, refusals, refusals_file, rights, rights_file, state, state_file, timeline,
+    timeline_file, waits, waits_file, what_if, what_if_file,
 };
 use std::alloc::Global;
 use std::fs;
@@ -32,6 +32,14 @@ fn filter_of<'a>(asked: &Inquiry<'a>) -> Filter<'a> {
         since: since_of(asked.since),
         by: asked.by,
         of: asked.of,
+    }
+}
+
+// What is wished of rights, of the calls that are asked for.
+fn access_wish_of<'a>(asked: &Inquiry<'_>, filter: Filter<'a>) -> AccessWish<'a> {
+    AccessWish {
+        filter,
+        as_json: asked.is_json,
     }
 }
 
@@ -84,7 +92,9 @@ fn said<I: Read, W: Write>(
     match asked.question {
         Question::Refusals => refusals(alloc, reader, writer, filter),
         Question::Waits => waits(alloc, reader, writer, filter),
-        Question::Access | Question::Who => rights(alloc, reader, writer, filter, list),
+        Question::Access | Question::Who => {
+            rights(alloc, reader, writer, access_wish_of(asked, filter), list)
+        }
         Question::Hits => hits(alloc, reader, writer, filter),
         Question::WhatIf => what_if(alloc, reader, writer, filter, or_empty(alloc, list)),
         Question::State => state(alloc, reader, writer, entry_of(asked)),
@@ -110,7 +120,8 @@ fn said_of_file<I: Read, J: Read, W: Write>(
         Question::Refusals => refusals_file(alloc, reader, journal, torn, watch, writer, filter),
         Question::Waits => waits_file(alloc, reader, journal, torn, watch, writer, filter),
         Question::Access | Question::Who => {
-            rights_file(alloc, reader, journal, torn, watch, writer, filter, list)
+            let wish = access_wish_of(asked, filter);
+            rights_file(alloc, reader, journal, torn, watch, writer, wish, list)
         }
         Question::Hits => hits_file(alloc, reader, journal, torn, watch, writer, filter),
         Question::WhatIf => what_if_file(

@@ -1,6 +1,6 @@
 -- The command line of `ravenreview` (own): each subcommand may be given `--journal FILE` and, with it, `--torn`; `refusals`, `waits`,
 -- `hits` and `whatif` also `--since WHEN`, these and `access` and `timeline` `--by CALLER` and `--of CALLED`, `who` the word CALLED,
--- `access` `--against LIST`, and `timeline` `--from N`, `--to N` and `--text` or `--svg`. `state` and `explain` must be given a number N,
+-- `access` and `who` `--json`, `access` also `--against LIST`, and `timeline` `--from N`, `--to N` and `--text` or `--svg`. `state` and `explain` must be given a number N,
 -- and `whatif` a LIST. What words come to is what `clap` says of this command.
 use Rattle.std.specs.Prelude.{◌≡◌, ℕ, Bool, true, false, ◌==◌, nat_lt, if◌then◌else◌, List, Option, Some, None, codes, option_map, length}
 use Rattle.std.specs.List.{after_first, before_first, position_or_len}
@@ -57,11 +57,15 @@ with_span app = with_rule (with_rule app (value_rule (codes "from"))) (value_rul
 abbrev pub with_forms : App → App
 with_forms app = with_rule (with_rule app (flag_rule (codes "text"))) (flag_rule (codes "svg"))
 
+-- that rows are JSON
+abbrev pub with_json : App → App
+with_json app = with_rule app (flag_rule (codes "json"))
+
 abbrev pub access_app : App
-access_app = with_rule (with_filter (with_journal (new_app (codes "access")))) list_rule
+access_app = with_json (with_rule (with_filter (with_journal (new_app (codes "access")))) list_rule)
 
 abbrev pub who_app : App
-who_app = with_rule (with_journal (new_app (codes "who"))) (word_rule (codes "of"))
+who_app = with_json (with_rule (with_journal (new_app (codes "who"))) (word_rule (codes "of")))
 
 -- of one entry its number
 abbrev pub entry_app : Text → App
@@ -159,6 +163,7 @@ pub record IsGiven (rows : List Row) (asked : Inquiry) : Type 0 where
   pub first : number_of (first_of (codes "from") rows) ≡ Some asked.first
   pub last : number_of (first_of (codes "to") rows) ≡ Some asked.last
   pub svg : IsFlag (one_of (codes "svg") rows) asked.is_svg
+  pub json : IsFlag (one_of (codes "json") rows) asked.is_json
 
 -- a subcommand with what it was given is asked
 abbrev pub IsInquiry : Text × List Row → Inquiry → Type 0

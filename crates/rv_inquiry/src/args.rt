@@ -3,7 +3,7 @@
 ghost use Rattle.std.specs.Prelude.{◌≡◌, false, codes, IfOk};
 ghost use Rattle.clap.specs.Words.{app_of, rule_of, with_rule};
 ghost use Rattle.clap.specs.declared.builder.command.Command.TheViews.{out-Command as fields_of};
-ghost use Rattle.rv_inquiry.specs.Inquiries.{flag_rule, list_rule, needed_rule, value_rule, with_forms, with_journal, with_filter, with_span, word_rule};
+ghost use Rattle.rv_inquiry.specs.Inquiries.{flag_rule, list_rule, needed_rule, value_rule, with_forms, with_journal, with_json, with_filter, with_span, word_rule};
 
 use clap::{Arg, ArgAction, Command};
 use std::alloc::{AllocError, Global};
@@ -170,6 +170,16 @@ pub fn against_list<'a>(alloc: Global, command: Command<'a>) -> Result<Command<'
 {
     let list = list_arg(alloc);
     command.arg(list)
+}
+
+/// A subcommand whose rows may be JSON.
+pub fn as_json<'a>(alloc: Global, command: Command<'a>) -> Result<Command<'a>, AllocError>
+    requires { (fields_of command).has_globals ≡ false }
+    ensures app { IfOk result (λ c. app_of c ≡ with_json (app_of command.entry)) }
+    ensures local { IfOk result (λ c. (fields_of c).has_globals ≡ false) }
+{
+    let json = flag(alloc, "json", "Write each row as a line of JSON");
+    command.arg(json)
 }
 
 /// A subcommand that may be told the first and the last entry to show.

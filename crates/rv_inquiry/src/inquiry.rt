@@ -64,6 +64,8 @@ pub struct Inquiry<'a> {
     pub last: Option<u64>,
     /// Whether a timeline is an SVG picture, in place of text.
     pub is_svg: bool,
+    /// Whether the rows of `access` and `who` are JSON, in place of text.
+    pub is_json: bool,
 }
 
 /// Why the words of a command line ask nothing.

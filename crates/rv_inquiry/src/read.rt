@@ -80,6 +80,13 @@ fn given_svg<'a>(words: &ArgMatches<'a>) -> Result<bool, Misuse<'a>>
     Ok(is_svg)
 }
 
+// Whether rows are JSON, by what a subcommand was given.
+fn given_json(words: &ArgMatches<'_>) -> bool
+    ensures { IsFlag (one_of (codes "json") (rows_of (found_of words.now))) result }
+{
+    words.get_flag("json")
+}
+
 // What is asked by what a subcommand was given.
 fn asked_with<'a>(question: Question, words: &ArgMatches<'a>) -> Result<Inquiry<'a>, Misuse<'a>>
     ensures question { IfOk result (λ asked. asked.question ≡ question) }
@@ -103,6 +110,7 @@ fn asked_with<'a>(question: Question, words: &ArgMatches<'a>) -> Result<Inquiry<
         first,
         last,
         is_svg,
+        is_json: given_json(words),
     })
 }
 

@@ -6,7 +6,8 @@ ghost use Rattle.clap.specs.declared.builder.command.Command.TheViews.{out-Comma
 ghost use Rattle.rv_inquiry.specs.Inquiries.{access_app, entry_app, export_app, filtered_app, timeline_app, what_if_app, who_app};
 
 use crate::args::{
-    about_entry, about_list, against_list, drawn, filtered, named, over_journal, since, spanned,
+    about_entry, about_list, against_list, as_json, drawn, filtered, named, over_journal, since,
+    spanned,
 };
 use clap::Command;
 use std::alloc::{AllocError, Global};
@@ -65,7 +66,8 @@ pub fn access<'a>(alloc: Global) -> Result<Command<'a>, AllocError>
         .after_help("Example: ravenhost access --journal JOURNAL --by Store < UNITS");
     let command = over_journal(alloc, command)?;
     let command = filtered(alloc, command)?;
-    against_list(alloc, command)
+    let command = against_list(alloc, command)?;
+    as_json(alloc, command)
 }
 
 /// The subcommand `who`.
@@ -77,7 +79,8 @@ pub fn who<'a>(alloc: Global) -> Result<Command<'a>, AllocError>
         .about("Say who may call a unit, an object or an operation, as access does")
         .after_help("Example: ravenhost who Store.Tank.Fill --journal JOURNAL < UNITS");
     let command = over_journal(alloc, command)?;
-    named(alloc, command)
+    let command = named(alloc, command)?;
+    as_json(alloc, command)
 }
 
 // A subcommand of this name that is about an entry.

@@ -27,6 +27,7 @@ pub use refused::{refusals, refusals_file};
 pub use rv_audit::observer::{Nobody, Watch};
 pub use rv_picture::bar::Frame;
 pub use rv_refused::{Filter, Since};
+pub use rv_rights::wish::Wish as AccessWish;
 pub use rv_timeline::timeline::{Form, Wish};
 pub use rv_verdict::Audited;
 pub use stated::{state, state_file};

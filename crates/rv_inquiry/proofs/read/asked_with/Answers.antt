@@ -17,4 +17,5 @@ returns-clause-given c =
       first = c.in_ok-first.ensures;
       last = c.in_ok-last.ensures;
       svg = c.in_ok-is_svg.ensures;
+      json = c.given_json.ensures;
     }
