@@ -6,10 +6,11 @@ mod listing;
 mod one_entry;
 mod reviewing;
 mod status;
+mod timing;
 mod wishing;
 
 use line::{asked, words_of};
-use reviewing::answer;
+use timing::answer;
 use rv_exec::machine::STACK_BYTES;
 use rv_fault::Failure;
 use status::{NO_MEANS, Stop, status_of};

@@ -12,6 +12,8 @@ pub enum From {
     Entry(u64),
     /// From this tick on.
     Tick(u64),
+    /// From the first entry on that wasn't written before this instant, in nanoseconds since 1970.
+    Instant(i128),
 }
 
 /// What is asked of a journal.
@@ -46,6 +48,8 @@ pub struct Inquiry<'a> {
     pub question: Question,
     /// The name of the file that holds the journal, where one is given.
     pub journal: Option<&'a str>,
+    /// The name of the file that says by when the entries were written, where one is given.
+    pub times: Option<&'a str>,
     /// Whether a last line without its line feed was cut off.
     pub takes_torn: bool,
     /// Since when entries are asked for.
