@@ -89,8 +89,8 @@ fn answer_timed<R: Files + Eprint, I: Read, W: Write>(
     }
 }
 
-/// Answers what is asked of a journal.
-pub fn answer<R: Files + Eprint, I: Read, W: Write>(
+/// Answers what is asked of a journal, with times where a file has them.
+pub fn answer_with_times<R: Files + Eprint, I: Read, W: Write>(
     rt: &R,
     alloc: Global,
     asked: &Inquiry<'_>,
