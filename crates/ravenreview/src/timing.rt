@@ -99,6 +99,13 @@ pub fn answer_with_times<R: Files + Eprint, I: Read, W: Write>(
 ) -> Result<(), Stop> {
     match asked.times {
         Some(name) => answer_timed(rt, alloc, name, asked, reader, writer),
-        None => answer_since(rt, alloc, asked, since_of(asked.since, None), reader, writer),
+        None => answer_since(
+            rt,
+            alloc,
+            asked,
+            since_of(asked.since, None),
+            reader,
+            writer,
+        ),
     }
 }

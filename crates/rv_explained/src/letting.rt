@@ -19,7 +19,10 @@ use std::alloc::AllocError;
 fn put_words(text: &mut String, subject: &str, callee: &Callee<'_>) -> Result<(), AllocError>
     ensures { OnOk result (string_bytes text.new ≡ string_bytes text.old ++ letting_text subject.now (target_of callee.now)) }
 {
-    write!(text, "the smallest line that would have let it in, which is no advice: allow {subject} {callee}\n")
+    write!(
+        text,
+        "the smallest line that would have let it in, which is no advice: allow {subject} {callee}\n"
+    )
 }
 
 // Puts the line for a call.

@@ -71,8 +71,11 @@ line_number front = suc (count_by is_feed front)
 abbrev pub first_line : List ℕ → List ℕ
 first_line text = strip_carriage_return (before_first is_feed text)
 
--- what is told of the body of an operation of a unit, before which the text has this front, and from which on it has this rest
+-- what is told of a body in a line of this number of the text of a unit, of these words
+abbrev pub number_line : ℕ → List ℕ → List ℕ → List ℕ
+number_line number unit line =
+    codes "its body stands in line " ++ (decimal number ++ (codes " of the text of " ++ (unit ++ (codes ": " ++ (line ++ 10 ∷ [])))))
+
+-- of one before which the text has this front, and from which on it has this rest
 abbrev pub place_line : List ℕ → List ℕ → List ℕ → List ℕ
-place_line unit front rest =
-    codes "its body stands in line " ++ (decimal (line_number front) ++ (codes " of the text of " ++ (unit ++ (codes ": "
-    ++ (first_line rest ++ 10 ∷ [])))))
+place_line unit front rest = number_line (line_number front) unit (first_line rest)

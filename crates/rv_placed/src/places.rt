@@ -2,13 +2,13 @@
 
 ghost use Rattle.std.specs.Prelude.{◌≡◌, ◌++◌, List, IfOk, OnOk, string_bytes};
 ghost use Rattle.rv_lex.specs.Lexes.{Lexeme, Lexes, lexemes};
-ghost use Rattle.rv_placed.specs.Places.{begins_operation, body_place, declares, is_body, is_body_of, is_named, is_package, is_protected, first_line, line_number, operation_place, place_in, place_line};
+ghost use Rattle.rv_placed.specs.Places.{begins_operation, body_place, declares, is_body, is_body_of, is_named, is_package, is_protected, first_line, line_number, number_line, operation_place, place_in, place_line};
 
+use crate::placing::NoMemory;
 use rv_lex::fault::LexFault;
 use rv_lex::kind::Kind;
 use rv_lex::lexer::tokens;
 use rv_lex::token::Token;
-use crate::placing::NoMemory;
 use rv_text::{is_same_name, without_return};
 use std::alloc::{AllocError, Global};
 
@@ -143,16 +143,19 @@ fn first_line(text: &str) -> &str
     }
 }
 
-/// Puts which line of the text of a unit stands behind this front of it, and what is left of that line.
-pub fn put_place(
-    text: &mut String,
-    unit: &str,
-    front: &str,
-    rest: &str,
-) -> Result<(), AllocError>
+// Puts that a body stands in a line of this number of the text of a unit, and the words of the line.
+fn put_line(text: &mut String, number: usize, unit: &str, line: &str) -> Result<(), AllocError>
+    ensures { OnOk result (string_bytes text.new ≡ string_bytes text.old ++ number_line number unit.now line.now) }
+{
+    write!(
+        text,
+        "its body stands in line {number} of the text of {unit}: {line}\n"
+    )
+}
+
+/// Puts which line of the text of a unit stands behind this front of it, and what is left of that line. Err where memory was refused.
+pub fn put_place(text: &mut String, unit: &str, front: &str, rest: &str) -> Result<(), AllocError>
     ensures { OnOk result (string_bytes text.new ≡ string_bytes text.old ++ place_line unit.now front.now rest.now) }
 {
-    let number = line_number(front.as_bytes());
-    let line = first_line(rest);
-    write!(text, "its body stands in line {number} of the text of {unit}: {line}\n")
+    put_line(text, line_number(front.as_bytes()), unit, first_line(rest))
 }

@@ -2,6 +2,7 @@
 
 use crate::places::{place_in, put_place};
 use rv_script::{Opening, open, opening_of};
+use rv_text::next_line;
 use std::alloc::{AllocError, Global};
 
 /// Memory was refused.
@@ -87,10 +88,9 @@ fn put_line(alloc: Global, text: &mut String, line: &str, script: &str) -> Resul
 pub fn placed(alloc: Global, said: &str, script: &str) -> Result<String, NoMemory> {
     let mut text = String::new(alloc);
     let mut rest = said;
-    while let Some((line, others)) = rest.split_once('\n') {
+    while let Some((line, others)) = next_line(rest) {
         put_line(alloc, &mut text, line, script)?;
         rest = others;
     }
-    text.push_str(rest)?;
     Ok(text)
 }

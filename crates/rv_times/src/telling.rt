@@ -2,6 +2,7 @@
 
 ghost use Rattle.std.specs.Prelude.{◌≡◌, ◌++◌, ◌∷◌, OnOk, IfOk, codes, string_bytes, option_map};
 ghost use Rattle.std.specs.List.{slice_split};
+ghost use Rattle.rv_text.specs.Numbers.{natural_of};
 ghost use Rattle.rv_times.specs.Telling.{bracket, field, front, has_mark, is_feed, is_of_list, is_space, mark, timed, timed_as, timed_if, timed_json, timed_line, timed_lines, timed_word, timed_words};
 
 use crate::times::Times;
@@ -150,12 +151,7 @@ fn put_json(text: &mut String, times: &Times<'_>, line: &str) -> Result<(), Allo
 }
 
 // Puts a line, of JSON or of words.
-fn put_as(
-    text: &mut String,
-    times: &Times<'_>,
-    is_json: bool,
-    line: &str,
-) -> Result<(), AllocError>
+fn put_as(text: &mut String, times: &Times<'_>, is_json: bool, line: &str) -> Result<(), AllocError>
     ensures { OnOk result (string_bytes text.new ≡ string_bytes text.old ++ timed_as is_json times.now line.now) }
 {
     if is_json {
