@@ -1,9 +1,7 @@
 -- Texts that are cut at a byte.
-use Rattle.std.proofs.Common.{◌≡◌, ◌≢◌, ℕ, ◌+◌, ◌<◌, Bool, true, false, List, [], ◌∷◌, ◌++◌, length, refl, sym, ap, ◌∙◌, arith, append_assoc, eqb}
-use Rattle.std.specs.Prelude.{◌==◌}
+use Rattle.std.proofs.Common.{◌≡◌, ℕ, ◌+◌, ◌<◌, Bool, true, false, List, [], ◌∷◌, ◌++◌, length, refl, sym, ap, ◌∙◌, arith, append_assoc, append-nil}
 use Rattle.std.specs.List.{slice_split, position_or_len, before_first, after_first}
 use Rattle.std.proofs.lemmas.List.Splits.{slice_split_first}
-use Rattle.rv_text.proofs.FirstParts.{split_whole}
 use Rattle.rv_times.specs.Times.{TimeText}
 use Rattle.rv_times.specs.Telling.{is_feed, is_space, names_entry, timed_as, timed_if, timed_lines, timed_words}
 
@@ -33,8 +31,26 @@ words_more times is_entry old one two three text word rest cut one_is two_is thr
     three_put old one two three (32 ∷ []) (timed_if is_entry times word) (timed_words times (names_entry word) (slice_split is_space rest)) one_is two_is three_is
     ∙ ap (λ (ws : List Text). old ++ timed_words times is_entry ws) (sym cut)
 
-nothing_more : (old a : Text) → old ++ (a ++ []) ≡ old ++ a
-nothing_more old a = ap (λ (t : Text). old ++ t) append-nil-of
-  where
-    append-nil-of : a ++ [] ≡ a
-    append-nil-of = Rattle.std.proofs.Common.append-nil a
+-- the last word
+pub words_last : (times : List TimeText) (is_entry : Bool) (old one two text : Text) → slice_split is_space text ≡ text ∷ [] → one ≡ old ++ 32 ∷ [] → two ≡ one ++ timed_if is_entry times text →
+    two ≡ old ++ timed_words times is_entry (slice_split is_space text)
+words_last times is_entry old one two text cut one_is two_is =
+    two_put old one two (32 ∷ []) (timed_if is_entry times text) one_is two_is
+    ∙ ap (λ (t : Text). old ++ 32 ∷ t) (sym (append-nil (timed_if is_entry times text)))
+    ∙ ap (λ (ws : List Text). old ++ timed_words times is_entry ws) (sym cut)
+
+-- a line behind a line feed, and those behind it
+pub lines_step : (is_json : Bool) (times : List TimeText) (whole text one two rest line others : Text) → slice_split is_feed rest ≡ line ∷ slice_split is_feed others → one ≡ text ++ 10 ∷ [] →
+    two ≡ one ++ timed_as is_json times line → text ++ timed_lines is_json times (slice_split is_feed rest) ≡ whole → two ++ timed_lines is_json times (slice_split is_feed others) ≡ whole
+lines_step is_json times whole text one two rest line others cut one_is two_is e =
+    let behind : Text = timed_lines is_json times (slice_split is_feed others) in
+    three_put text one two (two ++ behind) (10 ∷ []) (timed_as is_json times line) behind one_is two_is refl
+    ∙ ap (λ (ls : List Text). text ++ timed_lines is_json times ls) (sym cut) ∙ e
+
+-- the last line
+pub lines_last : (is_json : Bool) (times : List TimeText) (whole text one two rest : Text) → slice_split is_feed rest ≡ rest ∷ [] → one ≡ text ++ 10 ∷ [] → two ≡ one ++ timed_as is_json times rest →
+    text ++ timed_lines is_json times (slice_split is_feed rest) ≡ whole → two ≡ whole
+lines_last is_json times whole text one two rest cut one_is two_is e =
+    two_put text one two (10 ∷ []) (timed_as is_json times rest) one_is two_is
+    ∙ ap (λ (t : Text). text ++ 10 ∷ t) (sym (append-nil (timed_as is_json times rest)))
+    ∙ ap (λ (ls : List Text). text ++ timed_lines is_json times ls) (sym cut) ∙ e
