@@ -17,17 +17,17 @@ is_comma byte = byte == 44
 abbrev pub is_colon : ℕ → Bool
 is_colon byte = byte == 58
 
+-- by when the entry of a number was written, if there is a number and that is known
+abbrev pub time_of : List TimeText → Option ℕ → Option (List ℕ)
+time_of times None = None
+time_of times (Some entry) = written_by entry times
+
 -- Words
 
 -- a time in brackets, if it is known
 abbrev pub in_brackets : Option (List ℕ) → List ℕ
 in_brackets None = []
 in_brackets (Some words) = codes " (" ++ (words ++ codes ")")
-
--- that of the entry of a number, if a word is one
-abbrev pub bracket : List TimeText → Option ℕ → List ℕ
-bracket times None = []
-bracket times (Some entry) = in_brackets (written_by entry times)
 
 -- a comma or a colon at the end of a word
 abbrev pub has_mark : List ℕ → Bool
@@ -42,7 +42,7 @@ mark word = if has_mark word then drop (length word - 1) word else []
 
 -- the number of an entry has its time behind it
 abbrev pub timed_word : List TimeText → List ℕ → List ℕ
-timed_word times word = front word ++ (bracket times (natural_of (front word)) ++ mark word)
+timed_word times word = front word ++ (in_brackets (time_of times (natural_of (front word))) ++ mark word)
 
 abbrev pub timed_if : Bool → List TimeText → List ℕ → List ℕ
 timed_if is_entry times word = if is_entry then timed_word times word else word
@@ -59,9 +59,12 @@ timed_words times is_entry (word ∷ words) = 32 ∷ (timed_if is_entry times wo
 -- Lines
 
 -- a line that begins with a number is about the entry of that number, unless it is one of an access list
+abbrev pub is_verb : List ℕ → Bool
+is_verb word = bytes_eq word (codes "allow") || bytes_eq word (codes "deny")
+
 abbrev pub is_of_list : List (List ℕ) → Bool
 is_of_list [] = true
-is_of_list (word ∷ words) = bytes_eq word (codes "allow") || bytes_eq word (codes "deny")
+is_of_list (word ∷ words) = is_verb word
 
 abbrev pub timed_parts : List TimeText → List (List ℕ) → List ℕ
 timed_parts times [] = []
@@ -75,15 +78,11 @@ abbrev pub field_of : Option (List ℕ) → List ℕ
 field_of None = []
 field_of (Some words) = codes ",\"time\":\"" ++ (words ++ codes "\"")
 
-abbrev pub field : List TimeText → Option ℕ → List ℕ
-field times None = []
-field times (Some entry) = field_of (written_by entry times)
-
 -- the first field of a line of JSON is the entry's number; its time stands behind it
 abbrev pub timed_json : List TimeText → List ℕ → List ℕ
 timed_json times line =
     if nat_lt (position_or_len is_comma line) (length line)
-    then before_first is_comma line ++ (field times (natural_of (after_first is_colon (before_first is_comma line))) ++ 44 ∷ after_first is_comma line)
+    then before_first is_comma line ++ (field_of (time_of times (natural_of (after_first is_colon (before_first is_comma line)))) ++ 44 ∷ after_first is_comma line)
     else line
 
 abbrev pub timed_as : Bool → List TimeText → List ℕ → List ℕ

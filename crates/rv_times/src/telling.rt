@@ -1,9 +1,9 @@
 //! Puts the times of entries beside what is told of them.
 
 ghost use Rattle.std.specs.Prelude.{◌≡◌, ◌++◌, ◌∷◌, OnOk, IfOk, codes, string_bytes, option_map};
-ghost use Rattle.std.specs.List.{slice_split};
+ghost use Rattle.std.specs.List.{after_first, slice_split};
 ghost use Rattle.rv_text.specs.Numbers.{natural_of};
-ghost use Rattle.rv_times.specs.Telling.{bracket, field, front, has_mark, is_feed, is_of_list, is_space, mark, timed, timed_as, timed_if, timed_json, timed_line, timed_lines, timed_word, timed_words};
+ghost use Rattle.rv_times.specs.Telling.{field_of, front, in_brackets, is_colon, is_feed, is_of_list, is_space, is_verb, mark, names_entry, time_of, timed, timed_as, timed_if, timed_json, timed_line, timed_lines, timed_word, timed_words};
 
 use crate::times::Times;
 use rv_text::natural_of;
@@ -31,28 +31,30 @@ fn put_between(text: &mut String, before: &str, words: &str, behind: &str) -> Re
 }
 
 // By when the entry of a number was written, if a word is one and that is known.
-fn time_of<'t>(times: &Times<'t>, number: &str) -> Option<&'t str> {
+fn time_of<'t>(times: &Times<'t>, number: &str) -> Option<&'t str>
+    ensures { option_map (λ w. w.now) result ≡ time_of times.now (natural_of number.now) }
+{
     match natural_of(number) {
         Some(entry) => times.of(entry),
         None => None,
     }
 }
 
-// Puts the time of an entry in brackets.
-fn put_bracket(text: &mut String, times: &Times<'_>, number: &str) -> Result<(), AllocError>
-    ensures { OnOk result (string_bytes text.new ≡ string_bytes text.old ++ bracket times.now (natural_of number.now)) }
+// Puts a time in brackets, if it is known.
+fn put_bracket(text: &mut String, time: Option<&str>) -> Result<(), AllocError>
+    ensures { OnOk result (string_bytes text.new ≡ string_bytes text.old ++ in_brackets (option_map (λ w. w.now) time.entry)) }
 {
-    match time_of(times, number) {
+    match time {
         Some(words) => put_between(text, " (", words, ")"),
         None => Ok(()),
     }
 }
 
-// Puts the time of an entry as a field of JSON.
-fn put_field(text: &mut String, times: &Times<'_>, number: &str) -> Result<(), AllocError>
-    ensures { OnOk result (string_bytes text.new ≡ string_bytes text.old ++ field times.now (natural_of number.now)) }
+// Puts a time as a field of JSON, if it is known.
+fn put_field(text: &mut String, time: Option<&str>) -> Result<(), AllocError>
+    ensures { OnOk result (string_bytes text.new ≡ string_bytes text.old ++ field_of (option_map (λ w. w.now) time.entry)) }
 {
-    match time_of(times, number) {
+    match time {
         Some(words) => put_between(text, ",\"time\":\"", words, "\""),
         None => Ok(()),
     }
@@ -64,7 +66,7 @@ fn put_timed(text: &mut String, times: &Times<'_>, word: &str) -> Result<(), All
 {
     let (front, mark) = cut(word);
     text.push_str(front)?;
-    put_bracket(text, times, front)?;
+    put_bracket(text, time_of(times, front))?;
     text.push_str(mark)
 }
 
@@ -84,6 +86,13 @@ fn put_word(
     }
 }
 
+// Whether the number of an entry stands behind a word.
+fn names_entry(word: &str) -> bool
+    ensures { result ≡ names_entry word.now }
+{
+    word == "entry"
+}
+
 // Puts words, each behind a space.
 fn put_words(
     text: &mut String,
@@ -97,21 +106,27 @@ fn put_words(
     match words.split_once(' ') {
         Some((word, others)) => {
             put_word(text, times, is_entry, word)?;
-            put_words(text, times, word == "entry", others)
+            put_words(text, times, names_entry(word), others)
         }
         None => put_word(text, times, is_entry, words),
     }
+}
+
+// Whether a line of an access list begins with a word.
+fn is_verb(word: &str) -> bool
+    ensures { result ≡ is_verb word.now }
+{
+    word == "allow" || word == "deny"
 }
 
 // Whether words behind a number are those of a line of an access list.
 fn is_of_list(words: &str) -> bool
     ensures { result ≡ is_of_list (slice_split is_space words.now) }
 {
-    let word = match words.split_once(' ') {
-        Some((word, _)) => word,
-        None => words,
-    };
-    word == "allow" || word == "deny"
+    match words.split_once(' ') {
+        Some((word, _)) => is_verb(word),
+        None => is_verb(words),
+    }
 }
 
 // Puts a line with times.
@@ -121,14 +136,16 @@ fn put_line(text: &mut String, times: &Times<'_>, line: &str) -> Result<(), Allo
     match line.split_once(' ') {
         Some((word, words)) => {
             put_word(text, times, !is_of_list(words), word)?;
-            put_words(text, times, word == "entry", words)
+            put_words(text, times, names_entry(word), words)
         }
         None => text.push_str(line),
     }
 }
 
 // What stands behind the first colon.
-fn behind_colon(head: &str) -> &str {
+fn behind_colon(head: &str) -> &str
+    ensures { result.now ≡ after_first is_colon head.now }
+{
     match head.split_once(':') {
         Some((_, number)) => number,
         None => "",
@@ -142,7 +159,7 @@ fn put_json(text: &mut String, times: &Times<'_>, line: &str) -> Result<(), Allo
     match line.split_once(',') {
         Some((head, fields)) => {
             text.push_str(head)?;
-            put_field(text, times, behind_colon(head))?;
+            put_field(text, time_of(times, behind_colon(head)))?;
             text.push_str(",")?;
             text.push_str(fields)
         }
@@ -180,6 +197,24 @@ fn put_lines(
     put_as(text, times, is_json, rest)
 }
 
+// Puts a text.
+fn put_all(
+    text: &mut String,
+    times: &Times<'_>,
+    is_json: bool,
+    told: &str,
+) -> Result<(), AllocError>
+    ensures { OnOk result (string_bytes text.new ≡ string_bytes text.old ++ timed is_json times.now told.now) }
+{
+    match told.split_once('\n') {
+        Some((line, lines)) => {
+            put_as(text, times, is_json, line)?;
+            put_lines(text, times, is_json, lines)
+        }
+        None => put_as(text, times, is_json, told),
+    }
+}
+
 /// What is told of a journal, as lines of JSON or of words, with the time of each entry that it names behind its number. Err where
 /// memory was refused.
 pub fn timed(
@@ -191,12 +226,6 @@ pub fn timed(
     ensures { IfOk result (λ text. string_bytes text ≡ timed is_json times.now told.now) }
 {
     let mut text = String::new(alloc);
-    match told.split_once('\n') {
-        Some((line, lines)) => {
-            put_as(&mut text, times, is_json, line)?;
-            put_lines(&mut text, times, is_json, lines)?;
-        }
-        None => put_as(&mut text, times, is_json, told)?,
-    }
+    put_all(&mut text, times, is_json, told)?;
     Ok(text)
 }
