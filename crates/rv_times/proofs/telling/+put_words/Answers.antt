@@ -6,7 +6,7 @@ use Rattle.std.proofs.lemmas.Str.Pattern.{split_once_first}
 use Rattle.rv_text.proofs.FirstParts.{split_whole}
 use Rattle.rv_times.specs.Telling.{is_space, timed_words}
 use Rattle.rv_times.proofs.Cutting.{cut_at, words_last, words_more}
-use Rattle.rv_times.proofs.telling.put_words.Goals as goal
+use Rattle.rv_times.proofs.telling.+put_words.Goals as goal
 
 pub returns-in-Some : goal.returns-in-Some
 returns-in-Some c =
