@@ -1,7 +1,7 @@
 //! Where the text of a unit has the body of an operation (9.4, 9.5.1, 9.5.2).
 
 ghost use Rattle.std.specs.Prelude.{◌≡◌, ◌++◌, List, IfOk, OnOk, string_bytes};
-ghost use Rattle.rv_lex.specs.Lexes.{Lexeme, Lexes, lexemes};
+ghost use Rattle.rv_lex.specs.Lexes.{IsNoMemory, Lexeme, Lexes, lexemes};
 ghost use Rattle.rv_placed.specs.Places.{begins_operation, body_place, declares, is_body, is_body_of, is_named, is_package, is_protected, first_line, line_number, number_line, operation_place, place_in, place_line};
 
 use crate::placing::NoMemory;
@@ -101,6 +101,27 @@ fn body_place(object: &str, operation: &str, words: &[Token<'_>]) -> Option<usiz
     None
 }
 
+// Where words have the body of an operation of a unit.
+fn place_among(words: &[Token<'_>], unit: &str, object: &str, operation: &str) -> Option<usize>
+    ensures { result ≡ place_in unit.now object.now operation.now (lexemes words.now) }
+{
+    if declares(unit, words) {
+        body_place(object, operation, words)
+    } else {
+        None
+    }
+}
+
+// What has no words has it nowhere, but for want of memory.
+fn nowhere(fault: LexFault) -> Result<Option<usize>, NoMemory>
+    ensures { IfOk result (λ place. (place ≡ None) × (IsNoMemory fault → ⊥)) }
+{
+    if fault == LexFault::NoMemory {
+        return Err(NoMemory {});
+    }
+    Ok(None)
+}
+
 /// Where the text of a unit has the body of an operation, if it is that unit's and has one: the place of its first byte. Err where
 /// memory was refused.
 pub fn place_in(
@@ -113,16 +134,8 @@ pub fn place_in(
     ensures { IfOk result (λ place. (words : List Lexeme) → Lexes text.now words → place ≡ place_in unit.now object.now operation.now words) }
 {
     match tokens(alloc, text) {
-        Ok(words) => {
-            let words = words.as_slice();
-            if declares(unit, words) {
-                Ok(body_place(object, operation, words))
-            } else {
-                Ok(None)
-            }
-        }
-        Err(LexFault::NoMemory) => Err(NoMemory {}),
-        Err(_) => Ok(None),
+        Ok(words) => Ok(place_among(words.as_slice(), unit, object, operation)),
+        Err(fault) => nowhere(fault),
     }
 }
 

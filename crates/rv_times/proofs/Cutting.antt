@@ -82,13 +82,12 @@ json_then times line h = let t : nat_lt (position_or_len is_comma line) (length 
 json_else : (times : List TimeText) (line : Text) → position_or_len is_comma line ≡ length line → timed_json times line ≡ line
 json_else times line h = let t : nat_lt (position_or_len is_comma line) (length line) ≡ false = grind (arith, nat_tests, h) in rw t refl
 
-pub json_cut : (times : List TimeText) (old one two three four line head fields number : Text) (time : Option Text) → position_or_len is_comma line < length line → head ≡ before_first is_comma line → fields ≡ after_first is_comma line →
-    number ≡ after_first is_colon head → time ≡ time_of times (natural_of number) → one ≡ old ++ head → two ≡ one ++ field_of time → three ≡ two ++ 44 ∷ [] → four ≡ three ++ fields → four ≡ old ++ timed_json times line
-json_cut times old one two three four line head fields number time h head_is fields_is number_is time_is one_is two_is three_is four_is =
+pub json_cut : (times : List TimeText) (old new line head fields number : Text) (time : Option Text) → position_or_len is_comma line < length line → head ≡ before_first is_comma line → fields ≡ after_first is_comma line →
+    number ≡ after_first is_colon head → time ≡ time_of times (natural_of number) → new ≡ old ++ (head ++ (field_of time ++ 44 ∷ fields)) → new ≡ old ++ timed_json times line
+json_cut times old new line head fields number time h head_is fields_is number_is time_is e =
     let told : time ≡ time_of times (natural_of (after_first is_colon (before_first is_comma line))) =
     time_is ∙ ap (λ (n : Text). time_of times (natural_of n)) (number_is ∙ ap (λ (t : Text). after_first is_colon t) head_is) in
-    four_put old one two three four head (field_of time) (44 ∷ []) fields one_is two_is three_is four_is
-    ∙ ap (λ (t : Text). old ++ (t ++ (field_of time ++ 44 ∷ fields))) head_is
+    e ∙ ap (λ (t : Text). old ++ (t ++ (field_of time ++ 44 ∷ fields))) head_is
     ∙ ap (λ (o : Option Text). old ++ (before_first is_comma line ++ (field_of o ++ 44 ∷ fields))) told
     ∙ ap (λ (t : Text). old ++ (before_first is_comma line ++ (field_of (time_of times (natural_of (after_first is_colon (before_first is_comma line)))) ++ 44 ∷ t))) fields_is
     ∙ ap (λ (t : Text). old ++ t) (sym (json_then times line h))

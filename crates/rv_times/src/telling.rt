@@ -152,16 +152,29 @@ fn behind_colon(head: &str) -> &str
     }
 }
 
+// Puts the first field of a line of JSON, a time behind it, and the other fields.
+fn put_fields(
+    text: &mut String,
+    head: &str,
+    time: Option<&str>,
+    fields: &str,
+) -> Result<(), AllocError>
+    ensures { OnOk result (string_bytes text.new ≡ string_bytes text.old
+        ++ (head.now ++ (field_of (option_map (λ w. w.now) time.entry) ++ 44 ∷ fields.now))) }
+{
+    text.push_str(head)?;
+    put_field(text, time)?;
+    text.push_str(",")?;
+    text.push_str(fields)
+}
+
 // Puts a line of JSON with its time.
 fn put_json(text: &mut String, times: &Times<'_>, line: &str) -> Result<(), AllocError>
     ensures { OnOk result (string_bytes text.new ≡ string_bytes text.old ++ timed_json times.now line.now) }
 {
     match line.split_once(',') {
         Some((head, fields)) => {
-            text.push_str(head)?;
-            put_field(text, time_of(times, behind_colon(head)))?;
-            text.push_str(",")?;
-            text.push_str(fields)
+            put_fields(text, head, time_of(times, behind_colon(head)), fields)
         }
         None => text.push_str(line),
     }

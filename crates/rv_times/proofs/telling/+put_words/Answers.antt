@@ -8,8 +8,8 @@ use Rattle.rv_times.specs.Telling.{is_space, timed_words}
 use Rattle.rv_times.proofs.Cutting.{cut_at, words_last, words_more}
 use Rattle.rv_times.proofs.telling.+put_words.Goals as goal
 
-pub returns-in-Some : goal.returns-in-Some
-returns-in-Some c =
+pub returns-in_ok-put_word-in-Some : goal.returns-in_ok-put_word-in-Some
+returns-in_ok-put_word-in-Some t c =
     let parts = split_once_first 32 c.args.words.now (Some (c.in-Some.word, c.in-Some.others)) c.in-Some.ensures.cases (omega arith) in
     on_ok_weaker c.put_words.result
     (λ put. words_more c.args.times.now c.args.is_entry (string_bytes c.args.text.now) _ _ _ c.args.words.now c.in-Some.word.now c.in-Some.others.now
@@ -18,7 +18,7 @@ returns-in-Some c =
     c.put_words.ensures
 
 pub returns-in-None : goal.returns-in-None
-returns-in-None c =
+returns-in-None t c =
     let none = split_once_first 32 c.args.words.now None c.in-None.ensures.cases (omega arith) in
-    on_ok_weaker c.put_word-2.result
-    (λ put. words_last c.args.times.now c.args.is_entry (string_bytes c.args.text.now) _ _ c.args.words.now (split_whole is_space c.args.words.now none) c.in_ok-push_str.ensures.bytes put) c.put_word-2.ensures
+    on_ok_weaker c.put_word-in-None.result
+    (λ put. words_last c.args.times.now c.args.is_entry (string_bytes c.args.text.now) _ _ c.args.words.now (split_whole is_space c.args.words.now none) c.in_ok-push_str.ensures.bytes put) c.put_word-in-None.ensures

@@ -7,8 +7,8 @@ use Rattle.rv_times.specs.Telling.{is_feed}
 use Rattle.rv_times.proofs.Cutting.{all_cut, all_whole, cut_at}
 use Rattle.rv_times.proofs.telling.put_all.Goals as goal
 
-pub returns-in-Some : goal.returns-in-Some
-returns-in-Some c =
+pub returns-in_ok-put_as-in-Some : goal.returns-in_ok-put_as-in-Some
+returns-in_ok-put_as-in-Some c =
     let parts = split_once_first 10 c.args.told.now (Some (c.in-Some.line, c.in-Some.lines)) c.in-Some.ensures.cases (omega arith) in
     on_ok_weaker c.put_lines.result
     (λ put. all_cut c.args.is_json c.args.times.now (string_bytes c.args.text.now) _ _ c.args.told.now c.in-Some.line.now c.in-Some.lines.now
@@ -17,5 +17,5 @@ returns-in-Some c =
 pub returns-in-None : goal.returns-in-None
 returns-in-None c =
     let none = split_once_first 10 c.args.told.now None c.in-None.ensures.cases (omega arith) in
-    on_ok_weaker c.put_as-2.result
-    (λ put. all_whole c.args.is_json c.args.times.now (string_bytes c.args.text.now) _ c.args.told.now (split_whole is_feed c.args.told.now none) put) c.put_as-2.ensures
+    on_ok_weaker c.put_as-in-None.result
+    (λ put. all_whole c.args.is_json c.args.times.now (string_bytes c.args.text.now) _ c.args.told.now (split_whole is_feed c.args.told.now none) put) c.put_as-in-None.ensures

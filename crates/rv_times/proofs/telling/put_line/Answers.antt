@@ -7,8 +7,8 @@ use Rattle.rv_times.specs.Telling.{is_space}
 use Rattle.rv_times.proofs.Cutting.{cut_at, line_cut, line_whole}
 use Rattle.rv_times.proofs.telling.put_line.Goals as goal
 
-pub returns-in-Some : goal.returns-in-Some
-returns-in-Some c =
+pub returns-in_ok-put_word-in-Some : goal.returns-in_ok-put_word-in-Some
+returns-in_ok-put_word-in-Some c =
     let parts = split_once_first 32 c.args.line.now (Some (c.in-Some.word, c.in-Some.words)) c.in-Some.ensures.cases (omega arith) in
     on_ok_weaker c.put_words.result
     (λ put. line_cut c.args.times.now (string_bytes c.args.text.now) _ _ c.args.line.now c.in-Some.word.now c.in-Some.words.now c.is_of_list.result c.names_entry.result
