@@ -2,7 +2,7 @@ use Rattle.std.proofs.Common.{List, ap, sym, ◌∙◌}
 use Rattle.std.proofs.lemmas.Result.{IfOk-weaker}
 use Rattle.rv_lex.specs.Lexes.{Lexeme}
 use Rattle.rv_placed.specs.Places.{place_in}
-use Rattle.rv_placed.proofs.Placing.{nowhere}
+use Rattle.rv_placed.proofs.Texts.{nowhere}
 use Rattle.rv_placed.proofs.places.place_in.Goals as goal
 
 pub returns-in-Ok : goal.returns-in-Ok

@@ -13,7 +13,7 @@ returns-in_ok-put_word-in-Some t c =
     let parts = split_once_first 32 c.args.words.now (Some (c.in-Some.word, c.in-Some.others)) c.in-Some.ensures.cases (omega arith) in
     on_ok_weaker c.put_words.result
     (λ put. words_more c.args.times.now c.args.is_entry (string_bytes c.args.text.now) _ _ _ c.args.words.now c.in-Some.word.now c.in-Some.others.now
-    (cut_at is_space c.args.words.now c.in-Some.word.now c.in-Some.others.now parts.0 parts.1 parts.2) c.in_ok-push_str.ensures.bytes c.in_ok-put_word.ensures
+    (cut_at is_space c.args.words.now c.in-Some.word.now c.in-Some.others.now parts.0 parts.1 parts.2) c.in_ok-push_str.ensures.bytes c.in_ok-put_word-in-Some.ensures
     (put ∙ ap (λ (b : Bool). string_bytes c.put_word.new.text ++ timed_words c.args.times.now b (slice_split is_space c.in-Some.others.now)) c.names_entry.ensures))
     c.put_words.ensures
 

@@ -12,7 +12,7 @@ returns-in_ok-put_as-in-Some c =
     let parts = split_once_first 10 c.args.told.now (Some (c.in-Some.line, c.in-Some.lines)) c.in-Some.ensures.cases (omega arith) in
     on_ok_weaker c.put_lines.result
     (λ put. all_cut c.args.is_json c.args.times.now (string_bytes c.args.text.now) _ _ c.args.told.now c.in-Some.line.now c.in-Some.lines.now
-    (cut_at is_feed c.args.told.now c.in-Some.line.now c.in-Some.lines.now parts.0 parts.1 parts.2) c.in_ok-put_as.ensures put) c.put_lines.ensures
+    (cut_at is_feed c.args.told.now c.in-Some.line.now c.in-Some.lines.now parts.0 parts.1 parts.2) c.in_ok-put_as-in-Some.ensures put) c.put_lines.ensures
 
 pub returns-in-None : goal.returns-in-None
 returns-in-None c =

@@ -12,7 +12,7 @@ returns-in_ok-put_word-in-Some c =
     let parts = split_once_first 32 c.args.line.now (Some (c.in-Some.word, c.in-Some.words)) c.in-Some.ensures.cases (omega arith) in
     on_ok_weaker c.put_words.result
     (λ put. line_cut c.args.times.now (string_bytes c.args.text.now) _ _ c.args.line.now c.in-Some.word.now c.in-Some.words.now c.is_of_list.result c.names_entry.result
-    (cut_at is_space c.args.line.now c.in-Some.word.now c.in-Some.words.now parts.0 parts.1 parts.2) c.is_of_list.ensures c.names_entry.ensures c.in_ok-put_word.ensures put) c.put_words.ensures
+    (cut_at is_space c.args.line.now c.in-Some.word.now c.in-Some.words.now parts.0 parts.1 parts.2) c.is_of_list.ensures c.names_entry.ensures c.in_ok-put_word-in-Some.ensures put) c.put_words.ensures
 
 pub returns-in-None : goal.returns-in-None
 returns-in-None c =
