@@ -8,5 +8,5 @@ use Rattle.rv_placed.specs.Places.{place_in}
 -- a text without words has it nowhere
 pub nowhere : (text unit object operation : List ℕ) (fault : LexFault) (place : Option ℕ) → IsNoMemory fault ⊎ HasNoWords text → (place ≡ None) × (IsNoMemory fault → ⊥) →
     (words : List Lexeme) → Lexes text words → place ≡ place_in unit object operation words
-nowhere text unit object operation fault place (inl no) h words lexes = absurd (h.1 no)
-nowhere text unit object operation fault place (inr none) h words lexes = absurd (none words lexes)
+nowhere text unit object operation fault place (inl short) h words lexes = absurd (h.1 short)
+nowhere text unit object operation fault place (inr wordless) h words lexes = absurd (wordless words lexes)

@@ -1,6 +1,6 @@
 -- Texts that are cut at a byte.
 use Rattle.std.proofs.Common.{◌≡◌, ℕ, zero, suc, ◌+◌, ◌<◌, ◌≤◌, Bool, true, false, List, [], ◌∷◌, ◌++◌, length, drop, refl, sym, ap, ◌∙◌, arith, append_assoc, append-nil}
-use Rattle.std.specs.Prelude.{nat_lt, not, if◌then◌else◌, Option}
+use Rattle.std.specs.Prelude.{nat_lt, not, Option}
 use Rattle.std.proofs.lemmas.Bool.Decides.{nat_tests}
 use Rattle.rv_text.specs.Numbers.{natural_of}
 use Rattle.std.specs.List.{slice_split, position_or_len, before_first, after_first}

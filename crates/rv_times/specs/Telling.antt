@@ -1,5 +1,5 @@
 -- What is told of a journal, with the times of the entries that it names (own).
-use Rattle.std.specs.Prelude.{ℕ, ◌-◌, ◌==◌, ◌||◌, nat_lt, not, Bool, true, false, if◌then◌else◌, List, [], ◌∷◌, ◌++◌, length, take, drop, slice_index, codes, Option, Some, None}
+use Rattle.std.specs.Prelude.{ℕ, ◌-◌, ◌==◌, ◌||◌, nat_lt, not, Bool, true, if◌then◌else◌, List, [], ◌∷◌, ◌++◌, length, take, drop, slice_index, codes, Option, Some, None}
 use Rattle.std.specs.List.{after_first, before_first, position_or_len, slice_split}
 use Rattle.std.specs.Str.{bytes_eq}
 use Rattle.rv_text.specs.Numbers.{natural_of}

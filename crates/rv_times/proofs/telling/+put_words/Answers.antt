@@ -1,4 +1,4 @@
-use Rattle.std.proofs.Common.{Bool, Some, None, ◌++◌, ap, ◌∙◌, arith, rules}
+use Rattle.std.proofs.Common.{Bool, Some, None, ◌++◌, ap, ◌∙◌, arith}
 use Rattle.std.specs.Prelude.{string_bytes}
 use Rattle.std.specs.List.{slice_split}
 use Rattle.std.proofs.lemmas.Result.{on_ok_weaker}

@@ -1,4 +1,4 @@
-use Rattle.std.proofs.Common.{Some, None, sym, arith}
+use Rattle.std.proofs.Common.{None, sym, arith}
 use Rattle.std.proofs.lemmas.Str.Pattern.{split_once_first}
 use Rattle.rv_times.specs.Telling.{is_colon}
 use Rattle.rv_times.proofs.Cutting.{none_behind}
