@@ -94,7 +94,7 @@ OF_PROGRAM = [
     ("{} audit --journal x-one.journal --", ALL, "{} audit --journal x-one.journal --color --explain --notes --torn"),
 ]
 OF_LAUNCHER = [
-    ("{} ", ALL, "{} access audit check explain help hits manual new play refusals run send state timeline waits whatif who"),
+    ("{} ", ALL, "{} access audit check explain export help hits manual new play refusals run send state timeline waits whatif who"),
     ("{} whatif z", ONE, "{} whatif z.raven "),
     ("{} access --against z", ONE, "{} access --against z.raven "),
     ("{} play --", ALL, "{} play --all --color --explain --help --host --list --no-explain --notes --shape --unit --warnings-are-errors "),
@@ -105,6 +105,8 @@ OF_LAUNCHER = [
     ("{} check --list=z", ONE, "{} check --list=z.raven "),
     ("{} check --host z.raven z", ONE, "{} check --host z.raven z.raven "),
     ("{} refusals --s", ALL, "{} refusals --script --shape --since "),
+    ("{} refusals --t", ALL, "{} refusals --times --torn "),
+    ("{} refusals --times x", ONE, "{} refusals --times x-one.journal "),
     ("{} refusals --journal x", ONE, "{} refusals --journal x-one.journal "),
     ("{} waits --script z", ONE, "{} waits --script z.raven "),
     ("{} access --b", ONE, "{} access --by "),

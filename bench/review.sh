@@ -81,6 +81,19 @@ expect 0 waits <"$work/whole"
 expect 0 waits_since_tick --since tick:7 --journal "$work/journal" <"$work/units"
 expect 0 waits_by --by nav.pilot --journal "$work/journal" <"$work/units"
 expect 0 waits_of --of plant.ready --journal "$work/journal" <"$work/units"
+# By a file of times: beside the entries, and since an instant, of another offset, which is that of entry 6.
+times=$here/bench/review/waiting.times
+expect 0 waits_timed --times "$times" --journal "$work/journal" <"$work/units"
+expect 0 waits_timed --times "$times" <"$work/whole"
+"$review" waits --since entry:6 --journal "$work/journal" <"$work/units" >"$work/since"
+"$review" waits --since 2026-11-30T15:20:02+01:00 --times "$times" --journal "$work/journal" <"$work/units" |
+    sed 's/ ([^)]*Z)//g' | cmp -s - "$work/since" || differs "waits since an instant"
+expect 2 nothing --since 2026-11-30T14:20:02Z --journal "$work/journal" <"$work/units"
+expect 2 nothing --since 2026-13-30T14:20:02Z --times "$times" --journal "$work/journal" <"$work/units"
+expect 4 nothing --times "$work/none" --journal "$work/journal" <"$work/units"
+expect 1 nothing --times "$here/bench/review/waits" --journal "$work/journal" <"$work/units"
+sort -r "$times" >"$work/backwards"
+expect 1 nothing --times "$work/backwards" --journal "$work/journal" <"$work/units"
 sed 's/accepted 0$/accepted 1/' "$work/journal" >"$work/wrong"
 expect 1 waits_not_legal --journal "$work/wrong" <"$work/units"
 
@@ -101,6 +114,7 @@ for number in 1 2 4 6 7 9 14 16 17 23 24 25 26; do
     expect 0 "explain_$number" "$number" --journal "$work/journal" <"$work/units"
     expect 0 "explain_$number" "$number" <"$work/whole"
 done
+expect 0 explain_9_timed 9 --times "$times" --journal "$work/journal" <"$work/units"
 expect 2 nothing 0 --journal "$work/journal" <"$work/units"
 expect 2 nothing 27 --journal "$work/journal" <"$work/units"
 expect 1 waits_not_legal 7 --journal "$work/wrong" <"$work/units"
@@ -136,6 +150,18 @@ expect 0 no_difference --against "$here/bench/review/granting.list" --journal "$
 expect 0 no_difference --of Plant.Ready --against "$here/bench/review/stricter.list" --journal "$work/journal" <"$work/units"
 asked="who"
 expect 0 who plant.valve.set --journal "$work/journal" <"$work/units"
+expect 0 who.json --json plant.valve.set --journal "$work/journal" <"$work/units"
+# Rows as JSON say what they say as text.
+as_text() {
+    python3 "$here/bench/review/rows_as_text.py" <"$work/said" | cmp -s - "$here/bench/review/$1" || differs "$1 as JSON isn't what it is as text"
+}
+as_text who
+asked=access
+expect 0 access.json --json --journal "$work/journal" <"$work/units"
+as_text access
+expect 0 against.json --json --against "$here/bench/review/stricter.list" --journal "$work/journal" <"$work/units"
+as_text against
+expect 0 nothing --json --against "$here/bench/review/granting.list" --journal "$work/journal" <"$work/units"
 
 # Each rule by which an entry of the examples is refused: the line that decided is the one that `refusals` names.
 for script in "$here"/examples/*.raven "$here"/bench/review/*.raven; do
@@ -153,6 +179,30 @@ for script in "$here"/examples/*.raven "$here"/bench/review/*.raven; do
     cmp -s "$work/said" "$here/bench/review/explain_refused_$name" ||
         differs "explain_refused_$name: $(diff "$work/said" "$here/bench/review/explain_refused_$name" | head -n 3)"
 done
+
+# Each journal as lines of JSON, of which its bytes can be made again.
+for script in "$here"/examples/*.raven "$here"/bench/review/*.raven; do
+    name=$(basename "$script" .raven)
+    "$host" play <"$script" >/dev/null 2>&1 || continue
+    play "$script"
+    "$review" export --journal "$work/journal" <"$work/units" >"$work/lines" || differs "export of $name"
+    "$review" export <"$work/whole" | cmp -s - "$work/lines" || differs "export of $name in a section"
+    python3 "$here/bench/review/journal_of.py" <"$work/lines" | cmp -s - "$work/journal" ||
+        differs "export of $name: the journal can't be made of it again"
+done
+play "$here/bench/review/waiting.raven"
+asked=export
+expect 0 export --journal "$work/journal" <"$work/units"
+"$review" export --times "$times" --journal "$work/journal" <"$work/units" >"$work/lines" || differs "export with times"
+python3 -c 'import json, sys
+for line in sys.stdin:
+    fields = json.loads(line)
+    time = fields.pop("time", None)
+    print(json.dumps(fields, separators=(",", ":")) if time or fields["entry"] > 25 else "no time")' <"$work/lines" |
+    cmp -s - "$here/bench/review/export" || differs "export with times"
+python3 "$here/bench/review/journal_of.py" <"$work/lines" | cmp -s - "$work/journal" || differs "export with times: the journal can't be made of it again"
+sed 's/accepted 0$/accepted 1/' "$work/journal" >"$work/wrong"
+expect 1 waits_not_legal --journal "$work/wrong" <"$work/units"
 
 # The plant of the examples: a call that waits and is handed over, the end that does that, a call that still waits, and one that is refused.
 cat "$here/examples/new/plant.raven" "$here/examples/new/steps.raven" >"$work/plant.raven"

@@ -20,8 +20,8 @@ BESIDE = ("--script", *REPEATED)
 
 # The commands that take parts of a script, and the questions about a journal, which have the flags beside them.
 COMPOSING = ("play", "check", "run", "audit")
-QUESTIONS = {"refusals": ("since", "by", "of"), "waits": ("since", "by", "of"), "access": ("against", "by", "of"), "who": (), "hits": ("since", "by", "of"), "whatif": ("since", "by", "of"),
-             "state": (), "explain": (), "timeline": ("by", "of", "from", "to", "text", "svg")}
+QUESTIONS = {"refusals": ("since", "by", "of"), "waits": ("since", "by", "of"), "access": ("against", "by", "of", "json"), "who": ("json",), "hits": ("since", "by", "of"), "whatif": ("since", "by", "of"),
+             "state": (), "explain": (), "timeline": ("by", "of", "from", "to", "text", "svg"), "export": ()}
 
 # Commands that a run is sent.
 SENT = "append remove replace tick halt journal raise load quit"
@@ -136,15 +136,17 @@ def composing(commands):
     for name in COMPOSING:
         commands[name].launcher += parts
     judging = {flag.spellings[-1]: flag for flag in commands["audit"].flags + commands["audit"].launcher}
-    told = {"since": ("WHEN", "Leave out what was before entry:N or tick:N", "entry: tick:"), "by": ("CALLER", "Leave out other callers", ""),
+    told = {"since": ("WHEN", "Leave out what was before entry:N, tick:N or, with --times, a time", "entry: tick:"), "by": ("CALLER", "Leave out other callers", ""),
             "of": ("CALLED", "Leave out calls of others", ""), "against": ("LIST", "Say what the list in this file would grant otherwise", FILES),
             "from": ("N", "Show nothing before the entry of this number", ""), "to": ("N", "Show nothing behind the entry of this number", ""),
-            "text": (None, "Show text for a terminal", ""), "svg": (None, "Show an SVG picture, for a browser", "")}
+            "text": (None, "Show text for a terminal", ""), "svg": (None, "Show an SVG picture, for a browser", ""),
+            "times": ("FILE", "Put the time beside each entry, by the lines ENTRY UTC of this file", FILES),
+            "json": (None, "Write each row as a line of JSON", "")}
     for name, asked in QUESTIONS.items():
         if name not in commands[""].own:
             sys.exit(f"manual/completions.py: {PAGES}/launcher doesn't name {name}")
         named = []
-        for word in asked:
+        for word in ("times", *asked):
             value, about, words = told[word]
             flag = Flag([f"--{word}"], None, about)
             flag.name, flag.value = value, value and (FILES if words == FILES else words.split() or NOTHING)

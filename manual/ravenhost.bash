@@ -29,21 +29,22 @@ _ravenhost_launcher_flags() {
         check) echo "--host --shape --unit --list" ;;
         run) echo "--trial --host --shape --unit --list" ;;
         audit) echo "--script --host --shape --unit --list" ;;
-        refusals) echo "--journal --torn --since --by --of --script --host --shape --unit --list" ;;
-        waits) echo "--journal --torn --since --by --of --script --host --shape --unit --list" ;;
-        access) echo "--journal --torn --against --by --of --script --host --shape --unit --list" ;;
-        who) echo "--journal --torn --script --host --shape --unit --list" ;;
-        hits) echo "--journal --torn --since --by --of --script --host --shape --unit --list" ;;
-        whatif) echo "--journal --torn --since --by --of --script --host --shape --unit --list" ;;
-        state) echo "--journal --torn --script --host --shape --unit --list" ;;
-        explain) echo "--journal --torn --script --host --shape --unit --list" ;;
-        timeline) echo "--journal --torn --by --of --from --to --text --svg --script --host --shape --unit --list" ;;
+        refusals) echo "--journal --torn --times --since --by --of --script --host --shape --unit --list" ;;
+        waits) echo "--journal --torn --times --since --by --of --script --host --shape --unit --list" ;;
+        access) echo "--journal --torn --times --against --by --of --json --script --host --shape --unit --list" ;;
+        who) echo "--journal --torn --times --json --script --host --shape --unit --list" ;;
+        hits) echo "--journal --torn --times --since --by --of --script --host --shape --unit --list" ;;
+        whatif) echo "--journal --torn --times --since --by --of --script --host --shape --unit --list" ;;
+        state) echo "--journal --torn --times --script --host --shape --unit --list" ;;
+        explain) echo "--journal --torn --times --script --host --shape --unit --list" ;;
+        timeline) echo "--journal --torn --times --by --of --from --to --text --svg --script --host --shape --unit --list" ;;
+        export) echo "--journal --torn --times --script --host --shape --unit --list" ;;
     esac
 }
 
 # The subcommands that the launcher adds, and the commands of a run that one of them sends.
 _ravenhost_launcher_subcommands() {
-    echo "new send refusals waits access who hits whatif state explain timeline"
+    echo "new send refusals waits access who hits whatif state explain timeline export"
 }
 _ravenhost_sent() {
     echo "append remove replace tick halt journal raise load quit"
@@ -65,6 +66,7 @@ _ravenhost_value() {
         --quota) echo "100 1000 10000" ;;
         --tick) echo "1000 100 10" ;;
         --stop-by) echo "files" ;;
+        --times) echo "files" ;;
         --since) echo "entry: tick:" ;;
         --by) echo "nothing" ;;
         --of) echo "nothing" ;;
@@ -88,6 +90,7 @@ _ravenhost_word() {
         hits) echo "files" ;;
         whatif) echo "files" ;;
         timeline) echo "files" ;;
+        export) echo "files" ;;
     esac
 }
 

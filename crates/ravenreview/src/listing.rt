@@ -8,14 +8,14 @@ use std::alloc::Global;
 use std::rt::Files;
 use std::{fmt, fs};
 
-// Tells what stands against a file, which then ends the program so.
-fn told<R: Eprint, E: fmt::Display>(rt: &R, name: &str, error: &E, stop: Stop) -> Stop {
+/// Tells what stands against a file, which then ends the program so.
+pub fn told<R: Eprint, E: fmt::Display>(rt: &R, name: &str, error: &E, stop: Stop) -> Stop {
     let _ = eprintln!(rt; "ravenreview: {name}: {error}");
     stop
 }
 
-// The bytes of a file, at most one past the greatest length of a script.
-fn bytes_of<R: Files + Eprint>(rt: &R, alloc: Global, name: &str) -> Result<Vec<u8>, Stop> {
+/// The bytes of a file, at most one past the greatest length of a script.
+pub fn bytes_of<R: Files + Eprint>(rt: &R, alloc: Global, name: &str) -> Result<Vec<u8>, Stop> {
     let mut file = match fs::open(rt, name) {
         Ok(file) => file,
         Err(e) => return Err(told(rt, name, &e, Stop::BadFile)),
@@ -27,8 +27,8 @@ fn bytes_of<R: Files + Eprint>(rt: &R, alloc: Global, name: &str) -> Result<Vec<
     }
 }
 
-// Why bytes are no text.
-fn words_for(error: TextError) -> &'static str {
+/// Why bytes are no text.
+pub fn words_for(error: TextError) -> &'static str {
     match error {
         TextError::TooLong => "it is longer than 16 MiB",
         TextError::NotText => "it isn't UTF-8",

@@ -1,15 +1,17 @@
 //! The second program: questions about a journal, answered by the rules that judge it.
 #![tactic(auto)]
 
+mod explaining;
 mod line;
 mod listing;
 mod one_entry;
 mod reviewing;
 mod status;
+mod timing;
 mod wishing;
 
+use explaining::answer;
 use line::{asked, words_of};
-use reviewing::answer;
 use rv_exec::machine::STACK_BYTES;
 use rv_fault::Failure;
 use status::{NO_MEANS, Stop, status_of};

@@ -6,32 +6,31 @@ use crate::status::Stop;
 use crate::wishing::wish_of;
 use rv_access::AccessList;
 use rv_fault::Failure;
-use rv_inquiry::inquiry::{From, Inquiry, Question};
+use rv_inquiry::inquiry::{Inquiry, Question};
 use rv_review::{
-    Audited, Filter, Nobody, Since, explain, explain_file, hits, hits_file, refusals,
-    refusals_file, rights, rights_file, state, state_file, timeline, timeline_file, waits,
-    waits_file, what_if, what_if_file,
+    AccessWish, Audited, Filter, Nobody, Since, explain, explain_file, export, export_file, hits,
+    hits_file, refusals, refusals_file, rights, rights_file, state, state_file, timeline,
+    timeline_file, waits, waits_file, what_if, what_if_file,
 };
 use std::alloc::Global;
 use std::fs;
 use std::io::{Read, Write};
 use std::rt::Files;
 
-// Since when entries are taken.
-fn since_of(from: From) -> Since {
-    match from {
-        From::Start => Since::Start,
-        From::Entry(number) => Since::Entry(number as usize),
-        From::Tick(tick) => Since::Tick(tick),
+// The entries that are asked for, since then.
+fn filter_of<'a>(asked: &Inquiry<'a>, since: Since) -> Filter<'a> {
+    Filter {
+        since,
+        by: asked.by,
+        of: asked.of,
     }
 }
 
-// The entries that are asked for.
-fn filter_of<'a>(asked: &Inquiry<'a>) -> Filter<'a> {
-    Filter {
-        since: since_of(asked.since),
-        by: asked.by,
-        of: asked.of,
+// What is wished of rights, of the calls that are asked for.
+fn access_wish_of<'a>(asked: &Inquiry<'_>, filter: Filter<'a>) -> AccessWish<'a> {
+    AccessWish {
+        filter,
+        as_json: asked.is_json,
     }
 }
 
@@ -76,20 +75,24 @@ fn or_empty(alloc: Global, list: Option<AccessList>) -> AccessList {
 fn said<I: Read, W: Write>(
     alloc: Global,
     asked: &Inquiry<'_>,
+    since: Since,
     list: Option<AccessList>,
     reader: &mut I,
     writer: &mut W,
 ) -> Result<Audited, Failure> {
-    let filter = filter_of(asked);
+    let filter = filter_of(asked, since);
     match asked.question {
         Question::Refusals => refusals(alloc, reader, writer, filter),
         Question::Waits => waits(alloc, reader, writer, filter),
-        Question::Access | Question::Who => rights(alloc, reader, writer, filter, list),
+        Question::Access | Question::Who => {
+            rights(alloc, reader, writer, access_wish_of(asked, filter), list)
+        }
         Question::Hits => hits(alloc, reader, writer, filter),
         Question::WhatIf => what_if(alloc, reader, writer, filter, or_empty(alloc, list)),
         Question::State => state(alloc, reader, writer, entry_of(asked)),
         Question::Explain => explain(alloc, reader, writer, entry_of(asked)),
         Question::Timeline => timeline(alloc, reader, writer, wish_of(asked, filter)),
+        Question::Export => export(alloc, reader, writer),
     }
 }
 
@@ -97,19 +100,21 @@ fn said<I: Read, W: Write>(
 fn said_of_file<I: Read, J: Read, W: Write>(
     alloc: Global,
     asked: &Inquiry<'_>,
+    since: Since,
     list: Option<AccessList>,
     reader: &mut I,
     journal: &mut J,
     writer: &mut W,
 ) -> Result<Audited, Failure> {
-    let filter = filter_of(asked);
+    let filter = filter_of(asked, since);
     let torn = asked.takes_torn;
     let watch = &mut Nobody {};
     match asked.question {
         Question::Refusals => refusals_file(alloc, reader, journal, torn, watch, writer, filter),
         Question::Waits => waits_file(alloc, reader, journal, torn, watch, writer, filter),
         Question::Access | Question::Who => {
-            rights_file(alloc, reader, journal, torn, watch, writer, filter, list)
+            let wish = access_wish_of(asked, filter);
+            rights_file(alloc, reader, journal, torn, watch, writer, wish, list)
         }
         Question::Hits => hits_file(alloc, reader, journal, torn, watch, writer, filter),
         Question::WhatIf => what_if_file(
@@ -134,6 +139,7 @@ fn said_of_file<I: Read, J: Read, W: Write>(
             let wish = wish_of(asked, filter);
             timeline_file(alloc, reader, journal, torn, watch, writer, wish)
         }
+        Question::Export => export_file(alloc, reader, journal, torn, watch, writer),
     }
 }
 
@@ -143,6 +149,7 @@ fn answer_of_file<R: Files + Eprint, I: Read, W: Write>(
     alloc: Global,
     name: &str,
     asked: &Inquiry<'_>,
+    since: Since,
     list: Option<AccessList>,
     reader: &mut I,
     writer: &mut W,
@@ -156,7 +163,7 @@ fn answer_of_file<R: Files + Eprint, I: Read, W: Write>(
     };
     ended(
         rt,
-        said_of_file(alloc, asked, list, reader, &mut journal, writer),
+        said_of_file(alloc, asked, since, list, reader, &mut journal, writer),
     )
 }
 
@@ -165,6 +172,7 @@ fn answer_into<R: Files + Eprint, I: Read, W: Write>(
     rt: &R,
     alloc: Global,
     asked: &Inquiry<'_>,
+    since: Since,
     reader: &mut I,
     writer: &mut W,
 ) -> Result<(), Stop> {
@@ -173,24 +181,25 @@ fn answer_into<R: Files + Eprint, I: Read, W: Write>(
         None => None,
     };
     match asked.journal {
-        Some(name) => answer_of_file(rt, alloc, name, asked, list, reader, writer),
-        None => ended(rt, said(alloc, asked, list, reader, writer)),
+        Some(name) => answer_of_file(rt, alloc, name, asked, since, list, reader, writer),
+        None => ended(rt, said(alloc, asked, since, list, reader, writer)),
     }
 }
 
-/// Answers what is asked of a journal. That it has no entry of the number that is asked about is an error.
-pub fn answer<R: Files + Eprint, I: Read, W: Write>(
+/// Answers what is asked of a journal, since then. That it has no entry of the number that is asked about is an error.
+pub fn answer_since<R: Files + Eprint, I: Read, W: Write>(
     rt: &R,
     alloc: Global,
     asked: &Inquiry<'_>,
+    since: Since,
     reader: &mut I,
     writer: &mut W,
 ) -> Result<(), Stop> {
     if asked.entry.is_none() {
-        return answer_into(rt, alloc, asked, reader, writer);
+        return answer_into(rt, alloc, asked, since, reader, writer);
     }
     let mut said: Vec<u8> = Vec::new(alloc);
-    let outcome = answer_into(rt, alloc, asked, reader, &mut said);
+    let outcome = answer_into(rt, alloc, asked, since, reader, &mut said);
     tell(rt, writer, said.as_slice())?;
     outcome
 }

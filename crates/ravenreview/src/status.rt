@@ -17,13 +17,13 @@ pub enum Stop {
     Told,
     /// The review of the script failed.
     Failed(Failure),
-    /// A file can't be opened, or that of a list can't be read, which was said.
+    /// A file can't be opened, or that of a list or of times can't be read, which was said.
     BadFile,
     /// The journal isn't that of a legal history, which was said.
     NotLegal,
     /// The journal has no entry of the number that is asked about, which was said.
     NoEntry,
-    /// The file of a list holds none, which was said.
+    /// The file of a list or of times holds none, which was said.
     BadList,
 }
 

@@ -4,10 +4,10 @@ use Rattle.std.specs.Fmt.{decimal}
 use Rattle.rv_access.specs.Lines.{line_at}
 use Rattle.rv_access.specs.Text.{list_text}
 use Rattle.rv_access.specs.Words.{Words}
-use Rattle.rv_shape.specs.Catalogue.{ceiling, handler, target, who}
+use Rattle.rv_shape.specs.Catalogue.{Target, ceiling, handler, target, who}
 use Rattle.rv_shape.specs.Printed.{actor_text, target_text}
 use Rattle.rv_shape.specs.Shape.{Shape}
-use Rattle.rv_event.specs.Past.{clock, fired, next_of, waiter}
+use Rattle.rv_event.specs.Past.{clock, fired, last_queued, next_of, waiter}
 use Rattle.rv_event.specs.Text.{entry_line}
 use Rattle.rv_event.specs.declared.entry.Body.{Body}
 use Rattle.rv_event.specs.declared.entry.Entry.{Entry}
@@ -126,10 +126,32 @@ dropped_line actor past lists =
 abbrev pub broken_text : History → ℕ → Request → Rule → List ℕ
 broken_text h actor request rule = broken_rule rule ++ against h actor (aim h.shapes actor request).0 rule
 
+-- the smallest line that grants a call of this, behind all others: it names the one subject and the one operation
+abbrev pub letting_text : List ℕ → Target → List ℕ
+letting_text subject called =
+    codes "the smallest line that would have let it in, which is no advice: allow " ++ (subject ++ 32 ∷ (target_text called ++ 10 ∷ []))
+
+abbrev pub letting_line : History → Option Body → List ℕ
+letting_line h None = []
+letting_line h (Some call) = letting_text (subject h call.actor) (target h.shapes call.object call.operation)
+
+-- of a request that the first rule refuses
+abbrev pub letting : History → ℕ → Request → Rule → List ℕ
+letting h actor request Grant = letting_line h (call_of h.shapes actor request)
+letting h actor request rule = []
+
+-- why a resume was refused
+abbrev pub refused_resume : History → ℕ → List ℕ
+refused_resume h actor = dropped_line actor h.past h.lists ++ letting_line h (last_queued actor h.past)
+
+-- and another request
+abbrev pub refused_request : History → ℕ → Request → Rule → List ℕ
+refused_request h actor request rule = broken_text h actor request rule ++ letting h actor request rule
+
 -- why a request was refused
 abbrev pub refused_text : History → ℕ → Request → Rule → List ℕ
-refused_text h actor Resume rule = dropped_line actor h.past h.lists
-refused_text h actor request rule = broken_text h actor request rule
+refused_text h actor Resume rule = refused_resume h actor
+refused_text h actor request rule = refused_request h actor request rule
 
 -- What else is answered
 

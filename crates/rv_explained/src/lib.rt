@@ -8,6 +8,7 @@
 mod bodies;
 pub mod drops;
 pub mod explained;
+mod letting;
 mod reasons;
 pub mod refusals;
 pub mod ties;

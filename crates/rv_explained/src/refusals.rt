@@ -9,7 +9,7 @@ ghost use Rattle.rv_history.specs.Rules.{aim};
 ghost use Rattle.rv_shape.specs.Catalogue.{handler};
 ghost use Rattle.rv_shape.specs.Printed.{actor_text};
 ghost use Rattle.rv_shape.specs.Readers.{who_of};
-ghost use Rattle.rv_explained.specs.Explanations.{actor_names, against, broken_rule, broken_text, call_of, decided_line, decision_line, denied, dropped_line, held_text, priorities_line, queue_line, refused_text, waiter_line};
+ghost use Rattle.rv_explained.specs.Explanations.{actor_names, against, broken_rule, broken_text, call_of, decided_line, decision_line, denied, dropped_line, held_text, priorities_line, queue_line, refused_request, refused_resume, refused_text, waiter_line};
 ghost use Rattle.rv_waiting.specs.Queues.{callers};
 ghost use Rattle.rv_waits.specs.Lasting.{Bodies, lasting};
 ghost use Rattle.rv_explained.specs.Following.{KeepsTies};
@@ -17,6 +17,7 @@ ghost use Rattle.rv_explained.specs.Ties.{KeepsDrops};
 
 use crate::bodies::{put_bodies, put_priorities};
 use crate::drops::Drops;
+use crate::letting::{put_letting, put_letting_queued};
 use crate::ties::Ties;
 use crate::words::{rule_text, since_text};
 use rv_asked::deciding::{decided_in_force, line_in_force};
@@ -339,6 +340,38 @@ fn put_resumed(
     put_dropped(alloc, text, ties.drops(), actor)
 }
 
+// Puts why a resume was refused.
+fn put_refused_resume(
+    alloc: Global,
+    text: &mut String,
+    host: &Host,
+    ties: &Ties,
+    actor: usize,
+) -> Result<(), AllocError>
+    ensures { OnOk result (KeepsTies ties.now host.now →
+        string_bytes text.new ≡ string_bytes text.old ++ refused_resume host.now actor) }
+{
+    put_resumed(alloc, text, host, ties, actor)?;
+    put_letting_queued(text, host, ties, actor)
+}
+
+// Puts why another request was refused.
+fn put_refused_request(
+    alloc: Global,
+    text: &mut String,
+    host: &Host,
+    ties: &Ties,
+    actor: usize,
+    request: &Request,
+    rule: Rule,
+) -> Result<(), AllocError>
+    ensures { OnOk result (KeepsTies ties.now host.now →
+        string_bytes text.new ≡ string_bytes text.old ++ refused_request host.now actor request.now rule) }
+{
+    put_broken(alloc, text, host, ties, actor, request, rule)?;
+    put_letting(text, host, ties, actor, request, rule)
+}
+
 /// Puts why a request was refused. Err where memory was refused.
 pub fn put_refused(
     alloc: Global,
@@ -353,7 +386,7 @@ pub fn put_refused(
         string_bytes text.new ≡ string_bytes text.old ++ refused_text host.now actor request.now rule) }
 {
     match *request {
-        Request::Resume => put_resumed(alloc, text, host, ties, actor),
-        _ => put_broken(alloc, text, host, ties, actor, request, rule),
+        Request::Resume => put_refused_resume(alloc, text, host, ties, actor),
+        _ => put_refused_request(alloc, text, host, ties, actor, request, rule),
     }
 }

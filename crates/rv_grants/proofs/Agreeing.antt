@@ -5,8 +5,8 @@ use Rattle.std.proofs.lemmas.Bool.Decides.{nat_tests}
 use Rattle.rv_access.specs.Lines.{allows, line_at}
 use Rattle.rv_access.specs.Words.{Words}
 use Rattle.rv_spans.specs.Spans.{in_order, with_span}
-use Rattle.rv_grants.specs.Differences.{AgreesWithoutRow, Deciding, are_same, deciding, decided_before, decisions_text, differ, difference_at, difference_row, differences_from, edges_of, end_among, is_one_of, span_text}
-use Rattle.rv_grants.specs.Grants.{Call, NoneBetween, decided, ends}
+use Rattle.rv_grants.specs.Differences.{AgreesWithoutRow, Deciding, are_same, deciding, decided_before, decisions_fields, decisions_text, differ, difference_at, difference_row, differences_from, edges_of, end_among, is_one_of, span_fields, span_text, told_apart}
+use Rattle.rv_grants.specs.Grants.{Call, NoneBetween, decided, ends, json_row}
 use Rattle.rv_grants.proofs.Between.{decides_between}
 
 -- the two lists agree about a call at these ticks
@@ -32,6 +32,18 @@ ends_with (x ∷ xs) ys byte e = cc
 no_row : (call : Call) (span decisions : List ℕ) → difference_row call span decisions ≡ [] → ⊥
 no_row call span decisions e = ends_with call.caller _ 32 e
 
+no_json : (call : Call) (span decisions : List ℕ) → json_row call span decisions ≡ [] → ⊥
+no_json call span decisions e = cc
+
+neither : (b : Bool) (one other : List ℕ) → (one ≡ [] → ⊥) → (other ≡ [] → ⊥) → (if b then one else other) ≡ [] → ⊥
+neither true one other first second e = first e
+neither false one other first second e = second e
+
+untold : (one other : List Words) (call : Call) (tick : ℕ) (end : Option ℕ) (these : Deciding) → told_apart one other call tick end these ≡ [] → ⊥
+untold one other call tick end these =
+    neither call.as_json (json_row call (span_fields tick end) (decisions_fields one other these)) (difference_row call (span_text tick end) (decisions_text one other these))
+    (no_json call (span_fields tick end) (decisions_fields one other these)) (no_row call (span_text tick end) (decisions_text one other these))
+
 none_differs : (b : Bool) (row : List ℕ) → (row ≡ [] → ⊥) → (if b then row else []) ≡ [] → b ≡ false
 none_differs true row never e = absurd (never e)
 none_differs false row never e = refl
@@ -50,10 +62,10 @@ again one other last these same e =
     ap (λ (n : ℕ). is_one_of (allows (line_at one n)) (allows (line_at other these.1))) (sym p.0)
     ∙ ap (λ (n : ℕ). is_one_of (allows (line_at one last.0)) (allows (line_at other n))) (sym p.1) ∙ e
 
--- the row of a call from a tick on
+-- what is told of a call from a tick on
 abbrev row_of : List Words → List Words → Call → ℕ → List ℕ → List ℕ
 row_of one other call tick ticks =
-    difference_row call (span_text tick (end_among one other call (deciding one other call tick) ticks)) (decisions_text one other (deciding one other call tick))
+    told_apart one other call tick (end_among one other call (deciding one other call tick) ticks) (deciding one other call tick)
 
 here_again : (one other : List Words) (call : Call) (last : Option Deciding) (tick : ℕ) (ticks : List ℕ) (b : Bool) → decided_before last (deciding one other call tick) ≡ b → Agreed one other last →
     (if b then [] else (if differ one other (deciding one other call tick) then row_of one other call tick ticks else [])) ≡ [] → differ one other (deciding one other call tick) ≡ false
@@ -61,7 +73,7 @@ here_again one other call None tick ticks true is agreed e = absurd cc
 here_again one other call (Some last) tick ticks true is agreed e = again one other last (deciding one other call tick) is agreed
 here_again one other call last tick ticks false is agreed e =
     none_differs (differ one other (deciding one other call tick)) (row_of one other call tick ticks)
-    (no_row call (span_text tick (end_among one other call (deciding one other call tick) ticks)) (decisions_text one other (deciding one other call tick))) e
+    (untold one other call tick (end_among one other call (deciding one other call tick) ticks) (deciding one other call tick)) e
 
 agree_from : (one other : List Words) (call : Call) (last : Option Deciding) (ticks : List ℕ) → Agreed one other last → differences_from one other call last ticks ≡ [] → AgreeAt one other call ticks
 agree_from one other call last [] agreed e = tt

@@ -5,7 +5,7 @@ use Rattle.rv_access.specs.Lines.{allows, line_at}
 use Rattle.rv_access.specs.Words.{Words}
 use Rattle.rv_shape.specs.Catalogue.{dotted}
 use Rattle.rv_spans.specs.Spans.{in_order}
-use Rattle.rv_grants.specs.Grants.{Call, decided, decision_text, ends}
+use Rattle.rv_grants.specs.Grants.{Call, decided, decision_fields, decision_text, ends, json_row}
 
 -- where the windows of both lists begin and end, in order
 abbrev pub edges_of : List Words → List Words → List ℕ
@@ -51,18 +51,33 @@ difference_row call span decisions =
     call.caller ++ 32 ∷ (dotted call.unit call.object ++ 32 ∷ (call.operation ++ (codes " from tick " ++ (span
     ++ (codes " -> " ++ (decisions ++ 10 ∷ []))))))
 
+-- so as JSON
+abbrev pub span_fields : ℕ → Option ℕ → List ℕ
+span_fields tick None = decimal tick
+span_fields tick (Some end) = decimal tick ++ (codes ",\"until\":" ++ decimal end)
+
+abbrev pub decisions_fields : List Words → List Words → Deciding → List ℕ
+decisions_fields one other these =
+    decision_fields these.0 (line_at one these.0) ++ (codes ",\"against\":{" ++ (decision_fields these.1 (line_at other these.1) ++ codes "}"))
+
+-- what is told of a call from a tick on until another
+abbrev pub told_apart : List Words → List Words → Call → ℕ → Option ℕ → Deciding → List ℕ
+told_apart one other call tick end these =
+    if call.as_json then json_row call (span_fields tick end) (decisions_fields one other these)
+    else difference_row call (span_text tick end) (decisions_text one other these)
+
 -- whether these lines decided before
 abbrev pub decided_before : Option Deciding → Deciding → Bool
 decided_before None these = false
 decided_before (Some last) these = are_same last these
 
--- the row of a call from a tick on, before these others, where other lines decide than before and the two lists differ
+-- what is told of a call from a tick on, before these others, where other lines decide than before and the two lists differ
 abbrev pub difference_at : List Words → List Words → Call → Option Deciding → ℕ → List ℕ → List ℕ
 difference_at one other call last tick ticks =
     let these : Deciding = deciding one other call tick in
     if decided_before last these then []
     else (if differ one other these
-    then difference_row call (span_text tick (end_among one other call these ticks)) (decisions_text one other these) else [])
+    then told_apart one other call tick (end_among one other call these ticks) these else [])
 
 -- the rows of a call at these ticks
 abbrev pub differences_from : List Words → List Words → Call → Option Deciding → List ℕ → List ℕ

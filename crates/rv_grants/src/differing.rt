@@ -1,11 +1,11 @@
 //! Where one of two lists grants a call and the other doesn't, by spans of ticks.
 
-ghost use Rattle.std.specs.Prelude.{◌≡◌, ◌++◌, IfOk, OnOk, option_copied, string_bytes};
-ghost use Rattle.rv_access.specs.Lines.{allows};
-ghost use Rattle.rv_grants.specs.Differences.{AgreesWithoutRow, are_same, deciding, decided_before, decisions_text, differ, difference_at, difference_row, differences_from, differences_text, edges_of, end_among, span_text};
+ghost use Rattle.std.specs.Prelude.{◌≡◌, ◌++◌, IfOk, OnOk, string_bytes};
+ghost use Rattle.rv_grants.specs.Grants.{json_row};
+ghost use Rattle.rv_grants.specs.Differences.{AgreesWithoutRow, are_same, deciding, decided_before, decisions_fields, decisions_text, differ, difference_at, difference_row, differences_from, differences_text, edges_of, end_among, span_fields, span_text, told_apart};
 
-use crate::{Asking, decided, decision_text, put_ends};
-use rv_access::{AccessList, Line};
+use crate::{Asking, allows, decided, decision_fields, decision_text, put_ends, put_json};
+use rv_access::AccessList;
 use rv_spans::sorted;
 use std::alloc::{AllocError, Global};
 
@@ -49,16 +49,6 @@ fn are_same(these: (usize, usize), those: (usize, usize)) -> bool
     ensures { result ≡ are_same these those }
 {
     these.0 == those.0 && these.1 == those.1
-}
-
-// Whether there is a line, and it allows.
-fn allows(line: Option<&Line>) -> bool
-    ensures { result ≡ allows (option_copied line.entry) }
-{
-    match line {
-        Some(line) => line.allows(),
-        None => false,
-    }
 }
 
 // Whether one of these two lines grants, and the other doesn't.
@@ -150,6 +140,68 @@ fn put_row(
     put_words(text, asking, span.as_str(), decisions.as_str())
 }
 
+// From which tick on and until when, if ever, as JSON.
+fn span_fields(alloc: Global, tick: u64, end: Option<u64>) -> Result<String, AllocError>
+    ensures { IfOk result (λ text. string_bytes text ≡ span_fields tick end) }
+{
+    match end {
+        Some(end) => format!(in alloc; "{tick},\"until\":{end}"),
+        None => format!(in alloc; "{tick}"),
+    }
+}
+
+// What these lines decide, as JSON.
+fn decisions_fields(
+    alloc: Global,
+    lists: Both<'_>,
+    these: (usize, usize),
+) -> Result<String, AllocError>
+    ensures { IfOk result (λ text. string_bytes text ≡ decisions_fields lists.entry.one.now lists.entry.other.now these) }
+{
+    let ours = decision_fields(alloc, these.0, lists.one.line(these.0))?;
+    let theirs = decision_fields(alloc, these.1, lists.other.line(these.1))?;
+    let ours = ours.as_str();
+    let theirs = theirs.as_str();
+    format!(in alloc; "{ours},\"against\":{{{theirs}}}")
+}
+
+// Puts the row of a call from a tick on until another as JSON, by what these lines decide.
+fn put_fields(
+    alloc: Global,
+    text: &mut String,
+    lists: Both<'_>,
+    asking: &Asking<'_>,
+    tick: u64,
+    end: Option<u64>,
+    these: (usize, usize),
+) -> Result<(), AllocError>
+    ensures { OnOk result (string_bytes text.new ≡ string_bytes text.old ++ json_row asking.now (span_fields tick end)
+        (decisions_fields lists.entry.one.now lists.entry.other.now these)) }
+{
+    let span = span_fields(alloc, tick, end)?;
+    let decisions = decisions_fields(alloc, lists, these)?;
+    put_json(text, asking, span.as_str(), decisions.as_str())
+}
+
+// Tells of a call from a tick on until another, by what these lines decide.
+fn put_told(
+    alloc: Global,
+    text: &mut String,
+    lists: Both<'_>,
+    asking: &Asking<'_>,
+    tick: u64,
+    end: Option<u64>,
+    these: (usize, usize),
+) -> Result<(), AllocError>
+    ensures { OnOk result (string_bytes text.new ≡ string_bytes text.old
+        ++ told_apart lists.entry.one.now lists.entry.other.now asking.now tick end these) }
+{
+    if asking.as_json {
+        return put_fields(alloc, text, lists, asking, tick, end, these);
+    }
+    put_row(alloc, text, lists, asking, tick, end, these)
+}
+
 // Whether these lines decided before.
 fn decided_before(last: Option<(usize, usize)>, these: (usize, usize)) -> bool
     ensures { result ≡ decided_before last these }
@@ -160,7 +212,7 @@ fn decided_before(last: Option<(usize, usize)>, these: (usize, usize)) -> bool
     }
 }
 
-// Puts the row of a call from a tick on, before these others, where other lines decide than before and the two lists differ.
+// Tells of a call from a tick on, before these others, where other lines decide than before and the two lists differ.
 fn put_difference(
     alloc: Global,
     text: &mut String,
@@ -181,7 +233,7 @@ fn put_difference(
         return Ok(());
     }
     let end = end_among(lists, asking, these, ticks);
-    put_row(alloc, text, lists, asking, tick, end, these)
+    put_told(alloc, text, lists, asking, tick, end, these)
 }
 
 // Puts the rows of a call at these ticks behind a text.

@@ -3,8 +3,10 @@
 
 mod differing;
 
-ghost use Rattle.std.specs.Prelude.{◌≡◌, ◌++◌, IfOk, OnOk, option_copied, string_bytes};
-ghost use Rattle.rv_grants.specs.Grants.{DecidesBetween, change, decided, decision_text, edges, ends, grants_from, grants_text, is_again, row};
+ghost use Rattle.std.specs.Prelude.{◌≡◌, ◌++◌, ◌∷◌, [], IfOk, OnOk, option_copied, string_bytes};
+ghost use Rattle.std.specs.Fmt.{decimal};
+ghost use Rattle.rv_access.specs.Lines.{allows};
+ghost use Rattle.rv_grants.specs.Grants.{DecidesBetween, change, decided, decision_fields, decision_text, edges, ends, grants_from, grants_text, granted_word, is_again, json_row, row, told, words_of};
 
 pub use differing::{Both, no_row_where_lists_agree, put_differences};
 use rv_access::{AccessList, Line, decide};
@@ -18,7 +20,7 @@ pub fn same_lines_decide_between_edges()
     ensures { DecidesBetween }
 {}
 
-/// A call: which unit calls which operation of which object.
+/// What is asked: which unit calls which operation of which object, and in which form the answer is told.
 #[derive(Drop)]
 pub struct Asking<'a> {
     /// The unit that calls.
@@ -29,6 +31,8 @@ pub struct Asking<'a> {
     pub object: &'a str,
     /// The operation.
     pub operation: &'a str,
+    /// Whether it is told as JSON.
+    pub as_json: bool,
 }
 
 impl<'a> Model for Asking<'a> {
@@ -41,6 +45,7 @@ impl<'a> Model for Asking<'a> {
       unit = a.unit.now;
       object = a.object.now;
       operation = a.operation.now;
+      as_json = a.as_json;
     } };
 }
 
@@ -101,6 +106,101 @@ fn put_words(
     )
 }
 
+// Puts a row as JSON: the ticks, and the fields of what is decided.
+pub(crate) fn put_json(
+    text: &mut String,
+    asking: &Asking<'_>,
+    span: &str,
+    decision: &str,
+) -> Result<(), AllocError>
+    ensures { OnOk result (string_bytes text.new ≡ string_bytes text.old ++ json_row asking.now span.now decision.now) }
+{
+    let caller = asking.caller;
+    let unit = asking.unit;
+    let object = asking.object;
+    let operation = asking.operation;
+    write!(
+        text,
+        "{{\"caller\":\"{caller}\",\"object\":\"{unit}.{object}\",\"operation\":\"{operation}\",\"from\":{span},{decision}}}\n"
+    )
+}
+
+// Whether there is a line, and it allows.
+pub(crate) fn allows(line: Option<&Line>) -> bool
+    ensures { result ≡ allows (option_copied line.entry) }
+{
+    match line {
+        Some(line) => line.allows(),
+        None => false,
+    }
+}
+
+// Whether something is granted, as JSON has it.
+fn granted_word(granted: bool) -> &'static str
+    ensures { result.now ≡ granted_word granted }
+{
+    if granted { "true" } else { "false" }
+}
+
+// The words of a line, if there is one.
+fn words_of(alloc: Global, line: Option<&Line>) -> Result<String, AllocError>
+    ensures { IfOk result (λ text. string_bytes text ≡ words_of (option_copied line.entry)) }
+{
+    match line {
+        Some(line) => line.text(alloc),
+        None => String::from_str(alloc, "no line"),
+    }
+}
+
+// The fields of what the line of this number decides.
+pub(crate) fn decision_fields(
+    alloc: Global,
+    number: usize,
+    line: Option<&Line>,
+) -> Result<String, AllocError>
+    ensures { IfOk result (λ text. string_bytes text ≡ decision_fields number (option_copied line.entry)) }
+{
+    let granted = granted_word(allows(line));
+    let words = words_of(alloc, line)?;
+    let words = words.as_str();
+    format!(in alloc; "\"granted\":{granted},\"line\":{number},\"line_text\":\"{words}\"")
+}
+
+// The same of a call from a tick on, as a row.
+fn put_fields(
+    alloc: Global,
+    text: &mut String,
+    asking: &Asking<'_>,
+    tick: u64,
+    number: usize,
+    line: Option<&Line>,
+) -> Result<(), AllocError>
+    ensures { OnOk result (string_bytes text.new ≡ string_bytes text.old
+        ++ json_row asking.now (decimal tick) (decision_fields number (option_copied line.entry))) }
+{
+    let span = format!(in alloc; "{tick}")?;
+    let decision = decision_fields(alloc, number, line)?;
+    put_json(text, asking, span.as_str(), decision.as_str())
+}
+
+// Tells of a call from a tick on, at which the line of this number decides.
+fn put_told(
+    alloc: Global,
+    text: &mut String,
+    asking: &Asking<'_>,
+    tick: u64,
+    number: usize,
+    line: Option<&Line>,
+) -> Result<(), AllocError>
+    ensures { OnOk result (string_bytes text.new ≡ string_bytes text.old ++ told asking.now tick number (option_copied line.entry)) }
+{
+    if asking.as_json {
+        return put_fields(alloc, text, asking, tick, number, line);
+    }
+    let decision = decision_text(alloc, line)?;
+    put_words(text, asking, tick, decision.as_str())
+}
+
 // Whether a line decided before.
 fn is_again(last: Option<usize>, number: usize) -> bool
     ensures { result ≡ is_again last number }
@@ -111,7 +211,7 @@ fn is_again(last: Option<usize>, number: usize) -> bool
     }
 }
 
-// Puts the row of a call from a tick on, at which the line of this number decides, where another decided before.
+// Tells of a call from a tick on, at which the line of this number decides, where another decided before.
 fn put_change(
     alloc: Global,
     text: &mut String,
@@ -126,8 +226,7 @@ fn put_change(
     if is_again(last, number) {
         return Ok(());
     }
-    let decision = decision_text(alloc, list.line(number))?;
-    put_words(text, asking, tick, decision.as_str())
+    put_told(alloc, text, asking, tick, number, list.line(number))
 }
 
 // The line that decides a call at a tick.

@@ -1,8 +1,8 @@
--- The command line of `ravenreview` (own): each subcommand may be given `--journal FILE` and, with it, `--torn`; `refusals`, `waits`,
+-- The command line of `ravenreview` (own): each subcommand may be given `--journal FILE` and, with it, `--torn`, and `--times FILE`; `refusals`, `waits`,
 -- `hits` and `whatif` also `--since WHEN`, these and `access` and `timeline` `--by CALLER` and `--of CALLED`, `who` the word CALLED,
--- `access` `--against LIST`, and `timeline` `--from N`, `--to N` and `--text` or `--svg`. `state` and `explain` must be given a number N,
+-- `access` and `who` `--json`, `access` also `--against LIST`, and `timeline` `--from N`, `--to N` and `--text` or `--svg`. `state` and `explain` must be given a number N,
 -- and `whatif` a LIST. What words come to is what `clap` says of this command.
-use Rattle.std.specs.Prelude.{◌≡◌, ℕ, Bool, true, false, ◌==◌, nat_lt, if◌then◌else◌, List, Option, Some, None, codes, option_map, length}
+use Rattle.std.specs.Prelude.{◌≡◌, ℕ, ℤ, Bool, true, false, ◌==◌, nat_lt, if◌then◌else◌, List, Option, Some, None, codes, option_map, length}
 use Rattle.std.specs.List.{after_first, before_first, position_or_len}
 use Rattle.std.specs.Borrow.{Bor}
 use Rattle.std.specs.Str.{bytes_eq}
@@ -11,6 +11,7 @@ use Rattle.clap.specs.Simple.{on_top}
 use Rattle.clap.specs.Walk.{Text, first_of, one_of}
 use Rattle.clap.specs.declared.builder.action.ArgAction.TheVariants.{Set, SetTrue}
 use Rattle.rv_text.specs.Numbers.{natural_of}
+use Rattle.rv_times.specs.Times.{instant}
 use Rattle.rv_inquiry.specs.declared.inquiry.From.{From}
 use Rattle.rv_inquiry.specs.declared.inquiry.From.TheVariants as Froms
 use Rattle.rv_inquiry.specs.declared.inquiry.Inquiry.{Inquiry}
@@ -37,9 +38,9 @@ needed_rule name = record (word_rule name) { required = true }
 abbrev pub list_rule : Rule
 list_rule = record (value_rule (codes "list")) { long = Some (codes "against") }
 
--- each may be given a file, and that its end was cut off
+-- each may be given a file, that its end was cut off, and by when its entries were written
 abbrev pub with_journal : App → App
-with_journal app = with_rule (with_rule app (value_rule (codes "journal"))) (flag_rule (codes "torn"))
+with_journal app = with_rule (with_rule (with_rule app (value_rule (codes "journal"))) (flag_rule (codes "torn"))) (value_rule (codes "times"))
 
 -- and whose calls, and calls of what, are asked for
 abbrev pub with_filter : App → App
@@ -57,11 +58,15 @@ with_span app = with_rule (with_rule app (value_rule (codes "from"))) (value_rul
 abbrev pub with_forms : App → App
 with_forms app = with_rule (with_rule app (flag_rule (codes "text"))) (flag_rule (codes "svg"))
 
+-- that rows are JSON
+abbrev pub with_json : App → App
+with_json app = with_rule app (flag_rule (codes "json"))
+
 abbrev pub access_app : App
-access_app = with_rule (with_filter (with_journal (new_app (codes "access")))) list_rule
+access_app = with_json (with_rule (with_filter (with_journal (new_app (codes "access")))) list_rule)
 
 abbrev pub who_app : App
-who_app = with_rule (with_journal (new_app (codes "who"))) (word_rule (codes "of"))
+who_app = with_json (with_rule (with_journal (new_app (codes "who"))) (word_rule (codes "of")))
 
 -- of one entry its number
 abbrev pub entry_app : Text → App
@@ -72,6 +77,9 @@ what_if_app = with_rule (filtered_app (codes "whatif")) (needed_rule (codes "lis
 
 abbrev pub timeline_app : App
 timeline_app = with_forms (with_span (with_filter (with_journal (new_app (codes "timeline")))))
+
+abbrev pub export_app : App
+export_app = with_journal (new_app (codes "export"))
 
 -- the name by which each question is asked
 abbrev pub name_of : Question → Text
@@ -84,6 +92,7 @@ name_of Questions.Explain = codes "explain"
 name_of Questions.Hits = codes "hits"
 name_of Questions.WhatIf = codes "whatif"
 name_of Questions.Timeline = codes "timeline"
+name_of Questions.Export = codes "export"
 
 -- the program, of which one subcommand must be named
 abbrev pub versioned : App
@@ -101,8 +110,11 @@ of_rights = with_subcommand (with_subcommand of_entries access_app.top) who_app.
 abbrev pub of_lines : App
 of_lines = with_subcommand (with_subcommand of_rights (filtered_app (codes "hits")).top) what_if_app.top
 
+abbrev pub of_one : App
+of_one = with_subcommand (with_subcommand (with_subcommand of_lines (entry_app (codes "state")).top) (entry_app (codes "explain")).top) timeline_app.top
+
 abbrev pub program : App
-program = with_subcommand (with_subcommand (with_subcommand of_lines (entry_app (codes "state")).top) (entry_app (codes "explain")).top) timeline_app.top
+program = with_subcommand of_one export_app.top
 
 -- the text of a flag, as a flag; a subcommand without that flag has it not
 abbrev pub IsFlag : Option Text → Bool → Type 0
@@ -127,10 +139,20 @@ from_word word =
     then from_parts (before_first is_colon word) (natural_of (after_first is_colon word))
     else None
 
+-- since an instant, in nanoseconds since 1970
+abbrev pub from_instant : Option ℤ → Option From
+from_instant None = None
+from_instant (Some at) = Some (Froms.Instant at)
+
+-- another word is an instant, as RFC 3339 has it
+abbrev pub or_instant : Option From → Text → Option From
+or_instant None word = from_instant (instant word)
+or_instant (Some from) word = Some from
+
 -- since when, by the word that is given, if it is one of these
 abbrev pub from_of : Option Text → Option From
 from_of None = Some Froms.Start
-from_of (Some word) = from_word word
+from_of (Some word) = or_instant (from_word word) word
 
 -- the number of an entry, by the word that is given, if it is one
 abbrev pub number_of : Option Text → Option (Option ℕ)
@@ -143,6 +165,7 @@ text_in word = option_map (λ (w : Bor Text). w.now) word
 -- what a subcommand was given is asked
 pub record IsGiven (rows : List Row) (asked : Inquiry) : Type 0 where
   pub journal : text_in asked.journal ≡ first_of (codes "journal") rows
+  pub times : text_in asked.times ≡ first_of (codes "times") rows
   pub torn : IsFlag (one_of (codes "torn") rows) asked.takes_torn
   pub since : from_of (first_of (codes "since") rows) ≡ Some asked.since
   pub by : text_in asked.by ≡ first_of (codes "by") rows
@@ -152,6 +175,7 @@ pub record IsGiven (rows : List Row) (asked : Inquiry) : Type 0 where
   pub first : number_of (first_of (codes "from") rows) ≡ Some asked.first
   pub last : number_of (first_of (codes "to") rows) ≡ Some asked.last
   pub svg : IsFlag (one_of (codes "svg") rows) asked.is_svg
+  pub json : IsFlag (one_of (codes "json") rows) asked.is_json
 
 -- a subcommand with what it was given is asked
 abbrev pub IsInquiry : Text × List Row → Inquiry → Type 0

@@ -3,7 +3,7 @@
 ghost use Rattle.std.specs.Prelude.{◌≡◌, false, codes, IfOk};
 ghost use Rattle.clap.specs.Words.{app_of, rule_of, with_rule};
 ghost use Rattle.clap.specs.declared.builder.command.Command.TheViews.{out-Command as fields_of};
-ghost use Rattle.rv_inquiry.specs.Inquiries.{flag_rule, list_rule, needed_rule, value_rule, with_forms, with_journal, with_filter, with_span, word_rule};
+ghost use Rattle.rv_inquiry.specs.Inquiries.{flag_rule, list_rule, needed_rule, value_rule, with_forms, with_journal, with_json, with_filter, with_span, word_rule};
 
 use clap::{Arg, ArgAction, Command};
 use std::alloc::{AllocError, Global};
@@ -62,7 +62,7 @@ fn list_arg<'a>(alloc: Global) -> Arg<'a>
         .action(ArgAction::Set)
 }
 
-/// A subcommand that may be given the file of a journal, and that its end was cut off.
+/// A subcommand that may be given the file of a journal, that its end was cut off, and by when its entries were written.
 pub fn over_journal<'a>(alloc: Global, command: Command<'a>) -> Result<Command<'a>, AllocError>
     requires { (fields_of command).has_globals ≡ false }
     ensures app { IfOk result (λ c. app_of c ≡ with_journal (app_of command.entry)) }
@@ -79,7 +79,13 @@ pub fn over_journal<'a>(alloc: Global, command: Command<'a>) -> Result<Command<'
         "torn",
         "With --journal: take a last line without its line feed as cut off by a crash",
     );
-    command.arg(journal)?.arg(torn)
+    let times = valued(
+        alloc,
+        "times",
+        "FILE",
+        "Put the time beside each entry, by this file's lines ENTRY UTC",
+    );
+    command.arg(journal)?.arg(torn)?.arg(times)
 }
 
 /// A subcommand that may be told since when entries are asked for.
@@ -92,7 +98,7 @@ pub fn since<'a>(alloc: Global, command: Command<'a>) -> Result<Command<'a>, All
         alloc,
         "since",
         "WHEN",
-        "Leave out what was before entry:N or tick:N",
+        "Leave out what was before entry:N, tick:N or, with --times, a time as 2026-11-30T14:20:00Z",
     );
     command.arg(since)
 }
@@ -170,6 +176,16 @@ pub fn against_list<'a>(alloc: Global, command: Command<'a>) -> Result<Command<'
 {
     let list = list_arg(alloc);
     command.arg(list)
+}
+
+/// A subcommand whose rows may be JSON.
+pub fn as_json<'a>(alloc: Global, command: Command<'a>) -> Result<Command<'a>, AllocError>
+    requires { (fields_of command).has_globals ≡ false }
+    ensures app { IfOk result (λ c. app_of c ≡ with_json (app_of command.entry)) }
+    ensures local { IfOk result (λ c. (fields_of c).has_globals ≡ false) }
+{
+    let json = flag(alloc, "json", "Write each row as a line of JSON");
+    command.arg(json)
 }
 
 /// A subcommand that may be told the first and the last entry to show.

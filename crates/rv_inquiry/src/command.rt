@@ -3,9 +3,11 @@
 ghost use Rattle.std.specs.Prelude.{◌≡◌, false, IfOk, IsOkAnd};
 ghost use Rattle.clap.specs.Words.{app_of, with_subcommand};
 ghost use Rattle.clap.specs.declared.builder.command.Command.TheViews.{out-Command as fields_of};
-ghost use Rattle.rv_inquiry.specs.Inquiries.{alone, of_entries, of_lines, of_rights, program};
+ghost use Rattle.rv_inquiry.specs.Inquiries.{alone, of_entries, of_lines, of_one, of_rights, program};
 
-use crate::subcommands::{access, explain, hits, refusals, state, timeline, waits, what_if, who};
+use crate::subcommands::{
+    access, explain, export, hits, refusals, state, timeline, waits, what_if, who,
+};
 use clap::Command;
 use std::alloc::{AllocError, Global};
 
@@ -63,12 +65,20 @@ fn of_lines<'a>(alloc: Global) -> Result<Command<'a>, AllocError>
     with_added(command, what_if(alloc))
 }
 
-/// The command line that the program takes.
-pub fn command<'a>(alloc: Global) -> Result<Command<'a>, AllocError>
-    ensures { IfOk result (λ c. app_of c ≡ program) }
+// And with those of one entry.
+fn of_one<'a>(alloc: Global) -> Result<Command<'a>, AllocError>
+    ensures { IfOk result (λ c. app_of c ≡ of_one) }
 {
     let command = of_lines(alloc)?;
     let command = with_added(command, state(alloc))?;
     let command = with_added(command, explain(alloc))?;
     with_added(command, timeline(alloc))
+}
+
+/// The command line that the program takes.
+pub fn command<'a>(alloc: Global) -> Result<Command<'a>, AllocError>
+    ensures { IfOk result (λ c. app_of c ≡ program) }
+{
+    let command = of_one(alloc)?;
+    with_added(command, export(alloc))
 }

@@ -12,6 +12,8 @@ pub enum From {
     Entry(u64),
     /// From this tick on.
     Tick(u64),
+    /// From the first entry on that wasn't written before this instant, in nanoseconds since 1970.
+    Instant(i128),
 }
 
 /// What is asked of a journal.
@@ -35,6 +37,8 @@ pub enum Question {
     WhatIf,
     /// Who held, waited and was refused when.
     Timeline,
+    /// Each entry, with what follows from those before it, as JSON.
+    Export,
 }
 
 /// What the words of a command line ask.
@@ -44,6 +48,8 @@ pub struct Inquiry<'a> {
     pub question: Question,
     /// The name of the file that holds the journal, where one is given.
     pub journal: Option<&'a str>,
+    /// The name of the file that says by when the entries were written, where one is given.
+    pub times: Option<&'a str>,
     /// Whether a last line without its line feed was cut off.
     pub takes_torn: bool,
     /// Since when entries are asked for.
@@ -62,6 +68,8 @@ pub struct Inquiry<'a> {
     pub last: Option<u64>,
     /// Whether a timeline is an SVG picture, in place of text.
     pub is_svg: bool,
+    /// Whether the rows of `access` and `who` are JSON, in place of text.
+    pub is_json: bool,
 }
 
 /// Why the words of a command line ask nothing.

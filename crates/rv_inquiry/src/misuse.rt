@@ -29,7 +29,7 @@ impl Given {
     // What it takes.
     fn takes(self) -> &'static str {
         match self {
-            Given::Since => "entry:N or tick:N",
+            Given::Since => "entry:N, tick:N or a time as 2026-11-30T14:20:00Z",
             Given::Entry | Given::First | Given::Last => "the number of an entry",
         }
     }
@@ -42,6 +42,8 @@ pub enum Misuse<'a> {
     Word(Given, &'a str),
     /// `--torn` stands without `--journal`.
     TornAlone,
+    /// `--since` stands with an instant, and without `--times`.
+    InstantAlone,
     /// `--text` stands beside `--svg`.
     TwoForms,
 }
@@ -56,6 +58,7 @@ impl fmt::Display for Misuse<'_> {
                 given.takes()
             ),
             Misuse::TornAlone => write!(f, "'--torn' needs '--journal <FILE>'"),
+            Misuse::InstantAlone => write!(f, "'--since' with a time needs '--times <FILE>'"),
             Misuse::TwoForms => write!(f, "the argument '--text' cannot be used with '--svg'"),
         }
     }

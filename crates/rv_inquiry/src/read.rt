@@ -2,12 +2,12 @@
 
 ghost use Rattle.std.specs.Prelude.{◌≡◌, List, Some, IfSome, IfOk, codes, map};
 ghost use Rattle.clap.specs.Matches.{found_of};
-ghost use Rattle.clap.specs.Walk.{Row, Text, one_of, rows_of};
+ghost use Rattle.clap.specs.Walk.{Row, Text, first_of, one_of, rows_of};
 ghost use Rattle.clap.specs.Words.{subcommand_rows_of};
-ghost use Rattle.rv_inquiry.specs.Inquiries.{Asks, IsFlag, IsGiven, IsInquiry, name_of};
+ghost use Rattle.rv_inquiry.specs.Inquiries.{Asks, IsFlag, IsGiven, IsInquiry, from_of, name_of};
 
 use crate::command::command;
-use crate::inquiry::{Inquiry, Question, Unasked};
+use crate::inquiry::{From, Inquiry, Question, Unasked};
 use crate::misuse::{Given, Misuse};
 use crate::values::{given_number, given_since};
 use clap::ArgMatches;
@@ -52,7 +52,15 @@ fn question_of(name: &str) -> Option<Question>
     if name == "whatif" {
         return Some(Question::WhatIf);
     }
+    if name == "export" {
+        return Some(Question::Export);
+    }
     of_entries(name)
+}
+
+// Whether it is an instant since when entries are asked for.
+fn is_instant(since: From) -> bool {
+    matches!(since, From::Instant(_))
 }
 
 // Whether a last line was cut off, by what a subcommand was given.
@@ -66,6 +74,17 @@ fn given_torn<'a>(words: &ArgMatches<'a>) -> Result<bool, Misuse<'a>>
     Ok(takes_torn)
 }
 
+// Since when entries are asked for, by what a subcommand was given; an instant needs times.
+fn given_from<'a>(words: &ArgMatches<'a>) -> Result<From, Misuse<'a>>
+    ensures { IfOk result (λ since. from_of (first_of (codes "since") (rows_of (found_of words.now))) ≡ Some since) }
+{
+    let since = given_since(words)?;
+    if is_instant(since) && words.get_str("times").is_none() {
+        return Err(Misuse::InstantAlone);
+    }
+    Ok(since)
+}
+
 // Whether a timeline is a picture, by what a subcommand was given.
 fn given_svg<'a>(words: &ArgMatches<'a>) -> Result<bool, Misuse<'a>>
     ensures { IfOk result (λ svg. IsFlag (one_of (codes "svg") (rows_of (found_of words.now))) svg) }
@@ -77,13 +96,20 @@ fn given_svg<'a>(words: &ArgMatches<'a>) -> Result<bool, Misuse<'a>>
     Ok(is_svg)
 }
 
+// Whether rows are JSON, by what a subcommand was given.
+fn given_json(words: &ArgMatches<'_>) -> bool
+    ensures { IsFlag (one_of (codes "json") (rows_of (found_of words.now))) result }
+{
+    words.get_flag("json")
+}
+
 // What is asked by what a subcommand was given.
 fn asked_with<'a>(question: Question, words: &ArgMatches<'a>) -> Result<Inquiry<'a>, Misuse<'a>>
     ensures question { IfOk result (λ asked. asked.question ≡ question) }
     ensures given { IfOk result (λ asked. IsGiven (rows_of (found_of words.now)) asked) }
 {
     let takes_torn = given_torn(words)?;
-    let since = given_since(words)?;
+    let since = given_from(words)?;
     let entry = given_number(words, Given::Entry, "entry")?;
     let first = given_number(words, Given::First, "from")?;
     let last = given_number(words, Given::Last, "to")?;
@@ -91,6 +117,7 @@ fn asked_with<'a>(question: Question, words: &ArgMatches<'a>) -> Result<Inquiry<
     Ok(Inquiry {
         question,
         journal: words.get_str("journal"),
+        times: words.get_str("times"),
         takes_torn,
         since,
         by: words.get_str("by"),
@@ -100,6 +127,7 @@ fn asked_with<'a>(question: Question, words: &ArgMatches<'a>) -> Result<Inquiry<
         first,
         last,
         is_svg,
+        is_json: given_json(words),
     })
 }
 

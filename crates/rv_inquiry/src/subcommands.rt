@@ -3,10 +3,11 @@
 ghost use Rattle.std.specs.Prelude.{◌≡◌, false, codes, IfOk};
 ghost use Rattle.clap.specs.Words.{app_of};
 ghost use Rattle.clap.specs.declared.builder.command.Command.TheViews.{out-Command as fields_of};
-ghost use Rattle.rv_inquiry.specs.Inquiries.{access_app, entry_app, filtered_app, timeline_app, what_if_app, who_app};
+ghost use Rattle.rv_inquiry.specs.Inquiries.{access_app, entry_app, export_app, filtered_app, timeline_app, what_if_app, who_app};
 
 use crate::args::{
-    about_entry, about_list, against_list, drawn, filtered, named, over_journal, since, spanned,
+    about_entry, about_list, against_list, as_json, drawn, filtered, named, over_journal, since,
+    spanned,
 };
 use clap::Command;
 use std::alloc::{AllocError, Global};
@@ -65,7 +66,8 @@ pub fn access<'a>(alloc: Global) -> Result<Command<'a>, AllocError>
         .after_help("Example: ravenhost access --journal JOURNAL --by Store < UNITS");
     let command = over_journal(alloc, command)?;
     let command = filtered(alloc, command)?;
-    against_list(alloc, command)
+    let command = against_list(alloc, command)?;
+    as_json(alloc, command)
 }
 
 /// The subcommand `who`.
@@ -77,7 +79,8 @@ pub fn who<'a>(alloc: Global) -> Result<Command<'a>, AllocError>
         .about("Say who may call a unit, an object or an operation, as access does")
         .after_help("Example: ravenhost who Store.Tank.Fill --journal JOURNAL < UNITS");
     let command = over_journal(alloc, command)?;
-    named(alloc, command)
+    let command = named(alloc, command)?;
+    as_json(alloc, command)
 }
 
 // A subcommand of this name that is about an entry.
@@ -165,4 +168,15 @@ pub fn timeline<'a>(alloc: Global) -> Result<Command<'a>, AllocError>
     let command = filtered(alloc, command)?;
     let command = spanned(alloc, command)?;
     drawn(alloc, command)
+}
+
+/// The subcommand `export`.
+pub fn export<'a>(alloc: Global) -> Result<Command<'a>, AllocError>
+    ensures app { IfOk result (λ c. app_of c ≡ export_app) }
+    ensures local { IfOk result (λ c. (fields_of c).has_globals ≡ false) }
+{
+    let command = Command::new(alloc, "export")
+        .about("Write each entry as a line of JSON, with what follows from the entries before it")
+        .after_help("Example: ravenhost export --journal JOURNAL < UNITS | jq .caller");
+    over_journal(alloc, command)
 }

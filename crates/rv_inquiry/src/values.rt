@@ -3,12 +3,14 @@
 ghost use Rattle.std.specs.Prelude.{◌≡◌, Some, IfOk, codes, option_map};
 ghost use Rattle.clap.specs.Matches.{found_of};
 ghost use Rattle.clap.specs.Walk.{first_of, rows_of};
-ghost use Rattle.rv_inquiry.specs.Inquiries.{from_of, from_parts, number_of};
+ghost use Rattle.rv_inquiry.specs.Inquiries.{from_instant, from_of, from_parts, from_word, number_of, or_instant};
+ghost use Rattle.rv_times.specs.Times.{instant};
 
 use crate::inquiry::From;
 use crate::misuse::{Given, Misuse};
 use clap::ArgMatches;
 use rv_text::natural_of;
+use rv_times::times::instant;
 
 // Since when entries are asked for, by the two parts of a word.
 fn from_parts(kind: &str, number: Option<u64>) -> Option<From>
@@ -26,16 +28,43 @@ fn from_parts(kind: &str, number: Option<u64>) -> Option<From>
     None
 }
 
-// Since when entries are asked for, by the word that was given; none for another word than `entry:N` or `tick:N`.
-fn from_of(word: Option<&str>) -> Option<From>
-    ensures { result ≡ from_of (option_map (λ w. w.now) word.entry) }
+// Since when entries are asked for, by a word of two parts; none for another word than `entry:N` or `tick:N`.
+fn from_word(word: &str) -> Option<From>
+    ensures { result ≡ from_word word.now }
 {
-    let Some(word) = word else {
-        return Some(From::Start);
-    };
     match word.split_once(':') {
         Some((kind, number)) => from_parts(kind, natural_of(number)),
         None => None,
+    }
+}
+
+// Since when they are, by a word that is an instant.
+fn from_instant(word: &str) -> Option<From>
+    ensures { result ≡ from_instant (instant word.now) }
+{
+    match instant(word) {
+        Some(at) => Some(From::Instant(at)),
+        None => None,
+    }
+}
+
+// Since when they are, by a word, if it is one of these.
+fn from_some(word: &str) -> Option<From>
+    ensures { result ≡ or_instant (from_word word.now) word.now }
+{
+    match from_word(word) {
+        Some(from) => Some(from),
+        None => from_instant(word),
+    }
+}
+
+// Since when they are, by the word that was given, if one was.
+fn from_of(word: Option<&str>) -> Option<From>
+    ensures { result ≡ from_of (option_map (λ w. w.now) word.entry) }
+{
+    match word {
+        Some(word) => from_some(word),
+        None => Some(From::Start),
     }
 }
 

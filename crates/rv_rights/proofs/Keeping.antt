@@ -1,6 +1,5 @@
 -- The list that is kept is the one in force.
-use Rattle.std.proofs.Common.{◌≡◌, ◌+◌, ◌++◌, ℕ, suc, List, Option, Some, None, length, refl, ap, ◌∙◌, sym, subst, append_assoc, arith, Bor, if◌then◌else◌}
-use Rattle.std.specs.Prelude.{is_some}
+use Rattle.std.proofs.Common.{◌≡◌, ◌+◌, ◌++◌, ℕ, suc, Bool, List, Option, length, ap, ◌∙◌, sym, subst, append_assoc, arith, Bor, if◌then◌else◌}
 use Rattle.rv_access.specs.Words.{Words}
 use Rattle.rv_shape.specs.Catalogue.{Target, all_objects, target}
 use Rattle.rv_shape.specs.Shape.{Shape}
@@ -11,9 +10,8 @@ use Rattle.rv_reading.specs.Reads.{told}
 use Rattle.rv_reading.specs.declared.deed.Deed.{Deed}
 use Rattle.rv_reading.specs.declared.deed.Deed.TheVariants as Deeds
 use Rattle.rv_audit.specs.Meant.{Meant, Means, answer_in, next}
-use Rattle.rv_refused.specs.Filters.{FilterText}
 use Rattle.rv_rights.specs.Following.{Follows}
-use Rattle.rv_rights.specs.Rights.{or_no_difference, or_no_text, rights_at, rights_below, rights_on, rights_text}
+use Rattle.rv_rights.specs.Rights.{WishText, or_no_text, rights_at, rights_below, rights_on, rights_text, tells_none}
 use Rattle.rv_rights.specs.declared.rights.Rights.{Rights}
 
 pub asked_keeps : (units : List Shape) (h k : History) (deed : Deed) (a : ℕ) (r : Request) (w : Recorded) (meant : Meant) → deed ≡ Deeds.Asks a r w → Means units (told deed) meant → k ≡ next h meant (answer_in (told deed)) → force k ≡ force h
@@ -26,28 +24,26 @@ load_keeps units h k deed a name w meant is means after =
     let means_is = subst (λ (d : Deed). Means units (told d) meant) is means in
     ap force after ∙ ap (λ (m : Meant). force (next h m (answer_in (told deed)))) means_is.2
 
-or_is : (other : Option (List Words)) (text : List ℕ) → (if is_some other then or_no_text text else text) ≡ or_no_difference other text
-or_is None text = refl
-or_is (Some other) text = refl
-
-pub all_listed : (filter : FilterText) (other : Option (List Words)) (it : Rights) (h : History) (shapes : List Shape) (middle text : List ℕ) → shapes ≡ h.shapes → Follows filter other it h →
-    middle ≡ rights_below it.filter it.list it.other shapes (length (all_objects shapes)) → text ≡ (if is_some it.other then or_no_text middle else middle) → text ≡ rights_text filter other h
-all_listed filter other it h shapes middle text names follows middle_is text_is =
-    text_is ∙ or_is it.other middle
-    ∙ ap (λ (t : List ℕ). or_no_difference it.other t)
-    (middle_is ∙ ap (λ (f : FilterText). rights_below f it.list it.other shapes (length (all_objects shapes))) follows.taken
-    ∙ ap (λ (l : List Words). rights_below filter l it.other shapes (length (all_objects shapes))) follows.list
-    ∙ ap (λ (o : Option (List Words)). rights_below filter (force h) o shapes (length (all_objects shapes))) follows.other
-    ∙ ap (λ (ss : List Shape). rights_below filter (force h) other ss (length (all_objects ss))) names)
-    ∙ ap (λ (o : Option (List Words)). or_no_difference o (rights_below filter (force h) other h.shapes (length (all_objects h.shapes)))) follows.other
+pub all_listed : (wish : WishText) (other : Option (List Words)) (it : Rights) (h : History) (shapes : List Shape) (middle text : List ℕ) (b : Bool) → shapes ≡ h.shapes → Follows wish other it h →
+    middle ≡ rights_below it.wish it.list it.other shapes (length (all_objects shapes)) → b ≡ tells_none it.wish it.other → text ≡ (if b then or_no_text middle else middle) → text ≡ rights_text wish other h
+all_listed wish other it h shapes middle text b names follows middle_is b_is text_is =
+    let all : List ℕ = rights_below wish (force h) other h.shapes (length (all_objects h.shapes)) in
+    text_is ∙ ap (λ (x : Bool). if x then or_no_text middle else middle) b_is
+    ∙ ap (λ (t : List ℕ). if tells_none it.wish it.other then or_no_text t else t)
+    (middle_is ∙ ap (λ (w : WishText). rights_below w it.list it.other shapes (length (all_objects shapes))) follows.taken
+    ∙ ap (λ (l : List Words). rights_below wish l it.other shapes (length (all_objects shapes))) follows.list
+    ∙ ap (λ (o : Option (List Words)). rights_below wish (force h) o shapes (length (all_objects shapes))) follows.other
+    ∙ ap (λ (ss : List Shape). rights_below wish (force h) other ss (length (all_objects ss))) names)
+    ∙ ap (λ (w : WishText). if tells_none w it.other then or_no_text all else all) follows.taken
+    ∙ ap (λ (o : Option (List Words)). if tells_none wish o then or_no_text all else all) follows.other
 
 -- one more operation
-pub one_operation : (filter : FilterText) (list : List Words) (other : Option (List Words)) (shapes given : List Shape) (object operation : ℕ) (t : Target) (text middle new : List ℕ) → given ≡ shapes → t ≡ target shapes object (operation + 1) →
-    middle ≡ text ++ rights_on filter list other shapes object operation → new ≡ middle ++ rights_at filter list other given t → new ≡ text ++ rights_on filter list other shapes object (operation + 1)
-one_operation filter list other shapes given object operation t text middle new given_is t_is middle_is new_is =
+pub one_operation : (wish : WishText) (list : List Words) (other : Option (List Words)) (shapes given : List Shape) (object operation : ℕ) (t : Target) (text middle new : List ℕ) → given ≡ shapes → t ≡ target shapes object (operation + 1) →
+    middle ≡ text ++ rights_on wish list other shapes object operation → new ≡ middle ++ rights_at wish list other given t → new ≡ text ++ rights_on wish list other shapes object (operation + 1)
+one_operation wish list other shapes given object operation t text middle new given_is t_is middle_is new_is =
     let e : operation + 1 ≡ suc operation = omega arith in
-    new_is ∙ ap (λ (x : List ℕ). x ++ rights_at filter list other given t) middle_is
-    ∙ append_assoc text (rights_on filter list other shapes object operation) (rights_at filter list other given t)
-    ∙ ap (λ (ss : List Shape). text ++ (rights_on filter list other shapes object operation ++ rights_at filter list other ss t)) given_is
-    ∙ ap (λ (x : Target). text ++ (rights_on filter list other shapes object operation ++ rights_at filter list other shapes x)) (t_is ∙ ap (λ (n : ℕ). target shapes object n) e)
-    ∙ ap (λ (n : ℕ). text ++ rights_on filter list other shapes object n) (sym e)
+    new_is ∙ ap (λ (x : List ℕ). x ++ rights_at wish list other given t) middle_is
+    ∙ append_assoc text (rights_on wish list other shapes object operation) (rights_at wish list other given t)
+    ∙ ap (λ (ss : List Shape). text ++ (rights_on wish list other shapes object operation ++ rights_at wish list other ss t)) given_is
+    ∙ ap (λ (x : Target). text ++ (rights_on wish list other shapes object operation ++ rights_at wish list other shapes x)) (t_is ∙ ap (λ (n : ℕ). target shapes object n) e)
+    ∙ ap (λ (n : ℕ). text ++ rights_on wish list other shapes object n) (sym e)

@@ -3,3 +3,4 @@
 
 mod listing;
 pub mod rights;
+pub mod wish;

@@ -5,9 +5,9 @@ ghost use Rattle.rv_shape.specs.Catalogue.{all_objects, place, target};
 ghost use Rattle.rv_shape.specs.Readers.{target_of};
 ghost use Rattle.rv_rights.specs.Rights.{call_of, grants_of, is_handled, operation_count, rights_at, rights_below, rights_of, rights_of_lines, rights_of_units, rights_on, takes_unit, told_of};
 
+use crate::wish::Wish;
 use rv_access::AccessList;
 use rv_grants::{Asking, Both, put_differences, put_grants};
-use rv_refused::Filter;
 use rv_shape::actor::Callee;
 use rv_shape::catalogue::Catalogue;
 use rv_shape::object::Object;
@@ -49,9 +49,10 @@ fn put_grants_of(
     other: Option<&AccessList>,
     callee: &Callee<'_>,
     caller: &str,
+    as_json: bool,
 ) -> Result<(), AllocError>
     ensures { OnOk result (string_bytes text.new ≡ string_bytes text.old
-        ++ grants_of list.now (option_copied other.entry) (call_of caller.now (target_of callee.now))) }
+        ++ grants_of list.now (option_copied other.entry) (call_of as_json caller.now (target_of callee.now))) }
 {
     match *callee {
         Callee::Nowhere => Ok(()),
@@ -65,6 +66,7 @@ fn put_grants_of(
                 unit: shape.name(),
                 object: object.name(),
                 operation: operation.name(),
+                as_json,
             },
         ),
         Callee::Suspension(shape, object, operation) => {
@@ -79,6 +81,7 @@ fn put_grants_of(
                     unit: shape.name(),
                     object: object.name(),
                     operation: operation.as_str(),
+                    as_json,
                 },
             )
         }
@@ -89,16 +92,16 @@ fn put_grants_of(
 fn put_rights_of(
     alloc: Global,
     text: &mut String,
-    filter: &Filter<'_>,
+    wish: &Wish<'_>,
     list: &AccessList,
     other: Option<&AccessList>,
     callee: &Callee<'_>,
     caller: &str,
 ) -> Result<(), AllocError>
-    ensures { OnOk result (string_bytes text.new ≡ string_bytes text.old ++ rights_of filter.now list.now (option_copied other.entry) (target_of callee.now) caller.now) }
+    ensures { OnOk result (string_bytes text.new ≡ string_bytes text.old ++ rights_of wish.now list.now (option_copied other.entry) (target_of callee.now) caller.now) }
 {
-    if takes_unit(filter.by, caller) {
-        return put_grants_of(alloc, text, list, other, callee, caller);
+    if takes_unit(wish.filter.by, caller) {
+        return put_grants_of(alloc, text, list, other, callee, caller, wish.as_json);
     }
     Ok(())
 }
@@ -107,19 +110,19 @@ fn put_rights_of(
 fn put_rights_of_units(
     alloc: Global,
     text: &mut String,
-    filter: &Filter<'_>,
+    wish: &Wish<'_>,
     list: &AccessList,
     other: Option<&AccessList>,
     callee: &Callee<'_>,
     shapes: &[UnitShape],
 ) -> Result<(), AllocError>
-    ensures { OnOk result (string_bytes text.new ≡ string_bytes text.old ++ rights_of_units filter.now list.now (option_copied other.entry) (target_of callee.now) shapes.now) }
+    ensures { OnOk result (string_bytes text.new ≡ string_bytes text.old ++ rights_of_units wish.now list.now (option_copied other.entry) (target_of callee.now) shapes.now) }
 {
     let [shape, shapes @ ..] = shapes else {
         return Ok(());
     };
-    put_rights_of(alloc, text, filter, list, other, callee, shape.name())?;
-    put_rights_of_units(alloc, text, filter, list, other, callee, shapes)
+    put_rights_of(alloc, text, wish, list, other, callee, shape.name())?;
+    put_rights_of_units(alloc, text, wish, list, other, callee, shapes)
 }
 
 // Whether a target is a handler (C.3).
@@ -137,15 +140,15 @@ fn is_handled(callee: &Callee<'_>) -> bool
 fn put_rights_of_lines(
     alloc: Global,
     text: &mut String,
-    filter: &Filter<'_>,
+    wish: &Wish<'_>,
     list: &AccessList,
     other: Option<&AccessList>,
     callee: &Callee<'_>,
 ) -> Result<(), AllocError>
-    ensures { OnOk result (string_bytes text.new ≡ string_bytes text.old ++ rights_of_lines filter.now list.now (option_copied other.entry) (target_of callee.now)) }
+    ensures { OnOk result (string_bytes text.new ≡ string_bytes text.old ++ rights_of_lines wish.now list.now (option_copied other.entry) (target_of callee.now)) }
 {
     if is_handled(callee) {
-        return put_rights_of(alloc, text, filter, list, other, callee, "Interrupts");
+        return put_rights_of(alloc, text, wish, list, other, callee, "Interrupts");
     }
     Ok(())
 }
@@ -154,19 +157,19 @@ fn put_rights_of_lines(
 fn put_rights_at(
     alloc: Global,
     text: &mut String,
-    filter: &Filter<'_>,
+    wish: &Wish<'_>,
     list: &AccessList,
     other: Option<&AccessList>,
     shapes: &[UnitShape],
     callee: &Callee<'_>,
 ) -> Result<(), AllocError>
-    ensures { OnOk result (string_bytes text.new ≡ string_bytes text.old ++ rights_at filter.now list.now (option_copied other.entry) shapes.now (target_of callee.now)) }
+    ensures { OnOk result (string_bytes text.new ≡ string_bytes text.old ++ rights_at wish.now list.now (option_copied other.entry) shapes.now (target_of callee.now)) }
 {
-    if !filter.takes_of(alloc, callee)? {
+    if !wish.filter.takes_of(alloc, callee)? {
         return Ok(());
     }
-    put_rights_of_units(alloc, text, filter, list, other, callee, shapes)?;
-    put_rights_of_lines(alloc, text, filter, list, other, callee)
+    put_rights_of_units(alloc, text, wish, list, other, callee, shapes)?;
+    put_rights_of_lines(alloc, text, wish, list, other, callee)
 }
 
 // How many operations an object has, if there is one of this number.
@@ -184,27 +187,19 @@ fn operation_count(catalogue: &Catalogue, object: usize) -> usize
 fn put_rights_on(
     alloc: Global,
     text: &mut String,
-    filter: &Filter<'_>,
+    wish: &Wish<'_>,
     list: &AccessList,
     other: Option<&AccessList>,
     catalogue: &Catalogue,
     object: usize,
 ) -> Result<(), AllocError>
     ensures { OnOk result (string_bytes text.new ≡ string_bytes text.old
-        ++ rights_on filter.now list.now (option_copied other.entry) catalogue.now object (operation_count (place catalogue.now object))) }
+        ++ rights_on wish.now list.now (option_copied other.entry) catalogue.now object (operation_count (place catalogue.now object))) }
 {
     let count = operation_count(catalogue, object);
     for operation in 0..count {
         let callee = catalogue.callee(object, operation + 1);
-        put_rights_at(
-            alloc,
-            text,
-            filter,
-            list,
-            other,
-            catalogue.shapes(),
-            &callee,
-        )?;
+        put_rights_at(alloc, text, wish, list, other, catalogue.shapes(), &callee)?;
     }
     Ok(())
 }
@@ -213,17 +208,17 @@ fn put_rights_on(
 pub fn put_rights(
     alloc: Global,
     text: &mut String,
-    filter: &Filter<'_>,
+    wish: &Wish<'_>,
     list: &AccessList,
     other: Option<&AccessList>,
     catalogue: &Catalogue,
 ) -> Result<(), AllocError>
     ensures { OnOk result (string_bytes text.new ≡ string_bytes text.old
-        ++ rights_below filter.now list.now (option_copied other.entry) catalogue.now (length (all_objects catalogue.now))) }
+        ++ rights_below wish.now list.now (option_copied other.entry) catalogue.now (length (all_objects catalogue.now))) }
 {
     let count = catalogue.objects();
     for object in 0..count {
-        put_rights_on(alloc, text, filter, list, other, catalogue, object + 1)?;
+        put_rights_on(alloc, text, wish, list, other, catalogue, object + 1)?;
     }
     Ok(())
 }

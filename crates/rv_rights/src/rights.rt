@@ -5,27 +5,25 @@ ghost use Rattle.rv_access.specs.Words.{Words};
 ghost use Rattle.rv_history.specs.History.{History, force};
 ghost use Rattle.rv_history.specs.Legal.{empty};
 ghost use Rattle.rv_history.specs.declared.limits.Limits.{Limits};
-ghost use Rattle.rv_refused.specs.Filters.{FilterText};
 ghost use Rattle.rv_rights.specs.Following.{Follows};
-ghost use Rattle.rv_rights.specs.Rights.{or_no_text, rights_text};
+ghost use Rattle.rv_rights.specs.Rights.{WishText, or_no_text, rights_text, tells_none};
 
 use crate::listing::put_rights;
+use crate::wish::Wish;
 use rv_access::AccessList;
 use rv_audit::observer::Observer;
 use rv_event::entry::Answer;
 use rv_host::host::Host;
 use rv_reading::deed::Deed;
-use rv_refused::Filter;
 use rv_shape::catalogue::Catalogue;
 use rv_shape::shape::UnitShape;
 use std::alloc::{AllocError, Global};
 
 /// Keeps the list in force while a journal is audited, and lists what it grants, or where it
-/// and another list differ. Of the filter it heeds who calls, a unit or
-/// `Interrupts`, and what is called.
+/// and another list differ.
 pub struct Rights<'f> {
     alloc: Global,
-    filter: Filter<'f>,
+    wish: Wish<'f>,
     list: AccessList,
     other: Option<AccessList>,
 }
@@ -35,7 +33,7 @@ impl<'f> Drop for Rights<'f> {
     fn drop(self) {
         let Rights {
             alloc: _,
-            filter: _,
+            wish: _,
             list: _,
             other: _,
         } = self;
@@ -52,11 +50,11 @@ fn list_of(alloc: Global, host: &Host) -> Result<AccessList, AllocError>
     }
 }
 
-// Of two lists, that there is no difference, where nothing is said.
-fn or_no_difference(alloc: Global, is_of_two: bool, text: String) -> Result<String, AllocError>
-    ensures { IfOk result (λ said. string_bytes said ≡ (if is_of_two then or_no_text (string_bytes text) else string_bytes text)) }
+// That there is no difference, where nothing is said.
+fn or_no_difference(alloc: Global, tells_none: bool, text: String) -> Result<String, AllocError>
+    ensures { IfOk result (λ said. string_bytes said ≡ (if tells_none then or_no_text (string_bytes text) else string_bytes text)) }
 {
-    if is_of_two && text.as_str().is_empty() {
+    if tells_none && text.as_str().is_empty() {
         return String::from_str(alloc, "no difference\n");
     }
     Ok(text)
@@ -64,14 +62,14 @@ fn or_no_difference(alloc: Global, is_of_two: bool, text: String) -> Result<Stri
 
 impl<'f> Rights<'f> {
     /// Before the first line of a journal.
-    pub fn new(alloc: Global, filter: Filter<'f>, other: Option<AccessList>) -> Rights<'f>
-        ensures filter { result.filter ≡ filter.entry }
+    pub fn new(alloc: Global, wish: Wish<'f>, other: Option<AccessList>) -> Rights<'f>
+        ensures wish { result.wish ≡ wish.entry }
         ensures other { result.other ≡ other }
-        ensures begins { (limits : Limits) → Follows result.filter result.other result (empty limits) }
+        ensures begins { (limits : Limits) → Follows result.wish result.other result (empty limits) }
     {
         Rights {
             alloc,
-            filter,
+            wish,
             list: AccessList::new(alloc),
             other,
         }
@@ -79,26 +77,33 @@ impl<'f> Rights<'f> {
 
     /// The rows. Err where memory was refused.
     pub fn into_text(self, catalogue: &Catalogue) -> Result<String, AllocError>
-        ensures { (filter : FilterText) (other : Option (List Words)) (h : History) → catalogue.now ≡ h.shapes → Follows filter other self.entry h →
-            IfOk result (λ text. string_bytes text ≡ rights_text filter other h) }
+        ensures { (wish : WishText) (other : Option (List Words)) (h : History) → catalogue.now ≡ h.shapes → Follows wish other self.entry h →
+            IfOk result (λ text. string_bytes text ≡ rights_text wish other h) }
     {
         let mut text = String::new(self.alloc);
         put_rights(
             self.alloc,
             &mut text,
-            &self.filter,
+            &self.wish,
             &self.list,
             self.other.as_ref(),
             catalogue,
         )?;
-        or_no_difference(self.alloc, self.other.is_some(), text)
+        or_no_difference(self.alloc, self.tells_none(), text)
+    }
+
+    // Whether it tells that there is no difference.
+    fn tells_none(&self) -> bool
+        ensures { result ≡ tells_none self.now.wish self.now.other }
+    {
+        !self.wish.as_json && self.other.is_some()
     }
 }
 
 impl<'f> Observer for Rights<'f> {
-    ghost follows = { λ begun it units h. Follows begun.filter begun.other it h };
+    ghost follows = { λ begun it units h. Follows begun.wish begun.other it h };
 
-    ghost awaits = { λ begun it units h told. Follows begun.filter begun.other it h };
+    ghost awaits = { λ begun it units h told. Follows begun.wish begun.other it h };
 
     fn before(
         &mut self,

@@ -1,0 +1,10 @@
+use Rattle.std.proofs.Common.{◌≡◌, length}
+use Rattle.rv_lex.specs.Lexes.{lexemes}
+use Rattle.rv_placed.specs.Places.{operation_place}
+use Rattle.rv_placed.proofs.places.operation_place.Given as goal
+
+abbrev pub invariant-loop-rest : goal.invariant-loop-rest
+invariant-loop-rest l = operation_place l.operation (lexemes l.words) ≡ operation_place l.operation (lexemes l.rest)
+
+abbrev pub decreases-loop-rest : goal.decreases-loop-rest
+decreases-loop-rest l = length l.rest
