@@ -1,0 +1,45 @@
+-- The tasks that belong to other processes, by the words of `run`: each is UNIT.TASK=IN,OUT. (own)
+use Rattle.std.specs.Prelude.{ℕ, Bool, ◌==◌, ◌&&◌, nat_lt, length, if◌then◌else◌, List, Option, Some, None, is_some}
+use Rattle.std.specs.List.{after_first, before_first, list_any, position_or_len}
+use Rattle.clap.specs.Walk.{Text}
+use Rattle.rv_text.specs.Names.{dotted_parts, is_same_name}
+use Rattle.rv_choice.specs.declared.actors.ActorWords.{ActorWords}
+
+-- a task, the pipe of its requests, and that of what they come to
+pub record ActorText : Type 0 where
+  pub task : Text
+  pub requests : Text
+  pub replies : Text
+
+-- the same, of the program's own
+abbrev pub actor_text : ActorWords → ActorText
+actor_text actor = record { task = actor.task.now; requests = actor.requests.now; replies = actor.replies.now }
+
+abbrev pub is_byte : ℕ → ℕ → Bool
+is_byte byte other = other == byte
+
+-- what stands before and behind the first of such a byte, where neither is empty
+abbrev pub parts_at : ℕ → Text → Option (Text × Text)
+parts_at byte word =
+    if nat_lt (position_or_len (is_byte byte) word) (length word) && nat_lt 0 (length (before_first (is_byte byte) word))
+    && nat_lt 0 (length (after_first (is_byte byte) word))
+    then Some (before_first (is_byte byte) word, after_first (is_byte byte) word)
+    else None
+
+-- a task of this name with two pipes
+abbrev pub with_pipes : Text → Option (Text × Text) → Option ActorText
+with_pipes task None = None
+with_pipes task (Some pipes) = Some (record { task = task; requests = pipes.0; replies = pipes.1 })
+
+-- the name of a task, and behind it (44 is a comma) two pipes
+abbrev pub named_by : Option (Text × Text) → Option ActorText
+named_by None = None
+named_by (Some parts) = if is_some (dotted_parts parts.0) then with_pipes parts.0 (parts_at 44 parts.1) else None
+
+-- what a word says (61 is an equals sign)
+abbrev pub actor_of : Text → Option ActorText
+actor_of word = named_by (parts_at 61 word)
+
+-- a task of this name is among them
+abbrev pub has_task : Text → List ActorText → Bool
+has_task task actors = list_any (λ a. is_same_name a.task task) actors
