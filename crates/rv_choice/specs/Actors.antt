@@ -1,4 +1,4 @@
--- The tasks that belong to other processes, by the words of `run`: each is UNIT.TASK=IN,OUT. (own)
+-- The tasks that belong to other processes, by the words of `run`: each is TASK=IN,OUT. (own)
 use Rattle.std.specs.Prelude.{ℕ, Bool, ◌==◌, ◌&&◌, nat_lt, length, if◌then◌else◌, List, Option, Some, None, is_some}
 use Rattle.std.specs.List.{after_first, before_first, list_any, position_or_len}
 use Rattle.clap.specs.Walk.{Text}

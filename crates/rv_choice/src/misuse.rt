@@ -37,7 +37,7 @@ impl Flag {
             Flag::Notes => "--notes <WHEN>",
             Flag::Color => "--color <WHEN>",
             Flag::Torn => "--torn",
-            Flag::Actor => "--actor <UNIT.TASK=IN,OUT>",
+            Flag::Actor => "--actor <TASK=IN,OUT>",
         }
     }
 

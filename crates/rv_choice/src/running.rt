@@ -109,8 +109,8 @@ fn acting_subcommand<'a>(alloc: Global) -> Result<Command<'a>, AllocError>
         alloc,
         ending_subcommand(alloc)?,
         "actor",
-        "UNIT.TASK=IN,OUT",
-        "Give a task to another process, which writes requests to the pipe IN and reads from OUT what they came to; for each such task",
+        "TASK=IN,OUT",
+        "Give the task, as Plant.Sensor, to a process, which writes requests to the pipe IN, and reads from OUT what they came to; repeatable",
     )
 }
 
