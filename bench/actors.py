@@ -20,12 +20,22 @@ from run_pipe import LIMIT, TOP, Run, expect, expect_that, until
 
 PLANT = os.path.join(TOP, "examples/actors/plant.raven")
 SENSOR, ACTUATOR = "Field.Sensor", "Field.Actuator"
+LATE = """package Late is
+   task Watch;
+end Late;
+package body Late is
+   task body Watch is
+   begin
+      null;
+   end Watch;
+end Late;
+"""
 SECOND = 1.0  # the longest that `quit` may take
 
 
 def script():
     with open(PLANT, encoding="utf-8") as file:
-        return file.read()
+        return "@host.toml\ncapacity = 1048576\n" + file.read()
 
 
 def pipes_in(folder, name):
@@ -76,9 +86,9 @@ def ended(run, what, command="quit\n"):
     return out, err
 
 
-def judged(program, journal, what):
-    """Looks at what `audit` says of a journal."""
-    units = re.sub(r"@list\n[^@]*", "", script().split("@run\n")[0])
+def judged(program, journal, what, later=None):
+    """Looks at what `audit` says of a journal; a unit may have been loaded later."""
+    units = re.sub(r"@list\n[^@]*", "", script().split("@run\n")[0]) + (f"@unit\n{later}" if later else "")
     done = subprocess.run([program, "audit", "--journal", journal], input=units.encode(), capture_output=True, timeout=LIMIT)
     expect_that(f"{what}: the journal is legal", done.stdout.startswith(b"legal "), done.stdout)
 
@@ -115,7 +125,7 @@ def talks(program, folder):
     for line in ("tick 1", "halt", "resume", "end : return"):
         expect(f"the line {line!r}", one.ask(line), "bad request: no task asks it")
     expect("a long line", one.ask("call Plant.Tank Measured 1" + " " * 5000 + "2"), "bad request: it is longer than 4096 bytes")
-    expect("the longest line", one.ask("call Plant.Tank Measured " + "1".rjust(4095 - 25)), "returned")
+    expect("the longest line", one.ask("call Plant.Tank Measured " + "50".rjust(4095 - 25)), "returned")
     expect("a denial", run.ask("append deny Field Plant.Tank Measured"), "accepted 0")
     expect("a request that is denied", one.ask("call Plant.Tank Measured 5"), "refused 1 line 2 version 2")
     expect("no denial", run.ask("remove 2"), "accepted 0")
@@ -206,12 +216,11 @@ def never_opened(program, folder):
     run, (pipes,), journal = started(program, later, ("Late.Watch",), words=("--notes", "always"))
     one = Actor(pipes)
     one.tell("clock")
-    expect("a load", run.ask("load\npackage Late is\n   task Watch;\nend Late;\npackage body Late is\n   task body Watch is\n   begin\n      null;\n"
-                             "   end Watch;\nend Late;\n@end"), "accepted 3")
+    expect_that("a load", run.ask("load\n" + LATE + "@end").startswith("accepted "))
     expect("a task that comes later", one.reply(), "returned 0")
     _, err = ended(run, "a task that comes later")
     expect_that("its note", "note: no unit that is loaded has the task Late.Watch of --actor" in err, err)
-    judged(program, journal, "a task that comes later") if False else None
+    judged(program, journal, "a task that comes later", LATE)
 
 
 def refused(program, folder):
@@ -268,7 +277,7 @@ def killed(program, folder, kills):
 
 def round_trips(program, folder, count):
     """Seconds of so many requests by pipes, beside as many lines through two bare FIFOs."""
-    run, (pipes,), _ = started(program, folder, (SENSOR,), text="@host.toml\ncapacity = 1048576\n" + script())
+    run, (pipes,), _ = started(program, folder, (SENSOR,), text=script())
     one = Actor(pipes)
     one.ask("clock")
     start = time.monotonic()

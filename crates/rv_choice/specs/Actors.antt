@@ -15,30 +15,33 @@ pub record ActorText : Type 0 where
 abbrev pub actor_text : ActorWords → ActorText
 actor_text actor = record { task = actor.task.now; requests = actor.requests.now; replies = actor.replies.now }
 
-abbrev pub is_byte : ℕ → ℕ → Bool
-is_byte byte other = other == byte
+abbrev pub is_equals : ℕ → Bool
+is_equals byte = byte == 61
 
--- what stands before and behind the first of such a byte, where neither is empty
-abbrev pub parts_at : ℕ → Text → Option (Text × Text)
-parts_at byte word =
-    if nat_lt (position_or_len (is_byte byte) word) (length word) && nat_lt 0 (length (before_first (is_byte byte) word))
-    && nat_lt 0 (length (after_first (is_byte byte) word))
-    then Some (before_first (is_byte byte) word, after_first (is_byte byte) word)
-    else None
+abbrev pub is_comma : ℕ → Bool
+is_comma byte = byte == 44
+
+-- both parts of a word, where neither is empty
+abbrev pub both : Text → Text → Option (Text × Text)
+both front back = if nat_lt 0 (length front) && nat_lt 0 (length back) then Some (front, back) else None
+
+-- what stands before and behind the first such byte, where neither is empty
+abbrev pub parts_at : (ℕ → Bool) → Text → Option (Text × Text)
+parts_at is_it word = if nat_lt (position_or_len is_it word) (length word) then both (before_first is_it word) (after_first is_it word) else None
 
 -- a task of this name with two pipes
 abbrev pub with_pipes : Text → Option (Text × Text) → Option ActorText
 with_pipes task None = None
 with_pipes task (Some pipes) = Some (record { task = task; requests = pipes.0; replies = pipes.1 })
 
--- the name of a task, and behind it (44 is a comma) two pipes
+-- the name of a task, and behind it two pipes
 abbrev pub named_by : Option (Text × Text) → Option ActorText
 named_by None = None
-named_by (Some parts) = if is_some (dotted_parts parts.0) then with_pipes parts.0 (parts_at 44 parts.1) else None
+named_by (Some parts) = if is_some (dotted_parts parts.0) then with_pipes parts.0 (parts_at is_comma parts.1) else None
 
--- what a word says (61 is an equals sign)
+-- what a word says
 abbrev pub actor_of : Text → Option ActorText
-actor_of word = named_by (parts_at 61 word)
+actor_of word = named_by (parts_at is_equals word)
 
 -- a task of this name is among them
 abbrev pub has_task : Text → List ActorText → Bool

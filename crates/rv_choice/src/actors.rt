@@ -1,7 +1,7 @@
 //! The tasks that belong to other processes, by the words of `run`.
 
 ghost use Rattle.std.specs.Prelude.{◌≡◌, IfOk, Some, map, option_map};
-ghost use Rattle.rv_choice.specs.Actors.{actor_of, actor_text, has_task, parts_at};
+ghost use Rattle.rv_choice.specs.Actors.{actor_of, actor_text, both, has_task, is_comma, is_equals, parts_at};
 
 use crate::chosen::Unchosen;
 use crate::command::command;
@@ -21,14 +21,10 @@ pub struct ActorWords<'a> {
     pub replies: &'a str,
 }
 
-// What stands before and behind the first of such a byte, where neither is empty.
-fn parts_at(word: &str, byte: char) -> Option<(&str, &str)>
-    requires { byte < 128 }
-    ensures { option_map (λ p. (p.0.now, p.1.now)) result ≡ parts_at byte word.now }
+// Both parts of a word, where neither is empty.
+fn both<'a>(front: &'a str, back: &'a str) -> Option<(&'a str, &'a str)>
+    ensures { option_map (λ p. (p.0.now, p.1.now)) result ≡ both front.now back.now }
 {
-    let Some((front, back)) = word.split_once(byte) else {
-        return None;
-    };
     if front.len() == 0 {
         return None;
     }
@@ -38,17 +34,37 @@ fn parts_at(word: &str, byte: char) -> Option<(&str, &str)>
     Some((front, back))
 }
 
+// What stands before and behind the first equals sign, where neither is empty.
+fn at_equals(word: &str) -> Option<(&str, &str)>
+    ensures { option_map (λ p. (p.0.now, p.1.now)) result ≡ parts_at is_equals word.now }
+{
+    let Some((front, back)) = word.split_once('=') else {
+        return None;
+    };
+    both(front, back)
+}
+
+// What stands before and behind the first comma, where neither is empty.
+fn at_comma(word: &str) -> Option<(&str, &str)>
+    ensures { option_map (λ p. (p.0.now, p.1.now)) result ≡ parts_at is_comma word.now }
+{
+    let Some((front, back)) = word.split_once(',') else {
+        return None;
+    };
+    both(front, back)
+}
+
 // The task with its pipes that a word says; none of another word.
 fn actor_of(word: &str) -> Option<ActorWords<'_>>
     ensures { option_map actor_text result ≡ actor_of word.now }
 {
-    let Some((task, pipes)) = parts_at(word, '=') else {
+    let Some((task, pipes)) = at_equals(word) else {
         return None;
     };
     if dotted_parts(task).is_none() {
         return None;
     }
-    let Some((requests, replies)) = parts_at(pipes, ',') else {
+    let Some((requests, replies)) = at_comma(pipes) else {
         return None;
     };
     Some(ActorWords {
@@ -98,11 +114,14 @@ fn actors_in<'a>(alloc: Global, words: &[&'a str]) -> Result<Vec<ActorWords<'a>>
     Ok(actors)
 }
 
-// The words that `run` was given for them.
-fn given<'m, 'a>(matches: &'m ArgMatches<'a>) -> &'m [&'a str] {
+// The tasks that a command line says that was read.
+fn actors_by<'a>(alloc: Global, matches: &ArgMatches<'a>) -> Result<Vec<ActorWords<'a>>, Unchosen<'a>> {
     match matches.subcommand() {
-        Some((name, words)) if name == "run" => words.get_strs("actor").unwrap_or(&[]),
-        _ => &[],
+        Some((name, words)) if name == "run" => match words.get_strs("actor") {
+            Some(given) => actors_in(alloc, given),
+            None => Ok(Vec::new(alloc)),
+        },
+        _ => Ok(Vec::new(alloc)),
     }
 }
 
@@ -121,5 +140,5 @@ pub fn actors_of<'a>(
     let Ok(matches) = command.try_get_matches_from(words) else {
         return Err(Unchosen::NoMemory);
     };
-    actors_in(alloc, given(&matches))
+    actors_by(alloc, &matches)
 }

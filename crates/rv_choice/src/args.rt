@@ -31,6 +31,18 @@ fn valued<'a>(alloc: Global, name: &'a str, value: &'a str, help: &'a str) -> Ar
         .action(ArgAction::Set)
 }
 
+// The same, which may be given more than once.
+fn repeated<'a>(alloc: Global, name: &'a str, value: &'a str, help: &'a str) -> Arg<'a>
+    ensures rule { rule_of result ≡ many_rule name.now }
+    ensures local { result.global ≡ false }
+{
+    Arg::new(alloc, name)
+        .long(name)
+        .value_name(value)
+        .help(help)
+        .action(ArgAction::Append)
+}
+
 /// The flag that asks for explanations.
 pub fn explain_flag<'a>(alloc: Global, help: &'a str) -> Arg<'a>
     ensures rule { rule_of result ≡ flag_rule (codes "explain") }
@@ -159,12 +171,7 @@ pub fn with_values<'a>(
     ensures app { IfOk result (λ c. app_of c ≡ with_rule (app_of command.entry) (many_rule name.now)) }
     ensures local { IfOk result (λ c. (fields_of c).has_globals ≡ false) }
 {
-    let arg = Arg::new(alloc, name)
-        .long(name)
-        .value_name(value)
-        .help(help)
-        .action(ArgAction::Append);
-    command.arg(arg)
+    command.arg(repeated(alloc, name, value, help))
 }
 
 /// A subcommand that judges journals, which may be told when notes are told.
