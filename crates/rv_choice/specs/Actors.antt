@@ -1,5 +1,5 @@
 -- The tasks that belong to other processes, by the words of `run`: each is TASK=IN,OUT. (own)
-use Rattle.std.specs.Prelude.{ℕ, Bool, ◌==◌, ◌&&◌, nat_lt, length, if◌then◌else◌, List, Option, Some, None, is_some}
+use Rattle.std.specs.Prelude.{ℕ, Bool, ◌==◌, ◌&&◌, nat_lt, length, if◌then◌else◌, List, map, Option, Some, None, is_some}
 use Rattle.std.specs.List.{after_first, before_first, list_any, position_or_len}
 use Rattle.clap.specs.Walk.{Text}
 use Rattle.rv_text.specs.Names.{dotted_parts, is_same_name}
@@ -43,6 +43,10 @@ named_by (Some parts) = if is_some (dotted_parts parts.0) then with_pipes parts.
 abbrev pub actor_of : Text → Option ActorText
 actor_of word = named_by (parts_at is_equals word)
 
+-- what words say that gave these tasks
+abbrev pub said_by : List ActorWords → List (Option ActorText)
+said_by = map (λ a. Some (actor_text a))
+
 -- a task of this name is among them
-abbrev pub has_task : Text → List ActorText → Bool
-has_task task actors = list_any (λ a. is_same_name a.task task) actors
+abbrev pub has_task : Text → List ActorWords → Bool
+has_task task = list_any (λ a. is_same_name a.task.now task)

@@ -1,7 +1,7 @@
 //! The tasks that belong to other processes, by the words of `run`.
 
-ghost use Rattle.std.specs.Prelude.{◌≡◌, IfOk, Some, map, option_map};
-ghost use Rattle.rv_choice.specs.Actors.{actor_of, actor_text, both, has_task, is_comma, is_equals, parts_at};
+ghost use Rattle.std.specs.Prelude.{◌≡◌, ◌++◌, ◌∷◌, [], IfOk, OnOk, map, option_map};
+ghost use Rattle.rv_choice.specs.Actors.{actor_of, actor_text, both, has_task, is_comma, is_equals, parts_at, said_by};
 
 use crate::chosen::Unchosen;
 use crate::command::command;
@@ -76,7 +76,7 @@ fn actor_of(word: &str) -> Option<ActorWords<'_>>
 
 // Whether a task is among these.
 fn has_task(actors: &[ActorWords<'_>], task: &str) -> bool
-    ensures { result ≡ has_task task.now (map actor_text actors.now) }
+    ensures { result ≡ has_task task.now actors.now }
 {
     for actor in actors {
         if is_same_name(actor.task, task) {
@@ -87,7 +87,9 @@ fn has_task(actors: &[ActorWords<'_>], task: &str) -> bool
 }
 
 // Adds the task that a word says, if it says one that isn't there.
-fn add<'a>(actors: &mut Vec<ActorWords<'a>>, word: &'a str) -> Result<(), Unchosen<'a>> {
+fn add<'a>(actors: &mut Vec<ActorWords<'a>>, word: &'a str) -> Result<(), Unchosen<'a>>
+    ensures added { OnOk result (said_by actors.new.items ≡ said_by actors.old.items ++ actor_of word.now ∷ []) }
+{
     let Some(actor) = actor_of(word) else {
         return Err(Unchosen::Misused(Misuse::Word(Flag::Actor, word)));
     };
@@ -102,7 +104,7 @@ fn add<'a>(actors: &mut Vec<ActorWords<'a>>, word: &'a str) -> Result<(), Unchos
 
 // The tasks that words say, in order.
 fn actors_in<'a>(alloc: Global, words: &[&'a str]) -> Result<Vec<ActorWords<'a>>, Unchosen<'a>>
-    ensures { IfOk result (λ actors. map (λ w. actor_of w.now) words.now ≡ map (λ a. Some (actor_text a)) actors.items) }
+    ensures said { IfOk result (λ actors. said_by actors.items ≡ map (λ w. actor_of w.now) words.now) }
 {
     let mut actors = Vec::new(alloc);
     for word in words {
