@@ -5,14 +5,13 @@ class Actor:
     """A task of the host, by its pipes; opening them waits until the host has opened them too."""
 
     def __init__(self, requests, replies):
-        self.requests = open(requests, "w", encoding="ascii")
+        self.requests = open(requests, "wb", buffering=0)
         self.replies = open(replies, encoding="ascii")
 
     def ask(self, request):
         """What a request came to; nothing where the host has ended."""
         try:
-            self.requests.write(request + "\n")
-            self.requests.flush()
+            self.requests.write(request.encode() + b"\n")
         except BrokenPipeError:
             return ""
         return self.replies.readline().rstrip("\n")

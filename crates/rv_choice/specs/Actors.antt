@@ -1,8 +1,11 @@
 -- The tasks that belong to other processes, by the words of `run`: each is TASK=IN,OUT. (own)
-use Rattle.std.specs.Prelude.{ℕ, Bool, ◌==◌, ◌&&◌, nat_lt, length, if◌then◌else◌, List, map, Option, Some, None, is_some}
+use Rattle.std.specs.Prelude.{◌≡◌, ℕ, Bool, ◌==◌, ◌&&◌, nat_lt, length, if◌then◌else◌, List, [], map, codes, Option, Some, None, is_some, unwrap_or}
+use Rattle.std.specs.Str.{bytes_eq}
 use Rattle.std.specs.List.{after_first, before_first, list_any, position_or_len}
-use Rattle.clap.specs.Walk.{Text}
+use Rattle.clap.specs.Walk.{Row, Text, all_of}
+use Rattle.clap.specs.Words.{subcommand_of}
 use Rattle.rv_text.specs.Names.{dotted_parts, is_same_name}
+use Rattle.rv_choice.specs.Choices.{program}
 use Rattle.rv_choice.specs.declared.actors.ActorWords.{ActorWords}
 
 -- a task, the pipe of its requests, and that of what they come to
@@ -46,6 +49,17 @@ actor_of word = named_by (parts_at is_equals word)
 -- what words say that gave these tasks
 abbrev pub said_by : List ActorWords → List (Option ActorText)
 said_by = map (λ a. Some (actor_text a))
+
+-- the words that `run` is given for them, by what it was given
+abbrev pub words_in : List Row → List Text
+words_in rows = unwrap_or (all_of (codes "actor") rows) []
+
+abbrev pub given_to : Text × List Row → List Text
+given_to found = if bytes_eq found.0 (codes "run") then words_in found.1 else []
+
+-- The tasks are what the words of a command line say, in order: each is as one word for it says.
+abbrev pub AreActors : List Text → List ActorWords → Type 0
+AreActors words actors = (found : Text × List Row) → subcommand_of program words ≡ Some found → said_by actors ≡ map actor_of (given_to found)
 
 -- a task of this name is among them
 abbrev pub has_task : Text → List ActorWords → Bool

@@ -1,7 +1,10 @@
 //! The tasks that belong to other processes, by the words of `run`.
 
-ghost use Rattle.std.specs.Prelude.{◌≡◌, ◌++◌, ◌∷◌, [], IfOk, OnOk, map, option_map};
-ghost use Rattle.rv_choice.specs.Actors.{actor_of, actor_text, both, has_task, is_comma, is_equals, parts_at, said_by};
+ghost use Rattle.std.specs.Prelude.{◌≡◌, ◌++◌, ◌∷◌, [], List, Some, IfOk, OnOk, map, option_map};
+ghost use Rattle.clap.specs.Matches.{found_of};
+ghost use Rattle.clap.specs.Walk.{Row, Text, rows_of};
+ghost use Rattle.clap.specs.Words.{subcommand_rows_of};
+ghost use Rattle.rv_choice.specs.Actors.{AreActors, actor_of, actor_text, both, given_to, has_task, is_comma, is_equals, parts_at, said_by, words_in};
 
 use crate::chosen::Unchosen;
 use crate::command::command;
@@ -88,7 +91,7 @@ fn has_task(actors: &[ActorWords<'_>], task: &str) -> bool
 
 // Adds the task that a word says, if it says one that isn't there.
 fn add<'a>(actors: &mut Vec<ActorWords<'a>>, word: &'a str) -> Result<(), Unchosen<'a>>
-    ensures added { OnOk result (said_by actors.new.items ≡ said_by actors.old.items ++ actor_of word.now ∷ []) }
+    ensures { OnOk result (said_by actors.new.items ≡ said_by actors.old.items ++ actor_of word.now ∷ []) }
 {
     let Some(actor) = actor_of(word) else {
         return Err(Unchosen::Misused(Misuse::Word(Flag::Actor, word)));
@@ -104,7 +107,7 @@ fn add<'a>(actors: &mut Vec<ActorWords<'a>>, word: &'a str) -> Result<(), Unchos
 
 // The tasks that words say, in order.
 fn actors_in<'a>(alloc: Global, words: &[&'a str]) -> Result<Vec<ActorWords<'a>>, Unchosen<'a>>
-    ensures said { IfOk result (λ actors. said_by actors.items ≡ map (λ w. actor_of w.now) words.now) }
+    ensures { IfOk result (λ actors. said_by actors.items ≡ map (λ w. actor_of w.now) words.now) }
 {
     let mut actors = Vec::new(alloc);
     for word in words {
@@ -116,15 +119,33 @@ fn actors_in<'a>(alloc: Global, words: &[&'a str]) -> Result<Vec<ActorWords<'a>>
     Ok(actors)
 }
 
-// The tasks that a command line says that was read.
-fn actors_by<'a>(alloc: Global, matches: &ArgMatches<'a>) -> Result<Vec<ActorWords<'a>>, Unchosen<'a>> {
-    match matches.subcommand() {
-        Some((name, words)) if name == "run" => match words.get_strs("actor") {
-            Some(given) => actors_in(alloc, given),
-            None => Ok(Vec::new(alloc)),
-        },
-        _ => Ok(Vec::new(alloc)),
+// The tasks that `run` was given.
+fn given_actors<'a>(
+    alloc: Global,
+    words: &ArgMatches<'a>,
+) -> Result<Vec<ActorWords<'a>>, Unchosen<'a>>
+    ensures { IfOk result (λ actors. said_by actors.items ≡ map actor_of (words_in (rows_of (found_of words.now)))) }
+{
+    match words.get_strs("actor") {
+        Some(given) => actors_in(alloc, given),
+        None => Ok(Vec::new(alloc)),
     }
+}
+
+// The tasks that a command line says that was read.
+fn actors_by<'a>(
+    alloc: Global,
+    matches: &ArgMatches<'a>,
+) -> Result<Vec<ActorWords<'a>>, Unchosen<'a>>
+    ensures { IfOk result (λ actors. (found : Text × List Row) → subcommand_rows_of matches.now ≡ Some found → said_by actors.items ≡ map actor_of (given_to found)) }
+{
+    let Some((name, words)) = matches.subcommand() else {
+        return Ok(Vec::new(alloc));
+    };
+    if name == "run" {
+        return given_actors(alloc, words);
+    }
+    Ok(Vec::new(alloc))
 }
 
 /// The tasks that belong to other processes, by words that `chosen` took; none where they choose no `run`.
@@ -135,7 +156,9 @@ fn actors_by<'a>(alloc: Global, matches: &ArgMatches<'a>) -> Result<Vec<ActorWor
 pub fn actors_of<'a>(
     alloc: Global,
     words: &'a [&'a str],
-) -> Result<Vec<ActorWords<'a>>, Unchosen<'a>> {
+) -> Result<Vec<ActorWords<'a>>, Unchosen<'a>>
+    ensures { IfOk result (λ actors. AreActors (map (λ w. w.now) words.now) actors.items) }
+{
     let Ok(command) = command(alloc) else {
         return Err(Unchosen::NoMemory);
     };
