@@ -152,7 +152,8 @@ def ends(program, folder):
         expect("the clock", one.ask("clock"), "returned 0")
         ended(run, "a process that asks nothing")
         expect("what it reads", one.reply(), "")
-        expect("the last entry", lines_of(journal)[-1].split(" ", 1)[1], "operator halt -> accepted 0")
+        expect("the last entries", [line.split(" ", 1)[1] for line in lines_of(journal)[-2:]],
+               ["operator halt -> accepted 0", f"{ACTUATOR} finish -> accepted 0"])
 
     def dies(run, one, journal):
         expect("the clock", one.ask("clock"), "returned 0")
@@ -184,7 +185,7 @@ def ends(program, folder):
         for _ in range(2):
             try:
                 while True:
-                    one.tell(b"clock\n" * 600)
+                    os.write(one.requests.fileno(), b"clock\n" * 600)
             except BlockingIOError:
                 time.sleep(0.3)
         ended(run, "a process that reads nothing")
