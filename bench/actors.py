@@ -4,7 +4,7 @@ close their pipes and write what is no request; each `quit` has to end within a 
 saw that the documents don't allow, and ends with 1 then. Needs nothing but Python.
 
     bench/actors.py [PROGRAM]                  the program is crates/ravenhost/out/ravenhost where none is named
-    bench/actors.py --kills N [PROGRAM]        so many processes are killed (200)
+    bench/actors.py --kills N [PROGRAM]        so often processes are killed or stopped, or one asks on and reads nothing
     bench/actors.py --round-trips N [PROGRAM]  seconds of so many requests by pipes, beside as many through two bare FIFOs
 """
 import os
@@ -20,6 +20,7 @@ from run_pipe import LIMIT, TOP, Run, expect, expect_that, until
 
 PLANT = os.path.join(TOP, "examples/actors/plant.raven")
 SENSOR, ACTUATOR = "Field.Sensor", "Field.Actuator"
+QUEUED = f"{ACTUATOR} call Plant.Tank Moved -> queued"
 LATE = """package Late is
    task Watch;
 end Late;
@@ -76,6 +77,17 @@ class Actor:
         self.replies.close()
 
 
+def flood(one):
+    """Has a process write requests until both of its pipes are full."""
+    os.set_blocking(one.requests.fileno(), False)
+    for _ in range(2):
+        try:
+            while True:
+                os.write(one.requests.fileno(), b"clock\n" * 600)
+        except BlockingIOError:
+            time.sleep(0.4)
+
+
 def ended(run, what, command="quit\n"):
     """Ends a run, and looks at how long that took."""
     start = time.monotonic()
@@ -96,6 +108,11 @@ def judged(program, journal, what, later=None):
 def lines_of(journal):
     with open(journal, encoding="utf-8") as file:
         return file.read().splitlines()
+
+
+def has_line(journal, line):
+    """Whether a journal has an entry of these words."""
+    return any(other.split(" ", 1)[1] == line for other in lines_of(journal))
 
 
 def started(program, folder, tasks, words=(), text=None):
@@ -132,7 +149,7 @@ def talks(program, folder):
     expect("a range", one.ask("call Plant.Tank Measured 99999999999999999999"), "bad request: it is none, or names nothing that is loaded")
     expect("the end of a task", one.ask("finish"), "finished")
     other.tell("call Plant.Tank Moved")
-    until("the call", lambda: lines_of(journal)[-1].endswith("-> queued"))
+    until("the call", lambda: lines_of(journal)[-1].endswith(QUEUED))
     expect("the host's halt", run.ask("halt"), "accepted 0")
     expect("a call that is open at the halt", other.reply(), "stopped")
     ended(run, "a talk")
@@ -144,7 +161,7 @@ def ends(program, folder):
     """Each way in which a process or a run may end."""
     def open_at_quit(run, one, journal):
         one.tell("call Plant.Tank Moved")
-        until("the call", lambda: lines_of(journal)[-1].endswith("-> queued"))
+        until("the call", lambda: has_line(journal, QUEUED))
         ended(run, "a call that is open at the end")
         expect("it", one.reply(), "stopped")
 
@@ -158,18 +175,18 @@ def ends(program, folder):
     def dies(run, one, journal):
         expect("the clock", one.ask("clock"), "returned 0")
         one.close()
-        until("its end", lambda: lines_of(journal)[-1].split(" ", 1)[1].startswith(f"{ACTUATOR} finish"))
+        until("its end", lambda: has_line(journal, f"{ACTUATOR} finish -> accepted 0"))
         ended(run, "a process that ends")
 
     def dies_waiting(run, one, journal):
         one.tell("call Plant.Tank Moved")
-        until("the call", lambda: lines_of(journal)[-1].endswith("-> queued"))
+        until("the call", lambda: has_line(journal, QUEUED))
         one.close()
         ended(run, "a process that ends while its call waits")
 
     def no_text(run, one, journal):
         expect("bytes that are no text", one.ask(b"\xff\xfe\n"), "bad request: it isn't UTF-8")
-        until("its end", lambda: lines_of(journal) and lines_of(journal)[-1].split(" ", 1)[1].startswith(f"{ACTUATOR} finish"))
+        until("its end", lambda: has_line(journal, f"{ACTUATOR} finish -> accepted 0"))
         expect("a line behind that", one.ask("clock"), "stopped")
         expect("the line behind that", one.reply(), "")
         ended(run, "a process whose bytes are no text")
@@ -181,18 +198,12 @@ def ends(program, folder):
         ended(run, "a process that ends within a line")
 
     def reads_nothing(run, one, journal):
-        os.set_blocking(one.requests.fileno(), False)
-        for _ in range(2):
-            try:
-                while True:
-                    os.write(one.requests.fileno(), b"clock\n" * 600)
-            except BlockingIOError:
-                time.sleep(0.3)
+        flood(one)
         ended(run, "a process that reads nothing")
 
     def end_of_input(run, one, journal):
         one.tell("call Plant.Tank Moved")
-        until("the call", lambda: lines_of(journal)[-1].endswith("-> queued"))
+        until("the call", lambda: has_line(journal, QUEUED))
         ended(run, "the end of input", command="")
         expect("a call that is open then", one.reply(), "stopped")
 
@@ -248,32 +259,51 @@ def refused(program, folder):
     expect("a folder", said(given(SENSOR, (pipes[0], folder)), 4), f"ravenhost: {folder} isn't a pipe\n")
 
 
+def flooded(pipes, closes):
+    """A process that writes requests and reads no reply; its end of OUT stays open, or is closed."""
+    one = Actor(pipes)
+    if closes:
+        one.replies.close()
+    flood(one)
+    return one
+
+
+def struck(number, processes, pipes):
+    """Does something to processes: kills one or both, stops them, or has one ask on and read nothing."""
+    kind = number % 6
+    for process in (processes[:1], processes[1:], processes, processes, processes, [])[kind]:
+        process.send_signal(signal.SIGSTOP if kind == 3 else signal.SIGKILL)
+    return flooded(pipes, closes=number % 12 == 5) if kind == 5 else None
+
+
 def killed(program, folder, kills):
-    """Processes are killed at any moment: `quit` ends within a second each time, and the journal is legal."""
+    """Processes are killed or stopped at any moment, or read nothing: `quit` ends within a second each time, and the journal is legal."""
     sensor = os.path.join(TOP, "examples/actors/sensor.py")
     actuator = os.path.join(TOP, "examples/actors/actuator.py")
+    levels = b"".join(b"%d\n" % (90 if at % 2 else 10) for at in range(2000))
     longest = 0.0
     for number in range(kills):
         place = os.path.join(folder, str(number))
         os.mkdir(place)
-        run, (one, other), journal = started(program, place, (SENSOR, ACTUATOR), words=("--tick", "1"), text=script())
-        levels = subprocess.Popen([sensor, *one, "1"], stdin=subprocess.PIPE, stdout=subprocess.DEVNULL, stderr=subprocess.DEVNULL)
-        valve = subprocess.Popen([actuator, *other], stdout=subprocess.DEVNULL, stderr=subprocess.DEVNULL)
-        levels.stdin.write(b"".join(b"%d\n" % (90 if at % 2 else 10) for at in range(2000)))
-        levels.stdin.flush()
+        run, (one, other), journal = started(program, place, (SENSOR, ACTUATOR), words=("--tick", "1"))
+        processes = [subprocess.Popen([actuator, *other], stdout=subprocess.DEVNULL, stderr=subprocess.DEVNULL)]
+        if number % 6 != 5:
+            processes.insert(0, subprocess.Popen([sensor, *one, "1"], stdin=subprocess.PIPE, stdout=subprocess.DEVNULL, stderr=subprocess.DEVNULL))
+            processes[0].stdin.write(levels)
+            processes[0].stdin.flush()
         time.sleep(0.05 + 0.002 * (number % 100))
-        for process in ((levels,), (valve,), (levels, valve))[number % 3]:
-            process.send_signal(signal.SIGKILL)
+        flood = struck(number, processes, one)
         time.sleep(0.001 * (number % 7))
         start = time.monotonic()
-        ended(run, f"kill {number}")
+        ended(run, f"strike {number}")
         longest = max(longest, time.monotonic() - start)
-        for process in (levels, valve):
+        for process in processes:
             process.kill()
-            process.wait()
-        levels.stdin.close() if not levels.stdin.closed else None
-        judged(program, journal, f"kill {number}")
-    print(f"{kills} kills: the longest quit took {longest:.2f} s")
+            process.communicate()
+        if flood:
+            flood.requests.close()
+        judged(program, journal, f"strike {number}")
+    print(f"{kills} strikes: the longest quit took {longest:.2f} s")
 
 
 def round_trips(program, folder, count):
