@@ -10,7 +10,9 @@ use std::mem;
 
 // What is told of a task that no unit has yet.
 fn unknown_line(alloc: Global, task: &str) -> Result<String, AllocError> {
-    format!(in alloc; "note: no unit that is loaded has the task {task} of --actor; its process waits until one has it\n")
+    format!(in alloc;
+        "note: no unit that is loaded has the task {task} of --actor; its process waits until one has it\n"
+    )
 }
 
 // Tells of the tasks that no unit has yet.

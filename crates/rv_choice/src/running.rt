@@ -5,7 +5,9 @@ ghost use Rattle.clap.specs.Words.{app_of};
 ghost use Rattle.clap.specs.declared.builder.command.Command.TheViews.{out-Command as fields_of};
 ghost use Rattle.rv_choice.specs.Choices.{acting, attending, consoled, ending, guarding, keeping, running};
 
-use crate::args::{coloured, explained, file_arg, flag, noted, sync_arg, with_file, with_value, with_values};
+use crate::args::{
+    coloured, explained, file_arg, flag, noted, sync_arg, with_file, with_value, with_values,
+};
 use clap::Command;
 use std::alloc::{AllocError, Global};
 

@@ -9,7 +9,7 @@ mod pair;
 mod replies;
 mod requests;
 
-pub use carrier::{CarryFault, Carrier};
+pub use carrier::{Carrier, CarryFault};
 pub use lines::MOST_BYTES;
 pub use pair::{Ender, Pipes, ends};
 pub use replies::Replies;

@@ -66,9 +66,7 @@ impl Pipes {
         if self.has_request(rt) {
             let _ = self.replies(rt).tell(STOPPED);
         }
-        let _ = self
-            .written
-            .recv_timeout(rt, Duration::from_millis(LEAVE));
+        let _ = self.written.recv_timeout(rt, Duration::from_millis(LEAVE));
     }
 }
 
