@@ -4,4 +4,4 @@ use Rattle.rv_choice.proofs.actors.has_task.Given as goal
 
 -- what is left decides
 abbrev pub invariant-loop-actor : goal.invariant-loop-actor
-invariant-loop-actor l = has_task l.task.now (drop l.actor-index l.actors) ≡ has_task l.task.now l.actors
+invariant-loop-actor l = has_task l.task (drop l.actor-index l.actors) ≡ has_task l.task l.actors
