@@ -1,3 +1,4 @@
 pub mod Agreeing
+mod Appending
 pub mod Between
 mod Changing

@@ -3,9 +3,10 @@
 
 mod differing;
 
-ghost use Rattle.std.specs.Prelude.{◌≡◌, ◌++◌, ◌∷◌, [], IfOk, OnOk, option_copied, string_bytes};
+ghost use Rattle.std.specs.Prelude.{◌≡◌, ◌++◌, ◌∷◌, [], IfOk, OnOk, codes, option_copied, string_bytes};
 ghost use Rattle.std.specs.Fmt.{decimal};
 ghost use Rattle.rv_access.specs.Lines.{allows};
+ghost use Rattle.rv_shape.specs.Catalogue.{dotted};
 ghost use Rattle.rv_grants.specs.Grants.{DecidesBetween, change, decided, decision_fields, decision_text, edges, ends, grants_from, grants_text, granted_word, is_again, json_row, row, told, words_of};
 
 pub use differing::{Both, no_row_where_lists_agree, put_differences};
@@ -106,6 +107,55 @@ fn put_words(
     )
 }
 
+// Puts who calls, as JSON has it.
+fn put_caller(text: &mut String, asking: &Asking<'_>) -> Result<(), AllocError>
+    ensures { OnOk result (string_bytes text.new ≡ string_bytes text.old ++ (codes "{\"caller\":\"" ++ asking.now.caller)) }
+{
+    let caller = asking.caller;
+    write!(text, "{{\"caller\":\"{caller}")
+}
+
+// Puts a text and a dot.
+fn put_before_dot(text: &mut String, unit: &str) -> Result<(), AllocError>
+    ensures { OnOk result (string_bytes text.new ≡ string_bytes text.old ++ (unit.now ++ codes ".")) }
+{
+    text.push_str(unit)?;
+    text.push_str(".")
+}
+
+// Puts two names with a dot between them.
+fn put_dotted(text: &mut String, unit: &str, object: &str) -> Result<(), AllocError>
+    ensures { OnOk result (string_bytes text.new ≡ string_bytes text.old ++ dotted unit.now object.now) }
+{
+    put_before_dot(text, unit)?;
+    text.push_str(object)
+}
+
+// Puts which object is called.
+fn put_object(text: &mut String, asking: &Asking<'_>) -> Result<(), AllocError>
+    ensures { OnOk result (string_bytes text.new ≡ string_bytes text.old
+        ++ (codes "\",\"object\":\"" ++ dotted asking.now.unit asking.now.object)) }
+{
+    text.push_str("\",\"object\":\"")?;
+    put_dotted(text, asking.unit, asking.object)
+}
+
+// Puts which operation of it is called.
+fn put_operation(text: &mut String, asking: &Asking<'_>) -> Result<(), AllocError>
+    ensures { OnOk result (string_bytes text.new ≡ string_bytes text.old ++ (codes "\",\"operation\":\"" ++ asking.now.operation)) }
+{
+    let operation = asking.operation;
+    write!(text, "\",\"operation\":\"{operation}")
+}
+
+// Puts the ticks, and the fields of what is decided.
+fn put_decided(text: &mut String, span: &str, decision: &str) -> Result<(), AllocError>
+    ensures { OnOk result (string_bytes text.new ≡ string_bytes text.old
+        ++ (codes "\",\"from\":" ++ (span.now ++ (codes "," ++ (decision.now ++ (codes "}" ++ 10 ∷ [])))))) }
+{
+    write!(text, "\",\"from\":{span},{decision}}}\n")
+}
+
 // Puts a row as JSON: the ticks, and the fields of what is decided.
 pub(crate) fn put_json(
     text: &mut String,
@@ -115,14 +165,10 @@ pub(crate) fn put_json(
 ) -> Result<(), AllocError>
     ensures { OnOk result (string_bytes text.new ≡ string_bytes text.old ++ json_row asking.now span.now decision.now) }
 {
-    let caller = asking.caller;
-    let unit = asking.unit;
-    let object = asking.object;
-    let operation = asking.operation;
-    write!(
-        text,
-        "{{\"caller\":\"{caller}\",\"object\":\"{unit}.{object}\",\"operation\":\"{operation}\",\"from\":{span},{decision}}}\n"
-    )
+    put_caller(text, asking)?;
+    put_object(text, asking)?;
+    put_operation(text, asking)?;
+    put_decided(text, span, decision)
 }
 
 // Whether there is a line, and it allows.

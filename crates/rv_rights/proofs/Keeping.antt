@@ -1,5 +1,5 @@
 -- The list that is kept is the one in force.
-use Rattle.std.proofs.Common.{◌≡◌, ◌+◌, ◌++◌, ℕ, suc, Bool, List, Option, length, ap, ◌∙◌, sym, subst, append_assoc, arith, Bor, if◌then◌else◌}
+use Rattle.std.proofs.Common.{◌≡◌, ◌+◌, ◌++◌, ℕ, suc, Bool, true, List, [], Option, length, ap, ◌∙◌, sym, subst, append_assoc, arith, Bor, if◌then◌else◌}
 use Rattle.rv_access.specs.Words.{Words}
 use Rattle.rv_shape.specs.Catalogue.{Target, all_objects, target}
 use Rattle.rv_shape.specs.Shape.{Shape}
@@ -11,7 +11,7 @@ use Rattle.rv_reading.specs.declared.deed.Deed.{Deed}
 use Rattle.rv_reading.specs.declared.deed.Deed.TheVariants as Deeds
 use Rattle.rv_audit.specs.Meant.{Meant, Means, answer_in, next}
 use Rattle.rv_rights.specs.Following.{Follows}
-use Rattle.rv_rights.specs.Rights.{WishText, or_no_text, rights_at, rights_below, rights_on, rights_text, tells_none}
+use Rattle.rv_rights.specs.Rights.{WishText, call_of, grants_of, or_no_text, rights_at, rights_below, rights_of, rights_on, rights_text, takes_unit, tells_none}
 use Rattle.rv_rights.specs.declared.rights.Rights.{Rights}
 
 pub asked_keeps : (units : List Shape) (h k : History) (deed : Deed) (a : ℕ) (r : Request) (w : Recorded) (meant : Meant) → deed ≡ Deeds.Asks a r w → Means units (told deed) meant → k ≡ next h meant (answer_in (told deed)) → force k ≡ force h
@@ -47,3 +47,12 @@ one_operation wish list other shapes given object operation t text middle new gi
     ∙ ap (λ (ss : List Shape). text ++ (rights_on wish list other shapes object operation ++ rights_at wish list other ss t)) given_is
     ∙ ap (λ (x : Target). text ++ (rights_on wish list other shapes object operation ++ rights_at wish list other shapes x)) (t_is ∙ ap (λ (n : ℕ). target shapes object n) e)
     ∙ ap (λ (n : ℕ). text ++ rights_on wish list other shapes object n) (sym e)
+
+-- what a unit is granted that the filter takes
+pub taken_put : (wish : WishText) (by : Option (List ℕ)) (as_json taken : Bool) (list : List Words) (other : Option (List Words)) (called : Target) (caller old new : List ℕ) → by ≡ wish.filter.by → as_json ≡ wish.as_json → taken ≡ takes_unit by caller → taken ≡ true →
+    new ≡ old ++ grants_of list other (call_of as_json caller called) → new ≡ old ++ rights_of wish list other called caller
+taken_put wish by as_json taken list other called caller old new by_is form_is taken_is so new_is =
+    let none : List ℕ = [] in
+    let is : takes_unit wish.filter.by caller ≡ true = sym (ap (λ (b : Option (List ℕ)). takes_unit b caller) by_is) ∙ sym taken_is ∙ so in
+    new_is ∙ ap (λ (j : Bool). old ++ grants_of list other (call_of j caller called)) form_is
+    ∙ sym (ap (λ (b : Bool). old ++ (if b then grants_of list other (call_of wish.as_json caller called) else none)) is)
