@@ -1,4 +1,4 @@
-use Rattle.std.proofs.Common.{ℕ, List, ◌++◌, Option, ap, ◌∙◌, sym, subst}
+use Rattle.std.proofs.Common.{◌++◌, Option, ap, ◌∙◌, sym, subst}
 use Rattle.std.proofs.lemmas.Result.{on_ok_weaker}
 use Rattle.std.specs.Prelude.{string_bytes}
 use Rattle.rv_event.specs.declared.entry.Body.{Body}

@@ -3,7 +3,6 @@ use Rattle.std.proofs.lemmas.Result.{on_ok_weaker}
 use Rattle.std.specs.Prelude.{string_bytes}
 use Rattle.rv_shape.specs.Catalogue.{Target, target}
 use Rattle.rv_shape.specs.Shape.{Shape}
-use Rattle.rv_history.specs.Subject.{subject}
 use Rattle.rv_asked.specs.Holding.{Keeps}
 use Rattle.rv_asked.specs.declared.holding.Holding.{Holding}
 use Rattle.rv_explained.specs.Explanations.{letting_text}
