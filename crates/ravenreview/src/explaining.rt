@@ -28,6 +28,14 @@ fn put<W: Write>(writer: &mut W, bytes: &[u8]) -> Result<(), Stop> {
     }
 }
 
+// Bytes as a text, or none where they are no UTF-8.
+fn text_of(bytes: &[u8]) -> &str {
+    match str::from_utf8(bytes) {
+        Ok(text) => text,
+        Err(_) => "",
+    }
+}
+
 // Writes an explanation, with where the bodies stand that it names.
 fn put_placed<W: Write>(
     alloc: Global,
@@ -35,8 +43,8 @@ fn put_placed<W: Write>(
     said: &[u8],
     script: &[u8],
 ) -> Result<(), Stop> {
-    let said = str::from_utf8(said).unwrap_or("");
-    let script = str::from_utf8(script).unwrap_or("");
+    let said = text_of(said);
+    let script = text_of(script);
     match placed(alloc, said, script) {
         Ok(text) => put(writer, text.as_bytes()),
         Err(_) => Err(Stop::Failed(Failure::Memory)),
