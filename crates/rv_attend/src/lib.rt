@@ -13,7 +13,6 @@ mod explaining;
 mod follower;
 mod kept;
 mod notes;
-mod outsiders;
 mod room;
 mod telling;
 mod tending;

@@ -22,8 +22,6 @@ pub enum Flag {
     Color,
     /// Whether a last line was cut off.
     Torn,
-    /// Which task belongs to another process.
-    Actor,
 }
 
 impl Flag {
@@ -37,7 +35,6 @@ impl Flag {
             Flag::Notes => "--notes <WHEN>",
             Flag::Color => "--color <WHEN>",
             Flag::Torn => "--torn",
-            Flag::Actor => "--actor <TASK=IN,OUT>",
         }
     }
 
@@ -49,7 +46,6 @@ impl Flag {
             Flag::HaltBelow | Flag::Quota => "1 to 1048576",
             Flag::Notes | Flag::Color => "auto, always or never",
             Flag::Torn => "no word",
-            Flag::Actor => "the name of a task, as Plant.Sensor, and of two pipes",
         }
     }
 }
@@ -61,8 +57,6 @@ pub enum Misuse<'a> {
     Word(Flag, &'a str),
     /// It stands without `--journal`.
     Alone(Flag),
-    /// It is given twice of what this word names first.
-    Twice(Flag, &'a str),
 }
 
 impl fmt::Display for Misuse<'_> {
@@ -75,11 +69,6 @@ impl fmt::Display for Misuse<'_> {
                 flag.takes()
             ),
             Misuse::Alone(flag) => write!(f, "'{}' needs '--journal <FILE>'", flag.shown()),
-            Misuse::Twice(flag, word) => write!(
-                f,
-                "'{word}' for '{}' is of a task that is given twice",
-                flag.shown()
-            ),
         }
     }
 }
