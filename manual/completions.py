@@ -15,7 +15,7 @@ PAGES = "crates/ravenhost/usage"
 # The flags that stand alone; the launcher's do too, but for those that a word of the program may stand beside. Some of these may be
 # given more than once.
 HELP, VERSION = ("-h", "--help"), ("-V", "--version")
-REPEATED = ("--host", "--shape", "--unit", "--list")
+REPEATED = ("--host", "--shape", "--unit", "--list", "--actor")
 BESIDE = ("--script", *REPEATED)
 
 # The commands that take parts of a script, and the questions about a journal, which have the flags beside them.
@@ -33,7 +33,7 @@ WORDS = {"FILE": FILES, "COMMAND": COMMANDS}
 OWN_WORDS = {"who": ("CALLED", NOTHING), "whatif": ("LIST", FILES), "state": ("N", NOTHING), "explain": ("N", NOTHING)}
 # Of numbers, some that are usual.
 VALUES = {"FILE": FILES, "PIPE": FILES, "PREFIX": FOLDERS, "WHEN": ("auto", "always", "never"), "HOW": ("each", "second", "never"),
-          "MS": ("1000", "100", "10"), "N": ("100", "1000", "10000")}
+          "MS": ("1000", "100", "10"), "N": ("100", "1000", "10000"), "TASK=IN,OUT": NOTHING}
 
 
 class Flag:
@@ -83,7 +83,7 @@ def flags(text):
     """The flags of a help page."""
     found = []
     for left, about in rows(text, "Options:"):
-        row = re.fullmatch(r"(?:(-\w), )?(--[\w-]+)(?: <(\w+)>)?", left)
+        row = re.fullmatch(r"(?:(-\w), )?(--[\w-]+)(?: <([\w=,]+)>)?", left)
         if not row:
             sys.exit(f"manual/completions.py: a flag of another form: {left!r}")
         found.append(Flag([word for word in row.group(1, 2) if word], row[3], about))

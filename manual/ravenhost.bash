@@ -15,7 +15,7 @@ _ravenhost_flags() {
         "") echo "-h --help -V --version" ;;
         play) echo "--all --explain --no-explain --notes --warnings-are-errors --color -h --help" ;;
         check) echo "--explain --no-explain --script --notes --warnings-are-errors --color -h --help" ;;
-        run) echo "--journal --sync --explain --no-explain --halt-below --quota --tick --stop-by --console --end-status --sections-end --notes --warnings-are-errors --color -h --help" ;;
+        run) echo "--journal --sync --explain --no-explain --halt-below --quota --tick --stop-by --console --end-status --sections-end --actor --notes --warnings-are-errors --color -h --help" ;;
         audit) echo "--journal --torn --explain --notes --color -h --help" ;;
         manual) echo "-h --help" ;;
     esac
@@ -67,6 +67,7 @@ _ravenhost_value() {
         --tick) echo "1000 100 10" ;;
         --stop-by) echo "files" ;;
         --times) echo "files" ;;
+        --actor) echo "nothing" ;;
         --since) echo "entry: tick:" ;;
         --by) echo "nothing" ;;
         --of) echo "nothing" ;;
@@ -101,7 +102,7 @@ _ravenhost_is_alone() {
 
 # Whether a flag may be given more than once.
 _ravenhost_is_repeated() {
-    case $1 in --host | --shape | --unit | --list) ;; *) return 1 ;; esac
+    case $1 in --host | --shape | --unit | --list | --actor) ;; *) return 1 ;; esac
 }
 
 # By hand from here on.

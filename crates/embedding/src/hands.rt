@@ -7,26 +7,34 @@ ghost use Rattle.rv_crew.specs.Hiring.{hired};
 ghost use Rattle.rv_crew.specs.Teams.{IsOfTurn};
 
 use crate::actuator::{Actuator, actuate};
+use crate::panel::{Panel, serve};
 use crate::sensor::{Sensor, sense};
 use rv_crew::crew::Crew;
 use rv_crew::hiring::HireFault;
 use rv_port::port::{Finished, Port};
 use std::sync::Wait;
+use std::time::Clock;
 
 /// What a thread does with its port.
 #[derive(Drop)]
 pub enum Work {
     Sensor(Sensor),
     Actuator(Actuator),
+    Panel(Panel),
 }
 
 /// Does the work, and finishes the port.
-pub fn act<R: Wait + Input + Print + AllocGlobal>(rt: &R, port: Port, work: Work) -> Finished
+pub fn act<R: Wait + Clock + Input + Print + AllocGlobal>(
+    rt: &R,
+    port: Port,
+    work: Work,
+) -> Finished
     ensures { (result.turn ≡ port.turn) × (result.actor ≡ port.actor) }
 {
     match work {
         Work::Sensor(sensor) => sense(rt, port, sensor, rt.reader()),
         Work::Actuator(actuator) => actuate(rt, port, actuator),
+        Work::Panel(panel) => serve(rt, port, panel),
     }
 }
 

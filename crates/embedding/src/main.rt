@@ -44,5 +44,5 @@ fn main(rt: HostRuntime) -> io::Result<()> {
     println!(rt; "# A plant on threads")?;
     plant::play(&rt, &hands)?;
     println!(rt; "# A panel of another process")?;
-    panel::play(&rt)
+    panel::play(&rt, &hands)
 }

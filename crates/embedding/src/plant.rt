@@ -138,15 +138,15 @@ fn wait_for_end<R: Wait>(rt: &R, ends: Receiver<u64>) -> u64 {
     ends.recv(rt).unwrap_or(0)
 }
 
-// Halts the host, so that who waits goes on and is stopped.
-fn halt<R: Wait>(rt: &R, control: &mut Control)
+/// Halts the host, so that who waits goes on and is stopped.
+pub fn halt<R: Wait>(rt: &R, control: &mut Control)
     ensures { control.new.turn ≡ control.old.turn }
 {
     let _ = control.halt(rt);
 }
 
-// Joins the threads, and closes the host. None where there is no memory.
-fn close<R: Threads + Wait>(rt: &R, mut crew: Crew, control: Control) -> Option<Closed>
+/// Joins the threads, and closes the host. None where there is no memory.
+pub fn close<R: Threads + Wait>(rt: &R, mut crew: Crew, control: Control) -> Option<Closed>
     requires { IsOfTurn control.turn crew }
 {
     joins_keep_the_turn();

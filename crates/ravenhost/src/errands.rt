@@ -3,6 +3,7 @@
 ghost use Rattle.std.specs.Prelude.{◌≡◌, [], IfOk};
 ghost use Rattle.rv_feed.specs.Hearing.{heard};
 
+use crate::posts::{Post, carry};
 use crate::status::Stop;
 use rv_fault::Failure;
 use rv_feed::{Feed, Speaker};
@@ -21,6 +22,8 @@ pub enum Errand {
     Pipe(Speaker, String),
     /// Writes what is to be written to standard output.
     Output(Drain),
+    /// Reads and writes the pipes of a task that belongs to another process.
+    Post(Post),
 }
 
 // Waits for a pipe. What stands against it is said, and is as its end.
@@ -43,6 +46,7 @@ pub fn run_errand<R: Wait + Files + Input + Print + Eprint>(rt: &R, errand: Erra
             // The run is told of a failure, by its end of the output.
             let _ = drain.write_all(rt, &mut io::writer(rt));
         }
+        Errand::Post(post) => carry(rt, post),
     }
 }
 
@@ -54,8 +58,8 @@ pub struct Aides {
     pub ghost callable: { (errand : _) → pre begin errand },
 }
 
-// Starts the thread of an errand.
-fn begun<R: Eprint>(rt: &R, aides: &Aides, errand: Errand) -> Result<(), Stop> {
+/// Starts the thread of an errand.
+pub fn begun<R: Eprint>(rt: &R, aides: &Aides, errand: Errand) -> Result<(), Stop> {
     if (aides.begin)(errand) {
         return Ok(());
     }

@@ -3,6 +3,7 @@
 use crate::status::Stop;
 use clap::Error;
 use clap::error::ErrorKind;
+use rv_choice::actors::{ActorWords, actors_of};
 use rv_choice::chosen::{Unchosen, chosen};
 use rv_choice::selection::Selection;
 use rv_fault::Failure;
@@ -69,6 +70,27 @@ pub fn words_of<R: Env + AllocGlobal + Eprint>(rt: &R, alloc: Global) -> Result<
     Ok(words)
 }
 
+// Tells why the words of the command line choose nothing.
+fn unchosen<R: Print + Eprint>(rt: &R, alloc: Global, why: Unchosen<'_>) -> Stop {
+    match why {
+        Unchosen::NoMemory => Stop::Failed(Failure::Memory),
+        Unchosen::Usage(e) => told(rt, alloc, &e),
+        Unchosen::NoCommand => {
+            let _ = eprint!(rt; "error: no such command{HINT}");
+            Stop::Usage
+        }
+        Unchosen::Misused(misuse) => {
+            match format!(in alloc; "error: {misuse}{HINT}") {
+                Ok(text) => tell_shown(rt, text.as_str()),
+                Err(_) => {
+                    let _ = eprint!(rt; "error: {misuse}{HINT}");
+                }
+            }
+            Stop::Usage
+        }
+    }
+}
+
 /// What the words of the command line choose.
 pub fn choice<'a, R: Print + Eprint>(
     rt: &R,
@@ -77,21 +99,19 @@ pub fn choice<'a, R: Print + Eprint>(
 ) -> Result<Selection<'a>, Stop> {
     match chosen(alloc, words) {
         Ok(chosen) => Ok(chosen),
-        Err(Unchosen::NoMemory) => Err(Stop::Failed(Failure::Memory)),
-        Err(Unchosen::Usage(e)) => Err(told(rt, alloc, &e)),
-        Err(Unchosen::NoCommand) => {
-            let _ = eprint!(rt; "error: no such command{HINT}");
-            Err(Stop::Usage)
-        }
-        Err(Unchosen::Misused(misuse)) => {
-            match format!(in alloc; "error: {misuse}{HINT}") {
-                Ok(text) => tell_shown(rt, text.as_str()),
-                Err(_) => {
-                    let _ = eprint!(rt; "error: {misuse}{HINT}");
-                }
-            }
-            Err(Stop::Usage)
-        }
+        Err(why) => Err(unchosen(rt, alloc, why)),
+    }
+}
+
+/// The tasks that belong to other processes, by words that `choice` took.
+pub fn actors<'a, R: Print + Eprint>(
+    rt: &R,
+    alloc: Global,
+    words: &'a [&'a str],
+) -> Result<Vec<ActorWords<'a>>, Stop> {
+    match actors_of(alloc, words) {
+        Ok(actors) => Ok(actors),
+        Err(why) => Err(unchosen(rt, alloc, why)),
     }
 }
 

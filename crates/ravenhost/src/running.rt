@@ -7,11 +7,13 @@ use crate::errands::{input_of, no_input, outlet_of, stop_of};
 use crate::errors::StandardError;
 use crate::keeping::{journal_file, syncing_of};
 use crate::means::{Means, Terminals};
+use crate::posts::outsiders_of;
 use crate::reading::{Given, read_before};
 use crate::status::Stop;
 use crate::telling::{Telling, ended, warn};
 use rv_attend::{Attention, Follower, Typing};
 use rv_check::warnings::run_warnings_of;
+use rv_choice::actors::ActorWords;
 use rv_choice::selection::RunWords;
 use rv_fault::Failure;
 use rv_feed::Listening;
@@ -157,6 +159,7 @@ fn run_with<R, H, F>(
     means: Means<'_, H>,
     telling: Telling,
     words: RunWords<'_>,
+    actors: &[ActorWords<'_>],
     given: &Given,
     keeper: Keeper<F>,
 ) -> Result<(), Stop>
@@ -181,6 +184,7 @@ where
         keeper,
         attention_of(&words, telling, means.terminals),
     );
+    follower.outsiders = outsiders_of(rt, alloc, means.aides, actors)?;
     let mut outlet = outlet_of(rt, alloc, means.aides)?;
     let (done, flushed) = attend(
         rt,
@@ -204,23 +208,25 @@ where
     }
 }
 
-/// Runs the host of a script, and attends to it; its journal is kept in a file, where one is named.
+/// Runs the host of a script, and attends to it; its journal is kept in a file, where one is named, and tasks may belong to other
+/// processes.
 pub fn run_attended<R: Threads + Wait + Files + Clock + Eprint, H: Hires>(
     rt: &R,
     means: Means<'_, H>,
     telling: Telling,
     words: RunWords<'_>,
+    actors: &[ActorWords<'_>],
     given: &Given,
 ) -> Result<(), Stop> {
     match words.kept {
         Some(kept) => {
             let file = journal_file(rt, kept.name)?;
             let keeper = Keeper::new(means.alloc, file, syncing_of(kept.sync));
-            run_with(rt, means, telling, words, given, keeper)
+            run_with(rt, means, telling, words, actors, given, keeper)
         }
         None => {
             let keeper = Keeper::new(means.alloc, io::sink(), Syncing::Never);
-            run_with(rt, means, telling, words, given, keeper)
+            run_with(rt, means, telling, words, actors, given, keeper)
         }
     }
 }

@@ -1,2 +1,3 @@
+pub mod Asking
 pub mod Outcomes
 pub mod Serving

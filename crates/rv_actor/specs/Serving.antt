@@ -8,12 +8,12 @@ use Rattle.std.specs.IoError.{error_kind}
 use Rattle.std.specs.declared.io.Error.{Error}
 use Rattle.std.specs.declared.io.ErrorKind.{ErrorKind}
 use Rattle.std.specs.declared.io.ErrorKind.TheVariants.{InvalidData}
-use Rattle.rv_event.specs.Reading.{request_of}
 use Rattle.rv_port.specs.Calls.{Quits}
 use Rattle.rv_port.specs.Ports.{Porting, pass_of}
 use Rattle.rv_script.specs.Prefixes.{WritesPrefix}
 use Rattle.rv_shape.specs.Shape.{Shape}
 use Rattle.rv_text.specs.Words.{words}
+use Rattle.rv_actor.specs.Asking.{asked_of}
 use Rattle.rv_actor.specs.Outcomes.{Does, goes_behind, outcome_line}
 use Rattle.rv_actor.specs.declared.outcome.Outcome.{Outcome}
 use Rattle.rv_actor.specs.declared.outcome.Outcome.TheVariants.{NoText}
@@ -44,7 +44,7 @@ Tells outcome old new (Err error) = WritesPrefix old new (outcome_line outcome)
 -- A line is answered: what it asks is performed once, and then what that came to is told.
 pub record AnswersLine (shapes : List Shape) (line : List ℕ) (v : Porting) (old : Known) (w : Porting) (new : Known) (result : Result Goes Error) : Type 0 where
   pub outcome : Outcome
-  pub does : Does (request_of shapes (words line)) v outcome w
+  pub does : Does (asked_of shapes (words line)) v outcome w
   pub tells : Tells outcome old new result
 
 -- bytes were read that are no text

@@ -12,6 +12,7 @@ use rv_feed::Listening;
 use rv_keep::Keeper;
 use rv_pace::Pace;
 use rv_run::serving::MOST_COMMANDS;
+use rv_staff::Outsider;
 use std::alloc::Global;
 
 /// What an attended run has beside its host: whence its input comes, the file, and the clock that is followed.
@@ -25,6 +26,8 @@ pub struct Follower<'a, T, F> {
     pub keeper: Keeper<F>,
     /// What is asked of the run.
     pub asked: Attention,
+    /// The tasks that belong to other processes, up to the start of the run.
+    pub outsiders: Vec<Outsider>,
     // The ticks that a real clock makes due, once it is looked at.
     pub(crate) pace: Option<Pace>,
     pub(crate) room: Room,
@@ -58,6 +61,7 @@ impl<'a, T, F> Follower<'a, T, F> {
             source,
             keeper,
             asked,
+            outsiders: Vec::new(alloc),
             pace: None,
             room: Room::new(alloc, &asked),
             console: Console::new(alloc, asked.columns),

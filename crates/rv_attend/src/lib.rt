@@ -13,6 +13,7 @@ mod explaining;
 mod follower;
 mod kept;
 mod notes;
+mod outsiders;
 mod room;
 mod telling;
 mod tending;

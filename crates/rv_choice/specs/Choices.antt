@@ -1,6 +1,6 @@
 -- The command line (own): `play`, which may be given `--all`, `check`, which may be given `--script`, and `run`, which may be
 -- given `--journal FILE` and, with it, `--sync HOW`, `--halt-below N`, `--quota N`, `--tick MS`, `--stop-by PIPE`, `--console`,
--- `--end-status` and `--sections-end`, all three with `--no-explain` and `--warnings-are-errors`; and `audit`, which
+-- `--end-status`, `--sections-end` and, once or more, `--actor TASK=IN,OUT`, all three with `--no-explain` and `--warnings-are-errors`; and `audit`, which
 -- may be given `--journal FILE` and, with it, `--torn`. Each may be given `--explain`, `--notes WHEN`, `--color WHEN` and the FILE of
 -- its script.
 -- Beside them `manual`, which may be given the name of one of them. What words come to is what `clap` says of this command.
@@ -9,7 +9,7 @@ use Rattle.std.specs.Str.{bytes_eq}
 use Rattle.clap.specs.Words.{App, Row, Rule, new_app, new_rule, subcommand_of, with_rule, with_subcommand}
 use Rattle.clap.specs.Simple.{on_top}
 use Rattle.clap.specs.Walk.{Text, first_of, one_of}
-use Rattle.clap.specs.declared.builder.action.ArgAction.TheVariants.{Set, SetTrue}
+use Rattle.clap.specs.declared.builder.action.ArgAction.TheVariants.{Append, Set, SetTrue}
 use Rattle.rv_text.specs.Numbers.{natural_of}
 use Rattle.rv_choice.specs.declared.selection.Choice.{Choice}
 use Rattle.rv_choice.specs.declared.selection.Choice.TheVariants.{Play, Check, Run, Audit, AuditFile, Manual}
@@ -23,7 +23,7 @@ use Rattle.rv_choice.specs.declared.selection.Selection.{Selection}
 use Rattle.rv_choice.specs.declared.misuse.Flag.{Flag}
 use Rattle.rv_choice.specs.declared.misuse.Flag.TheVariants as Flags
 use Rattle.rv_choice.specs.declared.misuse.Misuse.{Misuse}
-use Rattle.rv_choice.specs.declared.misuse.Misuse.TheVariants.{Word, Alone}
+use Rattle.rv_choice.specs.declared.misuse.Misuse.TheVariants.{Word, Alone, Twice}
 use Rattle.rv_choice.specs.declared.chosen.Unchosen.{Unchosen}
 use Rattle.rv_choice.specs.declared.chosen.Unchosen.TheVariants.{Usage, NoCommand, Misused, NoMemory}
 
@@ -96,8 +96,16 @@ consoled = with_rule attending (flag_rule (codes "console"))
 abbrev pub ending : App
 ending = with_rule (with_rule consoled (flag_rule (codes "end-status"))) (flag_rule (codes "sections-end"))
 
+-- a flag with a value that may be given more than once
+abbrev pub many_rule : Text → Rule
+many_rule name = record (new_rule name) { long = Some name; action = Some Append; value_names = 1 }
+
+-- of which tasks may belong to other processes
+abbrev pub acting : App
+acting = with_rule ending (many_rule (codes "actor"))
+
 abbrev pub running : App
-running = with_file (with_color (with_notes ending))
+running = with_file (with_color (with_notes acting))
 
 -- `audit`, which may be given the name of a file, and two flags
 abbrev pub judging : App
@@ -300,6 +308,7 @@ Wrong = Flag × Option Text
 abbrev pub wrong_of : Misuse → Wrong
 wrong_of (Word flag word) = (flag, Some word.now)
 wrong_of (Alone flag) = (flag, None)
+wrong_of (Twice flag word) = (flag, Some word.now)
 
 module _ {X : Type 0} where
   -- what is wrong where something else came of it

@@ -1,1 +1,2 @@
+pub mod Actors
 pub mod Choices

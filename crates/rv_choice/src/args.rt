@@ -3,7 +3,7 @@
 ghost use Rattle.std.specs.Prelude.{◌≡◌, false, IfOk, codes};
 ghost use Rattle.clap.specs.Words.{app_of, rule_of, with_rule};
 ghost use Rattle.clap.specs.declared.builder.command.Command.TheViews.{out-Command as fields_of};
-ghost use Rattle.rv_choice.specs.Choices.{file_rule, flag_rule, notes_rule, sync_rule, value_rule, with_color, with_explanations, with_file, with_notes, word_rule};
+ghost use Rattle.rv_choice.specs.Choices.{file_rule, flag_rule, many_rule, notes_rule, sync_rule, value_rule, with_color, with_explanations, with_file, with_notes, word_rule};
 
 use clap::{Arg, ArgAction, Command};
 use std::alloc::{AllocError, Global};
@@ -29,6 +29,18 @@ fn valued<'a>(alloc: Global, name: &'a str, value: &'a str, help: &'a str) -> Ar
         .value_name(value)
         .help(help)
         .action(ArgAction::Set)
+}
+
+// The same, which may be given more than once.
+fn repeated<'a>(alloc: Global, name: &'a str, value: &'a str, help: &'a str) -> Arg<'a>
+    ensures rule { rule_of result ≡ many_rule name.now }
+    ensures local { result.global ≡ false }
+{
+    Arg::new(alloc, name)
+        .long(name)
+        .value_name(value)
+        .help(help)
+        .action(ArgAction::Append)
 }
 
 /// The flag that asks for explanations.
@@ -145,6 +157,21 @@ pub fn with_value<'a>(
     ensures local { IfOk result (λ c. (fields_of c).has_globals ≡ false) }
 {
     command.arg(valued(alloc, name, value, help))
+}
+
+/// A subcommand that may be given a value by a flag of this name, once or more.
+pub fn with_values<'a>(
+    alloc: Global,
+    command: Command<'a>,
+    name: &'a str,
+    value: &'a str,
+    help: &'a str,
+) -> Result<Command<'a>, AllocError>
+    requires { (fields_of command).has_globals ≡ false }
+    ensures app { IfOk result (λ c. app_of c ≡ with_rule (app_of command.entry) (many_rule name.now)) }
+    ensures local { IfOk result (λ c. (fields_of c).has_globals ≡ false) }
+{
+    command.arg(repeated(alloc, name, value, help))
 }
 
 /// A subcommand that judges journals, which may be told when notes are told.

@@ -1,6 +1,7 @@
 //! The command line of the program: what its words choose.
 #![tactic(auto)]
 
+pub mod actors;
 mod args;
 pub mod chosen;
 mod command;

@@ -22,6 +22,8 @@ pub enum Flag {
     Color,
     /// Whether a last line was cut off.
     Torn,
+    /// Which task belongs to another process.
+    Actor,
 }
 
 impl Flag {
@@ -35,6 +37,7 @@ impl Flag {
             Flag::Notes => "--notes <WHEN>",
             Flag::Color => "--color <WHEN>",
             Flag::Torn => "--torn",
+            Flag::Actor => "--actor <TASK=IN,OUT>",
         }
     }
 
@@ -46,6 +49,7 @@ impl Flag {
             Flag::HaltBelow | Flag::Quota => "1 to 1048576",
             Flag::Notes | Flag::Color => "auto, always or never",
             Flag::Torn => "no word",
+            Flag::Actor => "the name of a task, as Plant.Sensor, and of two pipes",
         }
     }
 }
@@ -57,6 +61,8 @@ pub enum Misuse<'a> {
     Word(Flag, &'a str),
     /// It stands without `--journal`.
     Alone(Flag),
+    /// It is given twice of what this word names first.
+    Twice(Flag, &'a str),
 }
 
 impl fmt::Display for Misuse<'_> {
@@ -69,6 +75,11 @@ impl fmt::Display for Misuse<'_> {
                 flag.takes()
             ),
             Misuse::Alone(flag) => write!(f, "'{}' needs '--journal <FILE>'", flag.shown()),
+            Misuse::Twice(flag, word) => write!(
+                f,
+                "'{word}' for '{}' is of a task that is given twice",
+                flag.shown()
+            ),
         }
     }
 }

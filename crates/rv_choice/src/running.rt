@@ -3,9 +3,11 @@
 ghost use Rattle.std.specs.Prelude.{◌≡◌, false, IfOk};
 ghost use Rattle.clap.specs.Words.{app_of};
 ghost use Rattle.clap.specs.declared.builder.command.Command.TheViews.{out-Command as fields_of};
-ghost use Rattle.rv_choice.specs.Choices.{attending, consoled, ending, guarding, keeping, running};
+ghost use Rattle.rv_choice.specs.Choices.{acting, attending, consoled, ending, guarding, keeping, running};
 
-use crate::args::{coloured, explained, file_arg, flag, noted, sync_arg, with_file, with_value};
+use crate::args::{
+    coloured, explained, file_arg, flag, noted, sync_arg, with_file, with_value, with_values,
+};
 use clap::Command;
 use std::alloc::{AllocError, Global};
 
@@ -100,12 +102,26 @@ fn ending_subcommand<'a>(alloc: Global) -> Result<Command<'a>, AllocError>
     consoled_subcommand(alloc)?.arg(end)?.arg(run)
 }
 
+// The same, of which tasks may belong to other processes.
+fn acting_subcommand<'a>(alloc: Global) -> Result<Command<'a>, AllocError>
+    ensures app { IfOk result (λ c. app_of c ≡ acting) }
+    ensures local { IfOk result (λ c. (fields_of c).has_globals ≡ false) }
+{
+    with_values(
+        alloc,
+        ending_subcommand(alloc)?,
+        "actor",
+        "TASK=IN,OUT",
+        "Give the task, as Plant.Sensor, to a process, which writes requests to the pipe IN, and reads from OUT what they came to; repeatable",
+    )
+}
+
 /// The same, which may be told of notes.
 pub fn run_subcommand<'a>(alloc: Global) -> Result<Command<'a>, AllocError>
     ensures app { IfOk result (λ c. app_of c ≡ running) }
     ensures local { IfOk result (λ c. (fields_of c).has_globals ≡ false) }
 {
-    let command = ending_subcommand(alloc)?;
+    let command = acting_subcommand(alloc)?;
     let command = noted(alloc, command)?;
     let command = coloured(alloc, command)?;
     with_file(

@@ -1,5 +1,5 @@
 -- Threads stay of one turn.
-use Rattle.std.proofs.Common.{◌≡◌, List, [], ◌++◌, ◌∷◌, Ok, Err, inl, inr, refl, sym, ap, ◌∙◌, subst, MatchResult, ℕ, zero, suc, Option, Some, None, IfSome}
+use Rattle.std.proofs.Common.{◌≡◌, List, Ok, Err, inl, inr, refl, sym, ap, ◌∙◌, subst, MatchResult, ℕ, zero, suc, Option, Some, None, IfSome}
 use Rattle.std.specs.Prelude.{IfErr, IfOk, Result}
 use Rattle.atomic_table.specs.Seated.{TableId}
 use Rattle.rv_code.specs.declared.body.UnitBodies.{UnitBodies}

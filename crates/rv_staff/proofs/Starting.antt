@@ -1,6 +1,6 @@
 -- What the start of threads says.
 use Rattle.std.proofs.Common.{◌≡◌, ◌∙◌, ℕ, suc, ◌+◌, List, [], ◌++◌, Ok, Err, inl, inr, refl, sym, ap, subst, add-one, arith}
-use Rattle.std.specs.Prelude.{Result, ◌⊎◌}
+use Rattle.std.specs.Prelude.{Result}
 use Rattle.std.specs.Io.KnownBytes.{Appends}
 use Rattle.rv_script.specs.Prefixes.{WritesPrefix}
 use Rattle.rv_script.proofs.Wrote.{appends_more, keeps_nothing, prefix_behind}

@@ -1,5 +1,5 @@
 -- The end of a run. (own)
-use Rattle.std.specs.Prelude.{◌≡◌, ◌⊎◌, List, []}
+use Rattle.std.specs.Prelude.{◌⊎◌, List, []}
 use Rattle.rv_event.specs.declared.entry.Answer.{Answer}
 use Rattle.rv_event.specs.declared.entry.Request.TheVariants as asks
 use Rattle.rv_turn.specs.Passes.{IsWorn}

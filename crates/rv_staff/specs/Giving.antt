@@ -12,7 +12,7 @@ use Rattle.rv_port.specs.declared.fault.PortFault.TheVariants as Faults
 use Rattle.rv_crew.specs.declared.hiring.HireFault.{HireFault}
 use Rattle.rv_crew.specs.declared.hiring.HireFault.TheVariants.{NoThread, GivenUp, NoMemory}
 use Rattle.rv_crew.specs.Hiring.{hired}
-use Rattle.rv_staff.specs.Saying.{Known, Says, no_memory_line, no_thread_line}
+use Rattle.rv_staff.specs.Saying.{Known, no_memory_line, no_thread_line}
 use Rattle.rv_staff.specs.Staffs.{Staffed}
 
 -- of a thread that was started nothing is said; else that there is none, or that memory was refused

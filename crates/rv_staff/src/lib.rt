@@ -14,7 +14,7 @@ pub use hands::Hands;
 pub use hires::Hires;
 pub use raising::raise;
 pub use saying::{NO_MEMORY, notice_line, say, say_lost};
-pub use session::{DeviceJob, Session};
+pub use session::{DeviceJob, Outsider, Session};
 pub use staff::Staff;
 pub use staffing::start_threads;
 pub use work::{Work, perform};

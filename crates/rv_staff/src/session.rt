@@ -8,6 +8,7 @@ use crate::staff::Staff;
 use crossbeam_channel::Sender;
 use rv_crew::crew::Closed;
 use rv_crew::notice::Notice;
+use rv_pipes::{Ender, Pipes};
 use rv_port::control::Control;
 use std::alloc::Global;
 use std::sync::Wait;
@@ -26,6 +27,17 @@ pub struct DeviceJob {
     pub calls: u32,
 }
 
+/// A task that belongs to another process, and has no thread yet.
+#[derive(Drop)]
+pub struct Outsider {
+    /// Its name, `Unit.Task`.
+    pub task: String,
+    /// Where its job sits.
+    pub pipes: Pipes,
+    /// What ends its requests.
+    pub ender: Ender,
+}
+
 /// The channel of a line.
 #[derive(Drop)]
 pub(crate) struct LineChannel {
@@ -41,6 +53,10 @@ pub struct Session {
     pub staff: Staff,
     /// The lines that have a thread.
     pub(crate) channels: Vec<LineChannel>,
+    /// The tasks that belong to other processes, and have no thread yet.
+    pub outsiders: Vec<Outsider>,
+    /// What ends the requests of those that have one.
+    pub(crate) enders: Vec<Ender>,
     /// The devices that were loaded.
     pub devices: Vec<DeviceJob>,
     /// How many requests a task's own body may make.
@@ -58,6 +74,8 @@ impl Drop for Session {
             alloc: _,
             staff: _,
             channels: _,
+            outsiders: _,
+            enders: _,
             devices: _,
             budget: _,
             capacity: _,
@@ -84,6 +102,8 @@ impl Session {
             alloc,
             staff: Staff::new(alloc, control),
             channels: Vec::new(alloc),
+            outsiders: Vec::new(alloc),
+            enders: Vec::new(alloc),
             devices,
             budget,
             capacity,
@@ -91,8 +111,8 @@ impl Session {
         }
     }
 
-    /// Halts the host, closes the channels of its lines and joins its threads, which have to end then. Gives the host, and
-    /// the actors whose ports were lost; none where memory was refused.
+    /// Halts the host, closes the channels of its lines, ends the requests of other processes and joins its threads, which have
+    /// to end then. Gives the host, and the actors whose ports were lost; none where memory was refused.
     pub fn end<R: Threads + Wait>(self, rt: &R) -> Option<Closed>
         ensures { IfSome result (Ended self.staff) }
     {
@@ -100,12 +120,14 @@ impl Session {
             alloc: _,
             staff,
             channels,
+            outsiders: _,
+            enders,
             devices: _,
             budget: _,
             capacity: _,
             notices: _,
         } = self;
         drop(channels);
-        staff.end(rt)
+        staff.end(rt, enders.as_slice())
     }
 }

@@ -33,6 +33,7 @@ use rv_crew::hiring::{HireFault, give_up};
 use rv_event::entry::Answer;
 use rv_follow::{Found, follow};
 use rv_keep::{KeepFault, Keeper};
+use rv_pipes::Ender;
 use rv_port::control::Control;
 use rv_port::fault::{PageFault, PortFault};
 use rv_port::port::Port;
@@ -99,6 +100,13 @@ fn close<R: Threads + Wait>(rt: &R, mut crew: Crew, control: Control) -> Option<
     match crew.join_all(rt) {
         Ok(()) => leave(rt, crew, control),
         Err(_) => None,
+    }
+}
+
+// Ends the requests of tasks that belong to other processes.
+fn end_each<R: Wait>(rt: &R, enders: &[Ender]) {
+    for ender in enders {
+        ender.end(rt);
     }
 }
 
@@ -267,13 +275,14 @@ impl Staff {
         give_up(&mut self.crew, port)
     }
 
-    /// Halts the host and joins its threads, which have to end then. Gives the host, and the actors whose ports were lost,
-    /// without a thread or for want of memory.
-    pub fn end<R: Threads + Wait>(self, rt: &R) -> Option<Closed>
+    /// Halts the host, ends the requests of tasks that belong to other processes, and joins its threads, which have to end then.
+    /// Gives the host, and the actors whose ports were lost, without a thread or for want of memory.
+    pub fn end<R: Threads + Wait>(self, rt: &R, enders: &[Ender]) -> Option<Closed>
         ensures { IfSome result (Ended self) }
     {
         let Staff { mut control, crew } = self;
         let _ = control.halt(rt);
+        end_each(rt, enders);
         close(rt, crew, control)
     }
 }

@@ -8,7 +8,7 @@ ghost use Rattle.rv_staff.specs.Saying.{Says};
 
 use crate::hires::Hires;
 use crate::saying::{NO_MEMORY, say, say_no_thread};
-use crate::session::{DeviceJob, LineChannel, Session};
+use crate::session::{DeviceJob, LineChannel, Outsider, Session};
 use crate::work::Work;
 use crossbeam_channel::{Sender, unbounded};
 use rv_crew::hiring::HireFault;
@@ -71,6 +71,81 @@ fn hire_line<H: Hires>(
     }
 }
 
+// Where a task stands among those that belong to other processes and have no thread yet.
+fn outsider_at(session: &Session, actor: usize) -> Option<usize> {
+    let catalogue = session.staff.catalogue();
+    let mut at = 0usize;
+    for outsider in &session.outsiders {
+        if let Some(task) = catalogue.find_task(outsider.task.as_str()) {
+            if task == actor {
+                return Some(at);
+            }
+        }
+        at = at.saturating_add(1);
+    }
+    None
+}
+
+// Takes a task out of those that belong to other processes and have no thread yet, if it is one.
+fn take_outsider(session: &mut Session, actor: usize) -> Option<Outsider>
+    ensures { session.new.staff ≡ session.old.staff }
+{
+    match outsider_at(session, actor) {
+        Some(at) if at < session.outsiders.len() => Some(session.outsiders.swap_remove(at)),
+        _ => None,
+    }
+}
+
+// A thread for a task that belongs to another process, with the names of what is loaded by now.
+fn hire_outsider<H: Hires>(
+    hires: &H,
+    session: &mut Session,
+    outsider: Outsider,
+    port: Port,
+) -> Result<(), HireFault>
+    requires { port.turn ≡ session.old.staff.control.turn }
+    ensures { session.new.staff ≡ record session.old.staff { crew = hired session.old.staff.crew port result } }
+{
+    if session.enders.reserve(1).is_err() {
+        return session.staff.give_up(port);
+    }
+    let Ok(names) = session.staff.catalogue().copy(session.alloc) else {
+        return session.staff.give_up(port);
+    };
+    let Outsider {
+        task: _,
+        pipes,
+        ender,
+    } = outsider;
+    let work = Work::Lines(session.alloc, pipes, names);
+    match session.staff.hire(hires, port, work) {
+        Ok(()) => {
+            session.enders.push_reserved(ender);
+            Ok(())
+        }
+        Err(fault) => Err(fault),
+    }
+}
+
+// A thread for a task on its port: it serves the process that the task belongs to, or else does the task's own work.
+fn hire_task<H: Hires>(
+    hires: &H,
+    session: &mut Session,
+    actor: usize,
+    port: Port,
+) -> Result<(), HireFault>
+    requires { port.turn ≡ session.old.staff.control.turn }
+    ensures { session.new.staff ≡ record session.old.staff { crew = hired session.old.staff.crew port result } }
+{
+    match take_outsider(session, actor) {
+        Some(outsider) => hire_outsider(hires, session, outsider, port),
+        None => {
+            let work = work_of(session, actor);
+            session.staff.hire(hires, port, work)
+        }
+    }
+}
+
 // A thread for an actor on its port.
 fn hire<H: Hires>(
     hires: &H,
@@ -84,8 +159,7 @@ fn hire<H: Hires>(
     if actor < FIRST_TASK {
         return hire_line(hires, session, actor.saturating_sub(1) as u8, port);
     }
-    let work = work_of(session, actor);
-    session.staff.hire(hires, port, work)
+    hire_task(hires, session, actor, port)
 }
 
 // Says why an actor has no thread, if it should have one.

@@ -8,6 +8,7 @@ use crate::crews::two_readers::{Ends, read_beside, read_open};
 use rv_port::port::{Finished, Port};
 use rv_staff::{Work, perform};
 use std::sync::Wait;
+use std::time::Clock;
 
 /// What a thread does with the port of its actor.
 #[derive(Drop)]
@@ -23,7 +24,7 @@ pub enum Role {
 }
 
 /// Does what a role says, and finishes the port.
-pub fn act<R: Wait>(rt: &R, port: Port, role: Role) -> Finished
+pub fn act<R: Wait + Clock>(rt: &R, port: Port, role: Role) -> Finished
     requires { Fits role port }
     ensures { (result.turn ≡ port.turn) × (result.actor ≡ port.actor) }
 {

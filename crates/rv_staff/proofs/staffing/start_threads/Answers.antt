@@ -1,4 +1,4 @@
-use Rattle.std.proofs.Common.{◌≡◌, ◌+◌, Ok, Err, rules, arith}
+use Rattle.std.proofs.Common.{◌≡◌, ◌+◌, rules, arith}
 use Rattle.rv_behind.specs.Events.{catalogue_of}
 use Rattle.rv_staff.specs.Giving.{actors_of}
 use Rattle.rv_staff.proofs.Starting.{all_below, fails_at, gave_one, none_below, one_below}

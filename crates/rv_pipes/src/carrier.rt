@@ -1,0 +1,131 @@
+//! What a thread does beside the job of a task: it reads and writes the pipes.
+
+use crate::lines::{Next, next_line};
+use crate::replies::STOPPED;
+use crossbeam_channel::{Receiver, Sender};
+use rv_script::write_whole;
+use std::alloc::Global;
+use std::io;
+use std::io::{BufRead, Take, Write};
+use std::sync::Wait;
+
+// What is told of a line that is too long.
+const TOO_LONG: &[u8] = b"bad request: it is longer than 4096 bytes\n";
+
+/// Why pipes aren't read and written any more.
+#[derive(Drop)]
+pub enum CarryFault {
+    /// The requests can't be read.
+    Read(io::Error),
+    /// What they come to can't be written.
+    Write(io::Error),
+}
+
+// Whether lines are carried on.
+#[derive(Clone, Copy, Drop)]
+enum Goes {
+    On,
+    Out,
+}
+
+/// The end at which a thread reads and writes the pipes of a task.
+#[derive(Drop)]
+pub struct Carrier {
+    pub(crate) alloc: Global,
+    pub(crate) requests: Sender<Vec<u8>>,
+    pub(crate) replies: Receiver<Vec<u8>>,
+    pub(crate) written: Sender<u8>,
+}
+
+// Writes a line.
+fn write_line<W: Write>(writer: &mut W, line: &[u8]) -> Result<(), CarryFault> {
+    match write_whole(writer, line) {
+        Ok(()) => match writer.flush() {
+            Ok(()) => Ok(()),
+            Err(e) => Err(CarryFault::Write(e)),
+        },
+        Err(e) => Err(CarryFault::Write(e)),
+    }
+}
+
+impl Carrier {
+    // Hands a request to the job, and gives what that came to; none where the job has ended.
+    fn ask<R: Wait>(&self, rt: &R, line: Vec<u8>) -> Option<Vec<u8>> {
+        if self.requests.send(rt, line).is_err() {
+            return None;
+        }
+        self.replies.recv(rt).ok()
+    }
+
+    // Carries a line to the job, and back what it came to. Behind the end of the job it is told that the task has stopped.
+    fn carry_line<R: Wait, W: Write>(
+        &self,
+        rt: &R,
+        line: Vec<u8>,
+        writer: &mut W,
+    ) -> Result<Goes, CarryFault> {
+        let Some(reply) = self.ask(rt, line) else {
+            write_line(writer, STOPPED)?;
+            return Ok(Goes::Out);
+        };
+        write_line(writer, reply.as_slice())?;
+        let _ = self.written.try_send(rt, 1);
+        Ok(Goes::On)
+    }
+
+    // Reads a line, and carries it.
+    fn carry_next<R: Wait, I: BufRead, W: Write>(
+        &self,
+        rt: &R,
+        reader: &mut Take<I>,
+        writer: &mut W,
+    ) -> Result<Goes, CarryFault> {
+        match next_line(self.alloc, reader) {
+            Ok(Next::Line(line)) => self.carry_line(rt, line, writer),
+            Ok(Next::TooLong) => {
+                write_line(writer, TOO_LONG)?;
+                Ok(Goes::On)
+            }
+            Ok(Next::Over) => Ok(Goes::Out),
+            Err(e) => Err(CarryFault::Read(e)),
+        }
+    }
+
+    // Carries lines, each with what it came to before the next is read.
+    fn carry_all<R: Wait, I: BufRead + Drop, W: Write>(
+        &self,
+        rt: &R,
+        reader: I,
+        writer: &mut W,
+    ) -> Result<(), CarryFault> {
+        let mut lines = reader.take(0);
+        for _ in rt.forever() {
+            match self.carry_next(rt, &mut lines, writer)? {
+                Goes::On => {}
+                Goes::Out => return Ok(()),
+            }
+        }
+        unreachable!()
+    }
+
+    /// Carries lines, each with what it came to before the next is read, up to the end of the requests or of the job; and tells
+    /// the job their end.
+    ///
+    /// # Errors
+    /// As the first read or write that fails.
+    pub fn carry<R: Wait, I: BufRead + Drop, W: Write>(
+        self,
+        rt: &R,
+        reader: I,
+        writer: &mut W,
+    ) -> Result<(), CarryFault> {
+        let carried = self.carry_all(rt, reader, writer);
+        self.end(rt);
+        carried
+    }
+
+    /// Tells the job the end of the requests.
+    pub fn end<R: Wait>(&self, rt: &R) {
+        let _ = self.requests.send(rt, Vec::new(self.alloc));
+    }
+}
