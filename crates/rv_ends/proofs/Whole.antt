@@ -19,7 +19,9 @@ use Rattle.rv_ends.specs.Afoot.{Afoot, AreAfoot, answered, nothing_afoot, open_v
 use Rattle.rv_ends.specs.Ends.{AllStopped, IsAmong, IsWhole, TakesTexts, afoot_of, left_stops, of_others}
 use Rattle.rv_ends.specs.Explained.{IsFront, IsStopped, unwinds, leaves_open}
 use Rattle.rv_ends.specs.declared.ends.Ends.{Ends}
+use Rattle.rv_ends.specs.Texts.{AreTabled}
 use Rattle.rv_ends.specs.declared.ends.Stop.{Stop}
+use Rattle.rv_ends.specs.declared.texts.Texts.{Texts}
 use Rattle.rv_exec.specs.Stops.{stops_bodies}
 
 -- One more entry
@@ -97,46 +99,51 @@ all_left h by request word stops all = by_test (unwinds request) refl
 -- What is kept
 
 -- of a history, what is afoot there and what stopped its actors
-whole_at : (n : Ends) (k : History) (a : Afoot) (stops : List Stop) → afoot_of n ≡ a → n.stops.items ≡ stops → AreAfoot k a → AllStopped k stops → IsWhole n k
-whole_at n k a stops afoot_is stops_is are all = record {
+whole_at : (n : Ends) (k : History) (a : Afoot) (stops : List Stop) → AreTabled n.texts → afoot_of n ≡ a → n.stops.items ≡ stops → AreAfoot k a → AllStopped k stops → IsWhole n k
+whole_at n k a stops tabled afoot_is stops_is are all = record {
+  tabled = tabled;
   afoot = subst (λ (b : Afoot). AreAfoot k b) (sym afoot_is) are;
   stopped = subst (λ (l : List Stop). AllStopped k l) (sym stops_is) all;
 }
 
+same_texts : (e n : Ends) (h : History) → n.texts ≡ e.texts → IsWhole e h → AreTabled n.texts
+same_texts e n h same w = subst (λ (t : Texts). AreTabled t) (sym same) w.tabled
+
 -- before the first entry
-pub whole_new : (e : Ends) (limits : Limits) → e.calls.items ≡ [] → e.under_way.items ≡ [] → e.stops.items ≡ [] → IsWhole e (empty limits)
-whole_new e limits calls under_way stops = whole_at e (empty limits) nothing_afoot [] (λ i. record { calls = calls i; bodies = map open_view (under_way i) }) stops refl tt
+pub whole_new : (e : Ends) (limits : Limits) → AreTabled e.texts → e.calls.items ≡ [] → e.under_way.items ≡ [] → e.stops.items ≡ [] → IsWhole e (empty limits)
+whole_new e limits tabled calls under_way stops = whole_at e (empty limits) nothing_afoot [] tabled (λ i. record { calls = calls i; bodies = map open_view (under_way i) }) stops refl tt
 
 -- behind a request whose answer was due and is recorded
 pub whole_asked : (e n : Ends) (h k : History) (actor : ℕ) (request : Request) (answer : Answer) (word : Recorded) → IsWhole e h → answer ≡ out h actor request → recorded answer ≡ Some word → k ≡ after h actor request answer
-    → afoot_of n ≡ answered k.shapes k.past actor request answer (afoot_of e) → n.stops.items ≡ left_stops request actor e.stops.items → IsWhole n k
-whole_asked e n h k actor request answer word w due is k_is afoot_is stops_is =
+    → n.texts ≡ e.texts → afoot_of n ≡ answered k.shapes k.past actor request answer (afoot_of e) → n.stops.items ≡ left_stops request actor e.stops.items → IsWhole n k
+whole_asked e n h k actor request answer word w due is k_is same afoot_is stops_is =
     let there : History = record h { past = Asked actor request word ∷ h.past } in
     let at : k ≡ there = k_is ∙ ap (entered h actor request) is in
     subst (λ (x : History). IsWhole n x) (sym at)
     (whole_at n there (answered h.shapes (Asked actor request word ∷ h.past) actor request (out h actor request) (afoot_of e)) (left_stops request actor e.stops.items)
+    (same_texts e n h same w)
     (afoot_is ∙ ap (λ (x : History). answered x.shapes x.past actor request answer (afoot_of e)) at ∙ ap (λ (a : Answer). answered h.shapes (Asked actor request word ∷ h.past) actor request a (afoot_of e)) due)
     stops_is (afoot_of e, w.afoot, refl) (all_left h actor request word e.stops.items w.stopped))
 
 -- Loads and lists
 
-same_kept : (e n : Ends) (k : History) → afoot_of n ≡ afoot_of e → n.stops.items ≡ e.stops.items → IsWhole e k → IsWhole n k
-same_kept e n k afoot_is stops_is w = whole_at n k (afoot_of e) e.stops.items afoot_is stops_is w.afoot w.stopped
+pub same_kept : (e n : Ends) (k : History) → AreTabled n.texts → afoot_of n ≡ afoot_of e → n.stops.items ≡ e.stops.items → IsWhole e k → IsWhole n k
+same_kept e n k tabled afoot_is stops_is w = whole_at n k (afoot_of e) e.stops.items tabled afoot_is stops_is w.afoot w.stopped
 
 -- behind a load that is recorded
-pub whole_loaded : (e n : Ends) → afoot_of n ≡ afoot_of e → n.stops.items ≡ e.stops.items → TakesTexts e n
-whole_loaded e n afoot_is stops_is = λ h k shape w some at.
+pub whole_loaded : (e n : Ends) → AreTabled n.texts → afoot_of n ≡ afoot_of e → n.stops.items ≡ e.stops.items → TakesTexts e n
+whole_loaded e n tabled afoot_is stops_is = λ h k shape w some at.
     let there : History = record h { past = Load ∷ h.past; shapes = h.shapes ++ shape ∷ [] } in
     let is : k ≡ there = at ∙ ap (λ (b : Bool). if b then there else h) some in
-    let loaded : IsWhole e there = record { afoot = (h.shapes, shape, refl, w.afoot); stopped = all_on h there Load (one_load h shape) (λ actor. refl) e.stops.items w.stopped } in
-    same_kept e n k afoot_is stops_is (subst (λ (x : History). IsWhole e x) (sym is) loaded)
+    let loaded : IsWhole e there = record { tabled = w.tabled; afoot = (h.shapes, shape, refl, w.afoot); stopped = all_on h there Load (one_load h shape) (λ actor. refl) e.stops.items w.stopped } in
+    same_kept e n k tabled afoot_is stops_is (subst (λ (x : History). IsWhole e x) (sym is) loaded)
 
 -- behind a list, however it was answered
 pub whole_by_list : (e : Ends) (h : History) (list : List Words) (answer : Answer) → IsWhole e h → IsWhole e (after_list h (Some list) answer)
 whole_by_list e h list answer w = by_test (is_some (recorded answer))
   where
     by_test : (b : Bool) → IsWhole e (if b then record h { past = ListChange ∷ h.past; lists = h.lists ++ list ∷ [] } else h)
-    by_test true = record { afoot = (h.lists, list, refl, w.afoot); stopped = all_on h (record h { past = ListChange ∷ h.past; lists = h.lists ++ list ∷ [] }) ListChange (one_list h list) (λ actor. refl) e.stops.items w.stopped }
+    by_test true = record { tabled = w.tabled; afoot = (h.lists, list, refl, w.afoot); stopped = all_on h (record h { past = ListChange ∷ h.past; lists = h.lists ++ list ∷ [] }) ListChange (one_list h list) (λ actor. refl) e.stops.items w.stopped }
     by_test false = w
 
 -- Stops
@@ -144,8 +151,8 @@ whole_by_list e h list answer w = by_test (is_some (recorded answer))
 pub stopped_here : (h : History) (actor : ℕ) (ask : Request) → Legal h → is_settling (mode h.shapes actor h.past) ≡ false → stops_bodies (out h actor ask) ≡ true → IsStopped h actor ask
 stopped_here h actor ask legal settled is = record { front = h; later = []; is_front = front_itself h legal; since = tt; settled = settled; stops = is }
 
-pub whole_stopped : (e n : Ends) (h : History) (stop : Stop) → IsWhole e h → IsStopped h stop.actor stop.ask → afoot_of n ≡ afoot_of e → n.stops.items ≡ e.stops.items ++ stop ∷ [] → IsWhole n h
-whole_stopped e n h stop w is afoot_is stops_is = whole_at n h (afoot_of e) (e.stops.items ++ stop ∷ []) afoot_is stops_is w.afoot (all_more e.stops.items w.stopped)
+pub whole_stopped : (e n : Ends) (h : History) (stop : Stop) → IsWhole e h → IsStopped h stop.actor stop.ask → n.texts ≡ e.texts → afoot_of n ≡ afoot_of e → n.stops.items ≡ e.stops.items ++ stop ∷ [] → IsWhole n h
+whole_stopped e n h stop w is same afoot_is stops_is = whole_at n h (afoot_of e) (e.stops.items ++ stop ∷ []) (same_texts e n h same w) afoot_is stops_is w.afoot (all_more e.stops.items w.stopped)
   where
     all_more : (stops : List Stop) → AllStopped h stops → AllStopped h (stops ++ stop ∷ [])
     all_more [] all = (is, tt)

@@ -13,6 +13,7 @@ use Rattle.rv_history.specs.History.{History}
 use Rattle.rv_history.specs.Legal.{after, after_load, out_load}
 use Rattle.rv_ends.specs.Afoot.{Afoot, AreAfoot, Open, open_view}
 use Rattle.rv_ends.specs.Explained.{AsksBehind, ByRecorded, EndsBy, FitsStop, HasNoText, IsExplained, IsStopped, StopsHere, innermost, unwinds}
+use Rattle.rv_ends.specs.Texts.{AreTabled}
 use Rattle.rv_ends.specs.declared.ends.Ends.{Ends}
 use Rattle.rv_ends.specs.declared.ends.Stop.{Stop}
 use Rattle.rv_ends.specs.declared.meaning.Meaning.{Meaning}
@@ -20,7 +21,7 @@ use Rattle.rv_ends.specs.declared.meaning.Meaning.TheVariants as meaning
 
 -- the texts of what was loaded
 abbrev pub texts_of : Ends → UnitBodies
-texts_of ends = bodies_view ends.bodies
+texts_of ends = bodies_view ends.texts.bodies
 
 -- what is kept of calls and bodies
 abbrev pub afoot_of : Ends → Afoot
@@ -44,8 +45,9 @@ of_others actor stops = filter (λ stop. not (stop.actor == actor)) stops
 abbrev pub left_stops : Request → ℕ → List Stop → List Stop
 left_stops request actor stops = if unwinds request then stops else of_others actor stops
 
--- What is kept is what is afoot behind a history, and what stopped its actors.
+-- What is kept is what is afoot behind a history, and what stopped its actors; a table is that of the texts.
 pub record IsWhole (ends : Ends) (h : History) : Type 0 where
+  pub tabled : AreTabled ends.texts
   pub afoot : AreAfoot h (afoot_of ends)
   pub stopped : AllStopped h ends.stops.items
 

@@ -5,3 +5,4 @@ pub mod Ends
 pub mod Explained
 pub mod Following
 pub mod Tally
+pub mod Texts

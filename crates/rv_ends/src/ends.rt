@@ -15,15 +15,16 @@ ghost use Rattle.rv_history.specs.declared.limits.Limits.{Limits};
 ghost use Rattle.rv_ends.specs.Afoot.{answered};
 ghost use Rattle.rv_ends.specs.Ends.{IsAmong, IsFoundStop, IsMeaning, IsWhole, TakesAnswered, TakesTexts, afoot_of, left_stops, of_others, texts_of};
 ghost use Rattle.rv_ends.specs.Explained.{IsStopped, StopsHere, unwinds};
+ghost use Rattle.rv_ends.specs.Texts.{AreTabled};
 
 use crate::afoot::{OpenBody, QueuedCall};
 use crate::answered::{begin, close, hear_all, innermost, queue, started};
 use crate::following::is_same;
-use crate::meaning::{Course, Meaning, course_of};
+use crate::meaning::{Course, Meaning};
 use crate::others::{OfActor, of_others};
+use crate::texts::Texts;
 use rv_code::UnitBodies;
 use rv_event::entry::{Answer, Exception, Exit, Mode, Next, Request, Rule};
-use rv_exec::bodies::Bodies;
 use rv_host::host::Host;
 use rv_value::{Args, Scalars};
 use std::alloc::{AllocError, Global};
@@ -48,7 +49,7 @@ impl OfActor for Stop {
 #[derive(Drop)]
 pub struct Ends {
     alloc: Global,
-    bodies: Bodies,
+    texts: Texts,
     calls: Vec<QueuedCall>,
     under_way: Vec<OpenBody>,
     // What stopped actors that only ended bodies by stopped since.
@@ -125,7 +126,7 @@ impl Ends {
     {
         Ends {
             alloc,
-            bodies: Bodies::new(alloc),
+            texts: Texts::new(alloc),
             calls: Vec::new(alloc),
             under_way: Vec::new(alloc),
             stops: Vec::new(alloc),
@@ -135,9 +136,10 @@ impl Ends {
     // Puts the bodies of a unit that was loaded behind the others.
     fn add_texts(&mut self, bodies: UnitBodies) -> Result<(), AllocError>
         ensures texts { OnOk result (texts_of self.new ≡ with_unit (unit_view bodies) (texts_of self.old)) }
+        ensures tabled { AreTabled self.new.texts }
         ensures same { (afoot_of self.new ≡ afoot_of self.old) × (self.new.stops.items ≡ self.old.stops.items) }
     {
-        self.bodies.add(bodies)
+        self.texts.add(bodies)
     }
 
     /// Takes the load of a unit that was answered so that it is recorded, with the unit's bodies. Err where memory was refused.
@@ -165,7 +167,7 @@ impl Ends {
         answer: &Answer,
     ) -> Result<(), AllocError>
         ensures afoot { OnOk result (afoot_of self.new ≡ answered host.now.shapes host.now.past actor request.now answer.now (afoot_of self.old)) }
-        ensures same { (self.new.bodies ≡ self.old.bodies) × (self.new.stops.items ≡ self.old.stops.items) }
+        ensures same { (self.new.texts ≡ self.old.texts) × (self.new.stops.items ≡ self.old.stops.items) }
     {
         let start = started(
             host,
@@ -184,7 +186,7 @@ impl Ends {
     // What stopped an actor before is past, where it goes on.
     fn go_on(&mut self, actor: usize, request: &Request) -> Result<(), AllocError>
         ensures stops { OnOk result (self.new.stops.items ≡ left_stops request.now actor self.old.stops.items) }
-        ensures same { (self.new.bodies ≡ self.old.bodies) × (afoot_of self.new ≡ afoot_of self.old) }
+        ensures same { (self.new.texts ≡ self.old.texts) × (afoot_of self.new ≡ afoot_of self.old) }
     {
         if unwinds(request) {
             return Ok(());
@@ -220,7 +222,7 @@ impl Ends {
     // Keeps an ask that stops its actor here.
     fn keep_stop(&mut self, actor: usize, ask: &Request) -> Result<(), AllocError>
         ensures stops { OnOk result (self.new.stops.items ≡ self.old.stops.items ++ (record { actor = actor; ask = ask.now }) ∷ []) }
-        ensures same { (self.new.bodies ≡ self.old.bodies) × (afoot_of self.new ≡ afoot_of self.old) }
+        ensures same { (self.new.texts ≡ self.old.texts) × (afoot_of self.new ≡ afoot_of self.old) }
     {
         // The check is told of these types only where they are named.
         let _exit: Option<Exit> = None;
@@ -255,7 +257,7 @@ impl Ends {
 
     /// What the text of an actor's innermost body means, where this end of it is to come behind the entries of the host. After
     /// any other answer than that it is explained, or without a text, the entries to come can't be explained.
-    #[tactic(auto, using(crate::proofs::Meanings::no_body, crate::proofs::Meanings::without_text, crate::proofs::Meanings::by_found_stop, crate::proofs::Meanings::gives_other))]
+    #[tactic(auto, using(crate::proofs::Meanings::no_body, crate::proofs::Meanings::without_text, crate::proofs::Meanings::by_found_stop, crate::proofs::Meanings::gives_other, crate::proofs::Whole::same_kept))]
     pub fn meaning(
         &mut self,
         host: &Host,
@@ -269,7 +271,8 @@ impl Ends {
         let Some(body) = innermost(self.under_way.as_slice(), actor) else {
             return Ok(Meaning::WithoutText);
         };
-        match course_of(&self.bodies, host.catalogue(), body, end) {
+        let course = self.texts.course(host.catalogue(), body, end)?;
+        match course {
             Course::Explained => Ok(Meaning::Explained),
             Course::WithoutText => Ok(Meaning::WithoutText),
             Course::Gives(request) => Ok(Meaning::Gives(request)),

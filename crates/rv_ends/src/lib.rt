@@ -1,6 +1,6 @@
-//! Whether recorded ends of bodies are what the bodies' texts mean. Each end's body is run again, without threads, on the
-//! entries between its start and its end. The caller carries the journal out on a host, and lends it to a `Tally` before and
-//! behind each entry; behind the first end whose text means another a tally changes no more.
+//! Whether recorded ends of bodies are what the bodies' texts mean. Each end's body is run again, by a machine and without
+//! threads, on the entries between its start and its end. The caller carries the journal out on a host, and lends it to a
+//! `Tally` before and behind each entry; behind the first end whose text means another a tally changes no more.
 #![tactic(auto)]
 
 pub mod afoot;
@@ -10,3 +10,4 @@ mod following;
 pub mod meaning;
 mod others;
 pub mod tally;
+mod texts;

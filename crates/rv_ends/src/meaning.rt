@@ -1,19 +1,27 @@
 //! What the text of a body means on what was recorded of it.
 
-ghost use Rattle.std.specs.Prelude.{◌≡◌, [], false, true, Some, option_map};
-ghost use Rattle.rv_exec.specs.Bodies.{bodies_view, operation_of};
+ghost use Rattle.std.specs.Prelude.{◌≡◌, [], false, true, Some, option_map, IfOk, IfSome, IsNone};
+ghost use Rattle.rv_exec.specs.Asking.{Along, Trace};
+ghost use Rattle.rv_exec.specs.Blocks.{operation_run_at};
+ghost use Rattle.rv_exec.specs.Bodies.{operation_of};
+ghost use Rattle.rv_flat.specs.FlatUnits.{flat_view};
 ghost use Rattle.rv_ends.specs.Afoot.{open_view};
 ghost use Rattle.rv_ends.specs.Courses.{IsCourse, IsWeighed};
-ghost use Rattle.rv_ends.specs.Following.{place_of};
-ghost use Rattle.rv_ends.specs.Explained.{calls_without_text, is_without_text};
+ghost use Rattle.rv_ends.specs.Following.{Plays, place_of};
+ghost use Rattle.rv_ends.specs.Explained.{HasNoText, calls_without_text, is_without_text};
 
-use crate::afoot::OpenBody;
+use crate::afoot::{OpenBody, Start};
 use crate::following::{Following, is_same, is_stopped_end};
 use rv_event::entry::{Answer, Request};
 use rv_exec::asks::end_with;
-use rv_exec::bodies::Bodies;
-use rv_exec::machine::run_body_at;
+use rv_exec::machine::Ended;
+use rv_flat::unit::FlatUnit;
+use rv_machine::outcomes::operation;
+use rv_runs::run::run_body;
+use rv_runs::spare::Spare;
+use rv_runs::tabled::Table;
 use rv_shape::catalogue::Catalogue;
+use std::alloc::AllocError;
 
 /// What the text of a body means where an end of the body was recorded.
 #[derive(Clone, Copy, Drop)]
@@ -44,12 +52,12 @@ pub enum Course {
 }
 
 // Whether an ask started a body that has no text.
-fn is_without_text(bodies: &Bodies, request: &Request, answer: &Answer) -> bool
-    ensures { result ≡ is_without_text (bodies_view bodies.now) request.now answer.now }
+fn is_without_text(unit: &FlatUnit, request: &Request, answer: &Answer) -> bool
+    ensures { result ≡ is_without_text (flat_view unit.now) request.now answer.now }
 {
     match (request, answer) {
-        (Request::Call(object, operation, _), Answer::Started(_)) => {
-            bodies.operation(*object, *operation).is_none()
+        (Request::Call(object, number, _), Answer::Started(_)) => {
+            operation(unit, *object, *number).is_none()
         }
         _ => false,
     }
@@ -57,11 +65,11 @@ fn is_without_text(bodies: &Bodies, request: &Request, answer: &Answer) -> bool
 
 // Whether a body called one that has no text.
 #[tactic(auto, using(crate::proofs::Heard::text_passed, crate::proofs::Heard::text_found))]
-fn calls_without_text(bodies: &Bodies, asked: &[(Request, Answer)]) -> bool
-    ensures { result ≡ calls_without_text (bodies_view bodies.now) asked.now }
+fn calls_without_text(unit: &FlatUnit, asked: &[(Request, Answer)]) -> bool
+    ensures { result ≡ calls_without_text (flat_view unit.now) asked.now }
 {
     for pair in asked {
-        if is_without_text(bodies, &pair.0, &pair.1) {
+        if is_without_text(unit, &pair.0, &pair.1) {
             return true;
         }
     }
@@ -97,53 +105,88 @@ fn weighed(following: &Following<'_>, given: Request, end: &Request) -> Course
     Course::Asks(other)
 }
 
-// What a body comes to by its text, where none that it called lacks one.
-#[tactic(auto, using(crate::proofs::Courses::course_is))]
-fn run(
-    bodies: &Bodies,
-    catalogue: &Catalogue,
-    body: &OpenBody,
-    is_function: bool,
-    end: &Request,
-) -> Course
-    requires texts { calls_without_text (bodies_view bodies.now) body.now.asked.items ≡ false }
-    requires code { option_map (λ b. b.is_function) (operation_of (bodies_view bodies.now) body.now.start.object body.now.start.operation) ≡ Some is_function }
-    ensures { IsCourse (bodies_view bodies.now) catalogue.now (open_view body.now) end.now result }
+// Runs a body again on what was recorded of it. Err where memory was refused.
+fn run_again(
+    spare: &mut Spare,
+    table: &Table,
+    start: &Start,
+    following: &mut Following<'_>,
+) -> Result<Ended, AllocError>
+    ensures { IfOk result (λ end. (trace : Trace) × Along (operation_run_at (flat_view table.now.unit) start.now.held start.now.object start.now.operation start.now.values start.now.components) trace (end.exit, end.scalars) × Plays (place_of following.old) trace (place_of following.new)) }
 {
-    let start = body.start;
-    let mut following = Following {
-        catalogue,
-        asked: body.asked.as_slice(),
-        held: start.held,
-        other: None,
-        is_broken: false,
-    };
-    let ended = run_body_at(
+    let stack = spare.taken(table)?;
+    let (ended, stack) = run_body(
         &(),
-        bodies,
+        table,
+        stack,
         start.held,
         start.object,
         start.operation,
         start.components,
         start.values,
-        &mut following,
+        following,
     );
-    weighed(
+    spare.put_back(stack);
+    Ok(ended)
+}
+
+// What a body comes to by its text, where none that it called lacks one. Err where memory was refused.
+#[tactic(auto, using(crate::proofs::Courses::course_is))]
+fn run(
+    spare: &mut Spare,
+    table: &Table,
+    catalogue: &Catalogue,
+    body: &OpenBody,
+    is_function: bool,
+    end: &Request,
+) -> Result<Course, AllocError>
+    requires texts { calls_without_text (flat_view table.now.unit) body.now.asked.items ≡ false }
+    requires code { option_map (λ b. b.is_function) (operation_of (flat_view table.now.unit) body.now.start.object body.now.start.operation) ≡ Some is_function }
+    ensures { IfOk result (λ course. IsCourse (flat_view table.now.unit) catalogue.now (open_view body.now) end.now course) }
+{
+    let mut following = Following {
+        catalogue,
+        asked: body.asked.as_slice(),
+        held: body.start.held,
+        other: None,
+        is_broken: false,
+    };
+    let ended = run_again(spare, table, &body.start, &mut following)?;
+    Ok(weighed(
         &following,
         end_with(is_function, ended.exit, ended.scalars),
         end,
-    )
+    ))
 }
 
-/// What a body comes to, by its text and what was recorded of it, where this end was recorded.
-pub fn course_of(bodies: &Bodies, catalogue: &Catalogue, body: &OpenBody, end: &Request) -> Course
-    ensures { IsCourse (bodies_view bodies.now) catalogue.now (open_view body.now) end.now result }
+// Whether the body is a function's, or `None` where it has no text, or a body that it called has none.
+fn is_function_with_text(unit: &FlatUnit, body: &OpenBody) -> Option<bool>
+    ensures some { IfSome result (λ is_function. option_map (λ b. b.is_function) (operation_of (flat_view unit.now) body.now.start.object body.now.start.operation) ≡ Some is_function) }
+    ensures texts { IfSome result (λ is_function. calls_without_text (flat_view unit.now) body.now.asked.items ≡ false) }
+    ensures none { IsNone result → HasNoText (flat_view unit.now) (open_view body.now) }
 {
-    let Some(code) = bodies.operation(body.start.object, body.start.operation) else {
-        return Course::WithoutText;
+    let Some(code) = operation(unit, body.start.object, body.start.operation) else {
+        return None;
     };
-    if calls_without_text(bodies, body.asked.as_slice()) {
-        return Course::WithoutText;
+    if calls_without_text(unit, body.asked.as_slice()) {
+        return None;
     }
-    run(bodies, catalogue, body, code.is_function, end)
+    Some(code.is_function)
+}
+
+/// What a body comes to, by its text in a table and what was recorded of it, where this end was recorded. Err where memory was
+/// refused.
+pub fn course_of(
+    spare: &mut Spare,
+    table: &Table,
+    catalogue: &Catalogue,
+    body: &OpenBody,
+    end: &Request,
+) -> Result<Course, AllocError>
+    ensures { IfOk result (λ course. IsCourse (flat_view table.now.unit) catalogue.now (open_view body.now) end.now course) }
+{
+    match is_function_with_text(&table.unit, body) {
+        Some(is_function) => run(spare, table, catalogue, body, is_function, end),
+        None => Ok(Course::WithoutText),
+    }
 }
