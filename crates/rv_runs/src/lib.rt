@@ -3,6 +3,7 @@
 //! choice.
 #![tactic(auto)]
 
+pub mod ready;
 pub mod run;
 pub mod spare;
 pub mod tabled;

@@ -10,6 +10,7 @@ ghost use Rattle.rv_port.specs.Controls.{listed, IsGiven, IsPortFault};
 use super::{Control, PORT_ACTS};
 use crate::fault::PortFault;
 use crate::port::Port;
+use rv_runs::spare::Spare;
 use rv_shape::actor::Actor;
 use rv_shape::catalogue::Catalogue;
 use rv_turn::SplitFault;
@@ -72,7 +73,7 @@ impl Control {
         match self.pass.split(actor, PORT_ACTS) {
             Ok(pass) => {
                 put_first(&mut self.given, actor);
-                Ok(Port::new(pass, bell))
+                Ok(Port::new(pass, bell, Spare::new(self.alloc)))
             }
             Err(SplitFault::TooFew) => Err(PortFault::Worn),
             Err(SplitFault::NoMemory) => Err(PortFault::NoMemory),
