@@ -123,7 +123,7 @@ impl Finished {
         let _ = &self.pass;
     }
 
-    /// Whether a body was ever left alone because there were too many holders of the bodies.
+    /// Whether a body was ever left alone because there were too many holders of the bodies, or no memory for their run.
     pub fn is_refused(&self) -> bool
         ensures { result ≡ self.now.refused }
     {
