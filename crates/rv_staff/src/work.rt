@@ -1,11 +1,11 @@
 //! What the threads of a run do.
 
 ghost use Rattle.std.specs.Prelude.{◌≡◌};
-ghost use Rattle.rv_staff.specs.Working.{TextWorks, Works};
+ghost use Rattle.rv_staff.specs.Working.{Works};
 
 use crossbeam_channel::{Receiver, Sender};
-use rv_crew::notice::{Notice, notify};
-use rv_crew::tasks::{device, line_task, text_task};
+use rv_crew::notice::Notice;
+use rv_crew::tasks::{device, line_task, noticed_text_task};
 use rv_port::port::{Finished, Port};
 use std::sync::Wait;
 
@@ -20,18 +20,6 @@ pub enum Work {
     Line(Receiver<u8>, Option<Sender<Notice>>),
 }
 
-// Runs the text of a task, finishes its port, and notifies of how the text ended.
-fn run_text<R: Wait>(rt: &R, port: Port, budget: u32, notices: &Option<Sender<Notice>>) -> Finished
-    ensures ran { TextWorks budget port result }
-    ensures turn { result.turn ≡ port.turn }
-    ensures actor { result.actor ≡ port.actor }
-{
-    let actor = port.actor();
-    let (finished, ending) = text_task(rt, port, budget);
-    notify(rt, notices, Notice { actor, ending });
-    finished
-}
-
 /// Does the work of an actor, and finishes its port.
 pub fn perform<R: Wait>(rt: &R, port: Port, work: Work) -> Finished
     ensures works { Works work port result }
@@ -39,7 +27,7 @@ pub fn perform<R: Wait>(rt: &R, port: Port, work: Work) -> Finished
     ensures actor { result.actor ≡ port.actor }
 {
     match work {
-        Work::Text(budget, notices) => run_text(rt, port, budget, &notices),
+        Work::Text(budget, notices) => noticed_text_task(rt, port, budget, &notices),
         Work::Device(object, operation, calls) => device(rt, port, object, operation, calls),
         Work::Line(raised, notices) => line_task(rt, port, raised, notices),
     }
