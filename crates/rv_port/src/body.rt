@@ -1,17 +1,20 @@
 //! What runs between a start and its end.
 
 ghost use Rattle.std.specs.Prelude.{◌≡◌, Option, Some};
-ghost use Rattle.std.specs.Arc.{arc_value};
 ghost use Rattle.rv_behind.specs.declared.event.Lent.{Lent as Brought};
 ghost use Rattle.rv_event.specs.declared.entry.Request.TheVariants.{Complete};
 ghost use Rattle.rv_machine.specs.Machines.{IsFor};
-ghost use Rattle.rv_port.specs.Bodies.{RanTo, left_alone};
+ghost use Rattle.rv_exec.specs.Bodies.{bodies_view};
+ghost use Rattle.rv_port.specs.Bodies.{RanTo, RunsTo, left_alone};
+ghost use Rattle.rv_port.specs.Held.{held_by};
+ghost use Rattle.rv_port.specs.Traces.{Trace, Went};
 
 use crate::asker::Asker;
 use rv_behind::event::{Begun, Lent};
 use rv_event::entry::{Exception, Exit, Request};
 use rv_machine::stack::Stack;
 use rv_outside::{put_end, run_body};
+use rv_runs::ready::Ready;
 use rv_value::{Args, Scalars};
 use std::sync::Wait;
 
@@ -51,19 +54,20 @@ fn leave_marked(
 fn run_one<R: Wait>(
     rt: &R,
     asker: &mut Asker,
-    lent: &Lent,
+    ready: &Ready,
     stack: Stack,
     begun: &Begun,
     scalars: &Scalars,
     args: &Args,
     request: &mut Request,
 ) -> Exit
-    requires { IsFor (arc_value lent.now.bodies).table.unit stack }
-    ensures { RanTo (Some lent.now) asker.old.pass asker.old.is_refused begun.now scalars.now args.now request.new result asker.new.pass asker.new.is_refused }
+    requires { IsFor ready.now.table.unit stack }
+    ensures runs { (trace : Trace) × RunsTo (Some (bodies_view ready.now.bodies)) (held_by asker.old.pass) begun.now scalars.now args.now trace request.new result × Went asker.old.pass trace asker.new.pass }
+    ensures mark { asker.new.is_refused ≡ asker.old.is_refused }
 {
     let (exit, stack) = run_body(
         rt,
-        &lent.bodies,
+        ready,
         stack,
         asker.held as usize,
         begun,
@@ -94,8 +98,9 @@ pub(crate) fn run<R: Wait>(
     let Some(lent) = lent else {
         return leave_marked(asker, begun, scalars, args, request);
     };
-    match asker.spare.taken(&lent.bodies.table) {
-        Ok(stack) => run_one(rt, asker, lent, stack, begun, scalars, args, request),
+    let ready = &*lent.bodies;
+    match asker.spare.taken(&ready.table) {
+        Ok(stack) => run_one(rt, asker, ready, stack, begun, scalars, args, request),
         Err(_) => leave_marked(asker, begun, scalars, args, request),
     }
 }

@@ -89,8 +89,9 @@ impl Asker {
         let Some(lent) = lent else {
             return self.run_nothing();
         };
-        match self.spare.taken(&lent.bodies.table) {
-            Ok(stack) => self.run_text(rt, &lent.bodies, stack, budget),
+        let ready = &*lent.bodies;
+        match self.spare.taken(&ready.table) {
+            Ok(stack) => self.run_text(rt, ready, stack, budget),
             Err(_) => self.run_nothing(),
         }
     }
