@@ -7,8 +7,8 @@ pub returns : goal.returns
 returns g c =
     let ready = c.args.ready.now in
     let begun = c.args.begun.now in
-    let ran = c.run_tabled-ended.ensures in
-    let ended = c.run_tabled-ended.result.0 in
+    let ran = c.run_body-ended.ensures in
+    let ended = c.run_body-ended.result.0 in
     record {
       left = ended.scalars;
       ran = record {
