@@ -68,3 +68,6 @@ lengths_last c past shapes lists some few l = omega (arith, solvent c past shape
 
 pub few_entries : (h : History) → 1 ≤ h.limits.capacity → h.limits.capacity ≤ 2 ^ 20 → Legal h → length h.past < 10 ^ 12
 few_entries h some most l = lengths_last h.limits h.past h.shapes h.lists some (omega (arith, most)) l
+
+pub few_solvent : (h : History) → h.limits.capacity ≤ 2 ^ 20 → Legal h → IsSolvent h → length h.past < 10 ^ 12
+few_solvent h most l solvent = omega (arith, solvent, numbers_last h.limits h.past h.shapes h.lists (omega (arith, most)) l)
