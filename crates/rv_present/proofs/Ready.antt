@@ -151,7 +151,7 @@ next_may_start c past shapes lists e b l some few actors_few objects_few is =
     let room = few_bodies c (e ∷ past) shapes lists l some few in
     let placed : b.object ≤ length (all_objects shapes) = within_objects shapes b.object at.0 at.1 in
     may_start c shapes past e b 75 257 orderly is
-    (starter_known shapes past e b 75 is (known_below c past shapes lists e 75 l actors_few)) (omega (arith, placed, objects_few)) (omega (arith, room, few))
+    (starter_known shapes past e b 75 is (known_below c past shapes lists e 75 l actors_few)) (omega (arith, placed, objects_few)) (omega (arith, room.bodies, few))
 
 -- there are fewer list changes than entries
 pub few_changes : (past : List Entry) → changes past ≤ length past
@@ -164,16 +164,16 @@ pub next_known : {shapes : List Shape} {e : Entry} {x : Change} {p : Present} �
 next_known {shapes} {e} k = known_below k.limits k.past shapes k.lists e 75 k.legal k.is_present.few_actors
 
 pub next_few : {shapes : List Shape} {e : Entry} {x : Change} {p : Present} (k : IsNext shapes e x p) → length k.past + 1 < 10 ^ 12
-next_few {shapes} {e} k = omega (arith, few_bodies k.limits (e ∷ k.past) shapes k.lists k.legal k.least k.most)
+next_few {shapes} {e} k = omega (arith, (few_bodies k.limits (e ∷ k.past) shapes k.lists k.legal k.least k.most).entries)
 
 pub next_few_left : {shapes : List Shape} {e : Entry} {x : Change} {p : Present} (k : IsNext shapes e x p) → length (unsettled shapes k.past) ≤ 1048576
-next_few_left {shapes} {e = Asked a r w} k = omega (arith, few_bodies k.limits k.past shapes k.lists k.legal.0 k.least k.most, k.most)
+next_few_left {shapes} {e = Asked a r w} k = omega (arith, (few_bodies k.limits k.past shapes k.lists k.legal.0 k.least k.most).bodies, k.most)
 next_few_left {shapes} {e = Load} k =
     let few = few_bodies k.limits k.past k.legal.0 k.lists k.legal.3 k.least k.most in
     let same : length (unsettled shapes k.past) ≡ length (unsettled k.legal.0 k.past) =
     ap (λ ss. length (unsettled ss k.past)) k.legal.2 ∙ ap (λ bs. length bs) (left_stays k.limits k.past k.legal.0 (k.legal.1 ∷ []) k.lists k.legal.3) in
-    omega (arith, few, same, k.most)
-next_few_left {shapes} {e = ListChange} k = omega (arith, few_bodies k.limits k.past shapes k.legal.0 k.legal.3 k.least k.most, k.most)
+    omega (arith, few.bodies, same, k.most)
+next_few_left {shapes} {e = ListChange} k = omega (arith, (few_bodies k.limits k.past shapes k.legal.0 k.legal.3 k.least k.most).bodies, k.most)
 
 -- entries and all that is owed
 pub little_sum : (n d m r k i j : ℕ) → r ≤ n + 1 → n ≤ 1048576 → d ≤ 225 → m ≤ 1 → k < 10 ^ 12 → i ≤ j + 1 → j ≤ 1048576 → k + 1 + (r + i + d + m) < 281474976710656
