@@ -12,8 +12,8 @@ pub struct Limits {
     pub queue: usize,
 }
 
-/// How many entries a journal may have at most, with those that were given up: numbers in texts have that many digits and
-/// more, and ticks of so many entries are a number of 63 bits.
+/// How many entries a journal may have at most, with those that were given up. A text has numbers of more digits, and as many ticks
+/// of a million are a number of 63 bits.
 pub const MOST_ENTRIES: usize = 1_000_000_000_000;
 
 /// How many callers may wait in a queue under the profile (D.7, D.13).

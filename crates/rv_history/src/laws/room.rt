@@ -28,7 +28,7 @@ pub fn cost_is_one_and_the_change_of_owed()
     ensures { (h : History) (entry : Entry) (shapes : List Shape) → IsSolvent h →
         (has_room h.limits.capacity shapes (entry ∷ h.past) ≡ true)
         ↔ (1 + owed shapes (entry ∷ h.past) + archived h.past
-            ≤ room h + owed h.shapes h.past + archived (entry ∷ h.past)) }
+        ≤ room h + owed h.shapes h.past + archived (entry ∷ h.past)) }
 {}
 
 /// A load costs one and its tasks, each of which owes its quit.
