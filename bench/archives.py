@@ -53,15 +53,17 @@ def main() -> int:
         return 127
     faults, peaks = 0, {}
     with tempfile.TemporaryDirectory() as folder:
-        script, journal, verdict = Path(folder) / "script", Path(folder) / "journal", Path(folder) / "verdict"
+        script, plant, journal, verdict = (Path(folder) / name for name in ("script", "plant", "journal", "verdict"))
         for requests in (200_000, 2_000_000):
             rounds = requests // (TASKS * BY_ROUND)
-            script.write_text(text_of(rounds))
+            text = text_of(rounds)
+            script.write_text(text)
+            plant.write_text(text[:text.index("@list\n")])
             entries = 2 + requests + rounds
             played = done([program, "play", "--all"], script, journal)
             with journal.open("rb") as lines:
                 wrong = sum(1 for line in lines if line.startswith(b"- "))
-            audited = done([program, "audit", "--journal", str(journal)], script, verdict)
+            audited = done([program, "audit", "--journal", str(journal)], plant, verdict)
             said = verdict.read_text().strip()
             right = played[0] == 0 and not wrong and audited[0] == 0 and said == f"legal {entries} entries"
             faults += not right
