@@ -6,9 +6,9 @@
 Two runs on one journal; a journal that others cut off, remove or replace; standard input, output or error closed before the
 start; a limit on the size of files; a journal's file that a wrong command line would leave behind; texts that are sent to a run, and
 hold commands, are cut short or large, by several senders at once; scripts that are named to the wrong command; notes on long lists, and on
-many changes of one; shapes of more lines than fit; a large type with many objects; parts of a script in files of their own that hold
-sections, are cut short or refused; plays that never end, and are ended by signals and Ctrl-C. It needs flock, and a program: the proved one
-or the trial that is kept. Where ravenreview isn't there, its questions aren't asked.
+many changes of one; shapes of more lines than fit; a large type with many objects; choices that overlap; parts of a script in files of
+their own that hold sections, are cut short or refused; plays that never end, and are ended by signals and Ctrl-C. It needs flock, and a
+program: the proved one or the trial that is kept. Where ravenreview isn't there, its questions aren't asked.
 """
 import contextlib
 import fcntl
@@ -502,6 +502,23 @@ def shapes_of_many_lines(hands: Hands) -> None:
         hands.due(f"shapes of {kind} grow with their lines alone", found[1] <= 3 * found[0], found)
 
 
+def choices_that_overlap(hands: Hands) -> None:
+    """A case statement whose last choice is its first again takes at most four times what it takes where no value stands twice."""
+
+    def text(last: int) -> bytes:
+        choices = " | ".join(str(number) for number in range(0, 54_000, 2))
+        return (b"@unit\npackage A is\n   protected P is\n      procedure Q;\n   private\n      X : Integer := 0;\n   end P;\nend A;\n\npackage body A is\n   protected body P is\n"
+                b"      procedure Q is\n      begin\n         case X is\n            when %s | %d => null;\n            when others => null;\n         end case;\n      end Q;\n   end P;\nend A;\n"
+                % (choices.encode(), last))
+
+    once, done = seconds_of(hands, ["check"], text(54_000))
+    hands.due("a case statement of many choices", done.stdout == b"unit A: ok\n", done)
+    again, done = seconds_of(hands, ["check"], text(0))
+    at = len(text(0).split(b"@unit\n")[1].split(b" | 0 =>")[0]) + 3
+    hands.due("its last choice is told", (done.returncode, done.stderr) == (1, b"script line 1: types BadChoice at %d\n" % at), done)
+    hands.due("choices that overlap take at most four times those that don't", again <= 4 * once, (once, again))
+
+
 def many_bad_commands(hands: Hands) -> None:
     """Of 16,000 lines that are no commands each is explained by its own line: twice as many take at most three times as long."""
 
@@ -563,7 +580,7 @@ def plays_that_are_ended(hands: Hands) -> None:
 CASES: tuple[Callable[[Hands], None], ...] = (
     two_runs_on_one_file, journals_that_others_change, streams_that_are_closed, limits_on_files, wrong_command_lines, texts_that_are_sent,
     senders_at_once, wrong_sends, scripts_to_the_wrong_command, hostile_parts, parts_that_are_taken, faults_of_parts, runs_of_parts, notes_on_long_lists,
-    notes_on_many_appends, shapes_of_many_lines, bodies_that_objects_share, many_bad_commands, plays_that_are_ended)
+    notes_on_many_appends, shapes_of_many_lines, bodies_that_objects_share, choices_that_overlap, many_bad_commands, plays_that_are_ended)
 
 
 def main(words: list[str]) -> int:
