@@ -58,7 +58,8 @@ impl UnitBodies {
         requires object { object < length self.old.objects.items }
         requires list { list < length self.old.lists.items }
         ensures view { unit_view self.new ≡ record (unit_view self.old) {
-            objects = slice_set (unit_view self.old).objects object (list_at self.old.lists.items list) } }
+          objects = slice_set (unit_view self.old).objects object (list_at self.old.lists.items list);
+        } }
         ensures lists { self.new.lists ≡ self.old.lists }
         ensures count { length self.new.objects.items ≡ length self.old.objects.items }
     {

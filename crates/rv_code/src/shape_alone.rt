@@ -34,7 +34,8 @@ fn tasks_without(alloc: Global, count: usize) -> Result<Vec<Option<Body>>, Alloc
 impl UnitBodies {
     /// Those of so many objects and tasks, none of which has a body. Err where memory was refused.
     pub fn empty(alloc: Global, objects: usize, tasks: usize) -> Result<UnitBodies, AllocError>
-        ensures { IfOk result (λ bodies. unit_view bodies ≡ bodiless objects tasks) }
+        ensures view { IfOk result (λ bodies. unit_view bodies ≡ bodiless objects tasks) }
+        ensures count { IfOk result (λ bodies. length bodies.objects.items ≡ objects) }
     {
         let lists = no_list(alloc)?;
         let objects = vec![in alloc; 0; objects]?;

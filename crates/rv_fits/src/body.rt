@@ -9,8 +9,8 @@ ghost use Rattle.rv_fits.specs.Fits.{calls_fit};
 ghost use Rattle.rv_fits.specs.Passing.{names_no_own, passes};
 
 use crate::expression::expression_fits;
-use crate::statement::statements_fit;
 use crate::passing::Test;
+use crate::statement::statements_fit;
 use crate::units::Units;
 use rv_code::{Body, Declaration, Handler, ObjectBodies, UnitBodies};
 

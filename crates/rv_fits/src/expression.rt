@@ -22,9 +22,7 @@ pub(crate) fn expression_fits(e: &Expression, test: &Test<'_>) -> bool
             expression_fits(first, test) && links_fit(links, test)
         }
         Expression::Within(_, operand) => expression_fits(operand, test),
-        Expression::Call(callee, given) => {
-            passes(callee, test) && expressions_fit(given, test)
-        }
+        Expression::Call(callee, given) => { passes(callee, test) && expressions_fit(given, test) }
     }
 }
 

@@ -164,13 +164,13 @@ list_is ts fs ls n is =
     ∙ (ap or_none (sym (slice_get-map (object_in ts) fs n))
     ∙ (ap (λ z. or_none (slice_get z n)) is
     ∙ (ap or_none (slice_get-map object_view ls n) ∙ code_or (slice_get ls n)))) where
-  flat_or : (o : Option FlatObject) → listed_in ts o ≡ or_none (option_map (object_in ts) o)
-  flat_or None = refl
-  flat_or (Some o) = refl
+      flat_or : (o : Option FlatObject) → listed_in ts o ≡ or_none (option_map (object_in ts) o)
+      flat_or None = refl
+      flat_or (Some o) = refl
 
-  code_or : (o : Option ObjectBodies) → or_none (option_map object_view o) ≡ listed o
-  code_or None = refl
-  code_or (Some o) = refl
+      code_or : (o : Option ObjectBodies) → or_none (option_map object_view o) ≡ listed o
+      code_or None = refl
+      code_or (Some o) = refl
 
 -- a copy of a list stands where the list does
 pub copy_stands : (a ts : List Tree) (fs : List FlatObject) (ls : List ObjectBodies) (n : ℕ) (f : FlatObject)
