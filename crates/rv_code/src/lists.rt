@@ -40,6 +40,7 @@ impl UnitBodies {
         }
     }
 
+    #[tactic(auto, using(crate::proofs::Listed::within_more, crate::proofs::Listed::views_stay, crate::proofs::Listed::list_added))]
     /// Adds a list, which no object has yet, and tells its index. Err where memory was refused.
     pub fn add_list(&mut self, operations: Vec<Body>) -> Result<usize, AllocError>
         ensures view { IfOk result (λ _. unit_view self.new ≡ unit_view self.old) }
@@ -53,6 +54,7 @@ impl UnitBodies {
         Ok(list)
     }
 
+    #[tactic(auto, using(crate::proofs::Listed::within_given, crate::proofs::Listed::views_given))]
     /// Gives an object a list in place of the one that it had.
     pub fn give(&mut self, object: usize, list: usize)
         requires object { object < length self.old.objects.items }

@@ -32,6 +32,7 @@ fn tasks_without(alloc: Global, count: usize) -> Result<Vec<Option<Body>>, Alloc
 }
 
 impl UnitBodies {
+    #[tactic(auto, using(crate::proofs::Listed::within_first, crate::proofs::Listed::views_first))]
     /// Those of so many objects and tasks, none of which has a body. Err where memory was refused.
     pub fn empty(alloc: Global, objects: usize, tasks: usize) -> Result<UnitBodies, AllocError>
         ensures view { IfOk result (λ bodies. unit_view bodies ≡ bodiless objects tasks) }
