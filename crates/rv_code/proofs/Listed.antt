@@ -1,10 +1,10 @@
 -- Lists of bodies that objects share: what stays where one more is added, and what another one in the place of one comes to.
-use Rattle.std.proofs.Common.{◌≡◌, ℕ, zero, suc, ◌+◌, ◌<◌, Bool, true, false, List, [], ◌∷◌, ◌++◌, length, map, replicate, refl, ap, ◌∙◌, arith, length-append}
+use Rattle.std.proofs.Common.{◌≡◌, ℕ, zero, suc, ◌+◌, ◌<◌, Bool, true, false, List, [], ◌∷◌, ◌++◌, length, map, replicate, refl, ap, ◌∙◌, arith}
 use Rattle.std.specs.Prelude.{◌&&◌, nat_lt, slice_get}
 use Rattle.std.specs.List.{list_all}
 use Rattle.std.proofs.Math.ListN.{set}
 use Rattle.std.proofs.lemmas.Bool.Decides.{nat_tests}
-use Rattle.std.proofs.lemmas.List.{map-set, map-replicate}
+use Rattle.std.proofs.lemmas.List.{length-append, map-set}
 use Rattle.rv_code.specs.Bodies as t
 use Rattle.rv_code.specs.declared.body.ObjectBodies.{ObjectBodies}
 use Rattle.rv_code.specs.BodyView.{list_at, object_view}
@@ -41,7 +41,7 @@ within_next m (n ∷ objects) e =
 pub within_more : (lists more : List ObjectBodies) (o : ObjectBodies) (objects : List ℕ) → more ≡ lists ++ o ∷ []
     → list_all (λ list. nat_lt list (length lists)) objects ≡ true → list_all (λ list. nat_lt list (length more)) objects ≡ true
 within_more lists more o objects is e =
-    let count : length more ≡ length lists + 1 = grind (arith, is) in
+    let count : length more ≡ length lists + 1 = ap length is ∙ length-append lists (o ∷ []) in
     ap (λ m. list_all (λ list. nat_lt list m) objects) count ∙ within_next (length lists) objects e
 
 -- an object has another list
