@@ -141,8 +141,8 @@ impl Bodies {
     }
 }
 
-// The object at an index, among those of all units.
-#[tactic(auto, using(crate::proofs::Units::front, crate::proofs::Units::behind))]
+// The bodies of the object at an index, among those of all units.
+#[tactic(auto, using(crate::proofs::Units::found_front, crate::proofs::Units::none_front, crate::proofs::Units::behind))]
 fn object_among(units: &[SharedUnit], index: usize) -> Option<&[Body]>
     ensures found { IfSome result (λ bodies. slice_get (all_of (map shared_view units.now)).objects index ≡ Some (map body_view bodies.now)) }
     ensures none { IsNone result → slice_get (all_of (map shared_view units.now)).objects index ≡ None }

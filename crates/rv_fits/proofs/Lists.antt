@@ -1,12 +1,12 @@
 -- Lists of bodies that objects share: a test of each list that an object has is one of each object's bodies.
-use Rattle.std.proofs.Common.{◌≡◌, ◌⊎◌, inl, inr, ℕ, zero, suc, ◌+◌, ◌≤◌, ◌<◌, Bool, true, false, List, [], ◌∷◌, length, map, refl, sym, ap, subst, ◌∙◌, arith}
-use Rattle.std.specs.Prelude.{◌==◌, ◌&&◌, ◌||◌, not}
+use Rattle.std.proofs.Common.{◌≡◌, ◌⊎◌, inl, inr, ℕ, zero, suc, ◌+◌, ◌≤◌, ◌<◌, Bool, true, false, List, [], ◌∷◌, length, get_or, map, refl, sym, ap, subst, ◌∙◌, arith}
+use Rattle.std.specs.Prelude.{◌==◌, ◌&&◌, ◌||◌}
 use Rattle.std.specs.List.{list_all, list_any}
 use Rattle.std.proofs.lemmas.Bool.{cases_lt}
 use Rattle.std.proofs.lemmas.Bool.Decides.{nat_tests}
-use Rattle.std.proofs.lemmas.Option.{slice_get_past}
+use Rattle.std.proofs.lemmas.Option.{slice_get_past, slice_get_read}
 use Rattle.rv_code.specs.Bodies as t
-use Rattle.rv_code.specs.BodyView.{list_at, listed}
+use Rattle.rv_code.specs.BodyView.{list_at, listed, object_view}
 use Rattle.rv_code.specs.declared.body.ObjectBodies.{ObjectBodies}
 use Rattle.rv_fits.proofs.Both.{both_hold}
 
@@ -36,6 +36,10 @@ none_behind : (b c : Bool) → c ≡ false → (b && c) ≡ false
 none_behind true c e = e
 none_behind false c e = refl
 
+-- the list of an index
+pub at_is : (lists : List ObjectBodies) (n : ℕ) (o : ObjectBodies) → n < length lists → o ≡ get_or lists n o → list_at lists n ≡ object_view o
+at_is lists n o lt at = ap listed (slice_get_read lists (length lists) n o refl lt at)
+
 module _ (p : List t.Body → Bool) (lists : List ObjectBodies) where
   -- each object's bodies pass where each list does that one of them has
   each_passes : (objects : List ℕ) → ((k : ℕ) → list_any (λ had. had == k) objects ≡ true → p (list_at lists k) ≡ true)
@@ -47,17 +51,18 @@ module _ (p : List t.Body → Bool) (lists : List ObjectBodies) where
       (each_passes objects (λ k e. h k (second_or (n == k) (list_any (λ had. had == k) objects) e)))
 
   -- one doesn't where an object has a list that doesn't
-  one_fails : (objects : List ℕ) (k : ℕ) → list_any (λ had. had == k) objects ≡ true → p (list_at lists k) ≡ false
+  pub one_fails : (objects : List ℕ) (k : ℕ) → list_any (λ had. had == k) objects ≡ true → p (list_at lists k) ≡ false
       → list_all p (map (list_at lists) objects) ≡ false
   one_fails [] k e none = absurd (cc e)
-  one_fails (n ∷ objects) k e none = by_first (n == k) refl where
-    by_first : (b : Bool) → (n == k) ≡ b → list_all p (map (list_at lists) (n ∷ objects)) ≡ false
-    by_first true is =
+  one_fails (n ∷ objects) k e none = by_first (n == k) refl (λ behind. one_fails objects k behind none) where
+    by_first : (b : Bool) → (n == k) ≡ b → (list_any (λ had. had == k) objects ≡ true → list_all p (map (list_at lists) objects) ≡ false)
+        → list_all p (map (list_at lists) (n ∷ objects)) ≡ false
+    by_first true is rest =
         none_of_both (p (list_at lists n)) (list_all p (map (list_at lists) objects))
         (ap (λ (m : ℕ). p (list_at lists m)) (same_number n k is) ∙ none)
-    by_first false is =
+    by_first false is rest =
         none_behind (p (list_at lists n)) (list_all p (map (list_at lists) objects))
-        (one_fails objects k (sym (ap (λ (b : Bool). b || list_any (λ had. had == k) objects) is) ∙ e) none)
+        (rest (sym (ap (λ (b : Bool). b || list_any (λ had. had == k) objects) is) ∙ e))
 
   past_all : (k : ℕ) → length lists ≤ k → list_at lists k ≡ []
   past_all k le = ap listed (slice_get_past lists k le)
@@ -83,13 +88,3 @@ module _ (p : List t.Body → Bool) (lists : List ObjectBodies) where
     by_index : (k < n) ⊎ (n ≤ k) → IsFine p lists objects k
     by_index (inl less) = fine k less
     by_index (inr past) = let same : n ≡ k = omega (arith, is, lt, past) in subst (λ (j : ℕ). IsFine p lists objects j) same here
-
-  pub is_fine : (objects : List ℕ) (n : ℕ) (b c : Bool) → b ≡ p (list_at lists n) → c ≡ list_any (λ had. had == n) objects → (not b && c) ≡ false
-      → IsFine p lists objects n
-  is_fine objects n true c here used e = inl (sym here)
-  is_fine objects n false c here used e = inr (sym used ∙ e)
-
-  pub unfit : (objects : List ℕ) (n : ℕ) (b c : Bool) → b ≡ p (list_at lists n) → c ≡ list_any (λ had. had == n) objects → (not b && c) ≡ true
-      → list_all p (map (list_at lists) objects) ≡ false
-  unfit objects n true c here used e = absurd (cc e)
-  unfit objects n false c here used e = one_fails objects n (sym used ∙ e) (sym here)

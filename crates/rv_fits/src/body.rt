@@ -94,7 +94,7 @@ fn is_had(objects: &[usize], list: usize) -> bool
     false
 }
 
-#[tactic(auto, using(crate::proofs::Lists::one_finer, crate::proofs::Lists::is_fine, crate::proofs::Lists::unfit, crate::proofs::Lists::all_fine))]
+#[tactic(auto, using(crate::proofs::Lists::all_fine))]
 // Whether the calls of each list of bodies fit that an object has. What objects share is looked at once.
 fn objects_fit(bodies: &UnitBodies, test: &Test<'_>) -> bool
     ensures { result ≡ list_all (object_calls (passes test.now)) (unit_view bodies.now).objects }
