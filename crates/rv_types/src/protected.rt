@@ -207,7 +207,8 @@ fn share(
     ensures { OnOk result (objects_compiled (λ _. Some (map body_view same.items)) number 0 objects.now (unit_view compiled.old) ≡ Some (unit_view compiled.new)) }
 {
     let list = compiled.add_list(same)?;
-    give_all(compiled, number, objects, list, at)
+    give_all(compiled, number, objects, list, at)?;
+    Ok(())
 }
 
 // The bodies of a protected unit of a number, for each of its objects.
