@@ -1,6 +1,14 @@
-use Rattle.std.proofs.Common.{◌≡◌, ◌<◌, ◌≤◌, ap, ◌∙◌, arith, length, get_or}
+use Rattle.std.proofs.Common.{◌≡◌, ◌<◌, ◌≤◌, ap, subst, sym, ◌∙◌, arith, length, map, get_or}
+use Rattle.rv_flat.specs.FlatView.{IsAmong, body_in}
+use Rattle.rv_flat.specs.FlatUnits.{Every}
 use Rattle.rv_flat.proofs.Units.{copied_all, copied_among, copied_bodies}
 use Rattle.rv_flat.proofs.unit.copies.Goals as goal
+
+pub loop-body-init : goal.loop-body-init
+loop-body-init c = record {
+  bodies = λ ts. ap (map (body_in ts)) c.new-copies.ensures.items;
+  among = λ n all. subst (Every (IsAmong n)) (sym c.new-copies.ensures.items) tt;
+}
 
 pub loop-body-preserved : goal.loop-body-preserved
 loop-body-preserved c =
@@ -10,3 +18,8 @@ loop-body-preserved c =
       bodies = λ ts. copied_bodies ts _ _ c.args.bodies.now.items c.loop-body.body-index c.body-item.result c.in_ok-copy.copy lt at c.in_ok-push.ensures.items (c.loop-body.invariant.bodies ts) (c.in_ok-copy.ensures.body ts);
       among = λ n. copied_among n _ _ c.args.bodies.now.items c.loop-body.body-index c.body-item.result c.in_ok-copy.copy lt at c.in_ok-push.ensures.items (c.loop-body.invariant.among n) (c.in_ok-copy.ensures.among n);
     }
+
+pub returns-clause-bodies : goal.returns-clause-bodies
+returns-clause-bodies c =
+    let le : length c.args.bodies.now.items ≤ c.loop-body.body-index = omega (arith, ap length c.deref-body-items.ensures.value) in
+    λ ts. copied_all ts _ c.args.bodies.now.items c.loop-body.body-index le (c.loop-body.invariant.bodies ts)
