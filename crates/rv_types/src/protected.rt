@@ -212,6 +212,7 @@ fn share(
 }
 
 // The bodies of a protected unit of a number, for each of its objects.
+#[tactic(auto, using(crate::proofs::Sharing::shared, crate::proofs::Sharing::apart))]
 fn unit_bodies<'a>(
     alloc: Global,
     setting: &Setting<'a>,
