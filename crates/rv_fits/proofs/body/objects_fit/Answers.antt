@@ -24,6 +24,6 @@ loop-list-preserved c =
     let these = at_is lists c.loop-list.list c.one-item.result lt at in
     one_finer (object_calls (passes c.args.test.now)) lists c.args.bodies.now.objects.items c.loop-list.list _ refl c.loop-list.invariant
     (elim c.else-not-fits.branch [
-      else-not-fits-via-then-not-fits+else-is_had w ↦ inr (ap (λ objects. list_any (λ had. had == c.loop-list.list) objects) (sym w.deref.ensures.value) ∙ (sym w.is_had.ensures ∙ w.if-is_had.false))
-    | else-not-fits-via-else-not-fits w ↦ inl (ap (object_calls (passes c.args.test.now)) these ∙ (sym c.fits.ensures ∙ w.if-not-fits.false))
+      | else-not-fits-via-then-not-fits+else-is_had w ↦ inr (ap (λ objects. list_any (λ had. had == c.loop-list.list) objects) (sym w.deref.ensures.value) ∙ (sym w.is_had.ensures ∙ w.if-is_had.false))
+      | else-not-fits-via-else-not-fits w ↦ inl (ap (object_calls (passes c.args.test.now)) these ∙ (sym c.fits.ensures ∙ w.if-not-fits.false))
     ])

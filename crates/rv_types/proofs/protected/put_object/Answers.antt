@@ -1,5 +1,3 @@
-use Rattle.rv_code.specs.BodyView.{body_view, list_at, unit_view}
-use Rattle.std.proofs.Common.{map}
 use Rattle.rv_types.proofs.Sharing.{list_given}
 use Rattle.rv_types.proofs.protected.put_object.Goals as goal
 
