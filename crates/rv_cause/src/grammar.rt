@@ -35,7 +35,37 @@ const OTHER_WORDS: [&str; 23] = [
 ];
 
 // What can't be declared here, and names that are none.
-const DECLARATIONS: [Case; 12] = [
+const DECLARATIONS: [Case; 18] = [
+    Case {
+        within: Within::Anywhere,
+        words: "package ^NAME body",
+        said: "`body` stands before the name: write package body {0} (7.2)",
+    },
+    Case {
+        within: Within::Text,
+        words: "task|protected|type NAME is ^with",
+        said: "aspects stand before is: write {3} behind them (13.1.1)",
+    },
+    Case {
+        within: Within::Anywhere,
+        words: "task|protected|type NAME ^(",
+        said: "there are no discriminants here (3.7)",
+    },
+    Case {
+        within: Within::Anywhere,
+        words: ":=|return|( ^if|case",
+        said: "there are no conditional expressions here: write the statement {0} (4.5.7)",
+    },
+    Case {
+        within: Within::NoFunction,
+        words: "entry NAME ^is",
+        said: "a barrier is missing: an entry's body has when and a Boolean component before is (9.5.2)",
+    },
+    Case {
+        within: Within::Statement,
+        words: "begin|;|then|else|loop NAME ^: Integer|Boolean|Natural|Positive|Time|Time_Span|constant",
+        said: "declarations stand before begin (3.11)",
+    },
     Case {
         within: Within::Package,
         words: "^procedure|function",
@@ -103,7 +133,87 @@ const RESERVED: &str = "{0} is a reserved word, and no name (2.9)";
 const DEFAULT: &str = "no initial value stands here: parameters and objects of packages have none";
 
 // What is said of operators and signs.
-const OPERATORS: [Case; 6] = [
+const OPERATORS: [Case; 22] = [
+    Case {
+        within: Within::Anywhere,
+        words: "NAME|NUMBER ^to",
+        said: "a range is written {3} .. {1} (3.5)",
+    },
+    Case {
+        within: Within::Anywhere,
+        words: "NAME ^+|-|*|/ =",
+        said: "there is no {0}= here: write {3} := {3} {0} .. (5.2)",
+    },
+    Case {
+        within: Within::Anywhere,
+        words: "NAME ^+ +",
+        said: "there is no ++ here: write {3} := {3} + 1 (5.2)",
+    },
+    Case {
+        within: Within::Anywhere,
+        words: "^/ /",
+        said: "a comment begins with -- (2.7)",
+    },
+    Case {
+        within: Within::Anywhere,
+        words: "NAME|) ^: =",
+        said: "`:=` is one sign, without a blank in it (2.2)",
+    },
+    Case {
+        within: Within::Anywhere,
+        words: "( ^)",
+        said: "empty parentheses aren't written: leave them out (6.1)",
+    },
+    Case {
+        within: Within::Anywhere,
+        words: "( ^in|out NAME :",
+        said: "a mode stands behind the colon: write {1} : {0} (6.1)",
+    },
+    Case {
+        within: Within::Parentheses,
+        words: ": NAME ^in|out",
+        said: "a mode stands before the type: write {0} {3} (6.1)",
+    },
+    Case {
+        within: Within::Parentheses,
+        words: "(|; Integer|Boolean|Natural|Positive|Time|int|bool ^NAME )|;",
+        said: "a name stands before its type: write {0} : {3} (6.1)",
+    },
+    Case {
+        within: Within::Specification,
+        words: "private|; Integer|Boolean|Natural|Positive|int|bool ^NAME :=",
+        said: "a name stands before its type: write {0} : {3} (3.8)",
+    },
+    Case {
+        within: Within::Specification,
+        words: "private|; NAME ^:= _",
+        said: "a type stands before the value: write {3} : TYPE := {1} (3.3.1)",
+    },
+    Case {
+        within: Within::Anywhere,
+        words: ": NAME ^(",
+        said: "a range is written {3} range LOW .. HIGH (3.5)",
+    },
+    Case {
+        within: Within::Anywhere,
+        words: "' NAME ^(",
+        said: "there is no attribute {3} here; First and Last are (3.5)",
+    },
+    Case {
+        within: Within::Statement,
+        words: "when NAME ^or|,",
+        said: "exceptions and choices are parted by `|` (11.2)",
+    },
+    Case {
+        within: Within::Package,
+        words: ": _ ^:=",
+        said: "objects of packages have no initial value; a variable is a component of a protected object (9.4)",
+    },
+    Case {
+        within: Within::Parentheses,
+        words: ": _ ^:=",
+        said: "parameters have no default here: give the argument at each call (6.1)",
+    },
     Case {
         within: Within::Statement,
         words: "NAME|NUMBER|) ^in",

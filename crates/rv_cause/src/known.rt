@@ -306,6 +306,21 @@ impl<'a> Known<'a> {
         found
     }
 
+    /// What has a name and isn't seen from a word: the first object that others see of a package, or the first component or operation
+    /// of a protected unit.
+    pub(crate) fn elsewhere(&self, name: &str, around: &Around<'_>) -> Option<&Declared<'a>> {
+        for item in self.items.as_slice() {
+            let is_object = item.is_object() && item.home.is_empty() && !item.is_hidden;
+            let is_part = !item.home.is_empty()
+                && (item.sort == Sort::Component || item.sort.is_operation());
+            let is_seen = rank(item, around.unit, around.home, around.operation) > 0;
+            if (is_object || is_part) && !is_seen && item.is_named(name) {
+                return Some(item);
+            }
+        }
+        None
+    }
+
     /// The first of a group that has a name.
     pub fn find(&self, group: Group<'_>, name: &str) -> Option<&Declared<'a>> {
         for item in self.items.as_slice() {

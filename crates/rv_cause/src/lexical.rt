@@ -5,7 +5,7 @@ use crate::line::Form;
 use crate::words::Words;
 
 // What is said of a character, by what stands there.
-const CHARACTERS: [Form; 5] = [
+const CHARACTERS: [Form; 6] = [
     Form {
         word: "\"",
         said: "there are no strings here, nor characters in quotes (2.6)",
@@ -21,6 +21,10 @@ const CHARACTERS: [Form; 5] = [
     Form {
         word: "!=",
         said: "write /= for not equal (4.5.2)",
+    },
+    Form {
+        word: "!",
+        said: "write not before a Boolean value (4.5.6)",
     },
     Form {
         word: "_",

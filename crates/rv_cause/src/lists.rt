@@ -12,6 +12,23 @@ const NO_TICK: &str = "{0} is no tick: ticks are 1 to 18 digits";
 // What stands against the words behind the operation, of which there are some; the first has this number.
 fn bad_window_words<'a>(line: &Line<'a>, from: usize) -> Cause<'a> {
     let until = from.saturating_add(2);
+    let object = from.saturating_sub(2);
+    if line.word(from).starts_with("#") {
+        return line.cause(from, "a comment is a line of its own, which begins with #");
+    }
+    if is_identifier(line.word(object)) && is_identifier(line.word(from)) {
+        return Cause::new(
+            line.at(object),
+            "{0} is no object: write {0}.{1}",
+            [line.word(object), line.word(from.saturating_sub(1)), ""],
+        );
+    }
+    if line.word(from.saturating_sub(1)).ends_with(",") {
+        return line.cause(
+            from,
+            "a line has one operation, or *: give {0} a line of its own",
+        );
+    }
     if !is_same_name(line.word(from), "from") {
         return line.cause(from, "{0} stands where only from A until B may");
     }
@@ -28,6 +45,9 @@ fn bad_window_words<'a>(line: &Line<'a>, from: usize) -> Cause<'a> {
 /// Why the words from one on, of this number, aren't those of a line.
 pub fn bad_word<'a>(line: &Line<'a>, first: usize) -> Cause<'a> {
     let window = first.saturating_add(4);
+    if line.word(first).starts_with("--") {
+        return line.cause(first, "a comment of a list begins with #");
+    }
     if !line.is(first, "allow") && !line.is(first, "deny") {
         return line.cause(
             first,

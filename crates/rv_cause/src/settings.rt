@@ -259,6 +259,18 @@ impl<'a> Entry<'a> {
         }
         None
     }
+
+    // What is said of its value, where that has to be a number and has a sign or an underscore.
+    fn unread_number(&self) -> Option<Cause<'a>> {
+        for key in &KEYS {
+            if let Taken::Number(_, _) = key.taken {
+                if key.is(self.key) && integer_of(self.value).is_none() {
+                    return Some(Cause::of(self.at, key.said, self.key));
+                }
+            }
+        }
+        None
+    }
 }
 
 // Whether a value is a number within limits. Of a number with a sign or an underscore it isn't known, and taken so.
@@ -360,6 +372,11 @@ pub fn bad_value<'a>(entries: &[Entry<'a>]) -> Cause<'a> {
     if let Some(cause) = lacking(entries) {
         return cause;
     }
+    for entry in entries {
+        if let Some(cause) = entry.unread_number() {
+            return cause;
+        }
+    }
     Cause::plain(0, "a value is of another type, or out of its range")
 }
 
@@ -372,5 +389,12 @@ pub fn not_toml<'a>(alloc: Global, text: &'a str) -> Cause<'a> {
             None => 0,
         },
     };
+    let rest = text.get(at..).unwrap_or("");
+    if rest.starts_with(":") {
+        return Cause::plain(at, "this is no TOML: write `=` between a key and its value");
+    }
+    if rest.starts_with("--") {
+        return Cause::plain(at, "this is no TOML: a comment begins with #");
+    }
     Cause::plain(at, "this is no TOML")
 }

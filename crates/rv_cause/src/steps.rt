@@ -61,7 +61,10 @@ fn call<'a>(line: &Line<'a>) -> Cause<'a> {
         return line.cause(2, "{0} is no object: write Unit.Object");
     }
     if !is_identifier(line.word(3)) {
-        return line.cause(3, "call takes Unit.Object and the name of an operation");
+        return line.cause(
+            3,
+            "call takes Unit.Object, the name of an operation, and behind blanks its values",
+        );
     }
     line.cause(
         first_word(line, 4, line.count().min(8)),

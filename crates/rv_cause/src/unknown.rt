@@ -40,7 +40,7 @@ const TEXT: &str =
 const CLOCK: &str = "this host's clock counts milliseconds: write Milliseconds (..) (D.8)";
 
 // Names of Ada that this host doesn't have.
-const OTHER: [Form; 12] = [
+const OTHER: [Form; 14] = [
     Form {
         word: "Float",
         said: FLOAT,
@@ -84,6 +84,14 @@ const OTHER: [Form; 12] = [
     Form {
         word: "Nanoseconds",
         said: CLOCK,
+    },
+    Form {
+        word: "Bool",
+        said: "nothing named Bool is declared; Boolean is",
+    },
+    Form {
+        word: "Int",
+        said: "nothing named Int is declared; Integer is",
     },
     Form {
         word: "Put_Line",
@@ -165,6 +173,8 @@ fn is_library(words: &Words<'_, '_>) -> bool {
 
 const NOT_KNOWN: &str = "{0} has no {1} that is known here";
 
+const NO_LINE: &str = "{0} has no {1}; it has Int_0 .. Int_9 (C.3.2)";
+
 // That a library package, whose whole name stands here, hasn't what stands behind it.
 fn no_item<'a>(words: &Words<'_, 'a>) -> Cause<'a> {
     let last = words.last_part();
@@ -173,7 +183,12 @@ fn no_item<'a>(words: &Words<'_, 'a>) -> Cause<'a> {
     }
     if let Some(library) = library::ends_with(words.word(last.saturating_sub(2))) {
         if library.split('.').count() == last / 2 {
-            return Cause::pair(words.place(last), NOT_KNOWN, library, words.word(last));
+            let said = if is_same_name(library, "Ada.Interrupts.Names") {
+                NO_LINE
+            } else {
+                NOT_KNOWN
+            };
+            return Cause::pair(words.place(last), said, library, words.word(last));
         }
     }
     Cause::pair(words.place(2), NOT_KNOWN, words.word(0), words.word(2))
@@ -230,6 +245,27 @@ fn nameless<'a>(alloc: Global, words: &Words<'_, 'a>) -> Result<Cause<'a>, Alloc
     }
 }
 
+// That a simple name is that of an object of another unit, or of a part of a protected unit, and how that is named.
+fn unseen<'a>(words: &Words<'_, 'a>, around: &Around<'a>, known: &Known<'a>) -> Option<Cause<'a>> {
+    let item = known.elsewhere(words.word(0), around)?;
+    let at = words.place(0);
+    let whole = [item.name, item.unit, item.home];
+    if item.home.is_empty() {
+        return Some(Cause::new(at, "{0} is of {1}: write {1}.{0} (8.3)", whole));
+    }
+    if item.is_hidden {
+        return Some(Cause::new(
+            at,
+            "{0} stands behind private in {2}, and is seen in its bodies only (9.4)",
+            whole,
+        ));
+    }
+    if is_same_name(item.unit, around.unit) {
+        return Some(Cause::new(at, "{0} is of {2}: write {2}.{0} (9.5)", whole));
+    }
+    Some(Cause::new(at, "{0} is of {1}.{2}: write {1}.{2}.{0} (9.5)", whole))
+}
+
 // That nothing of a simple name is declared.
 fn simple<'a>(
     alloc: Global,
@@ -240,6 +276,9 @@ fn simple<'a>(
     let word = words.word(0);
     if let Some(said) = said_of_name(&OTHER, word) {
         return Ok(words.cause(0, said));
+    }
+    if let Some(cause) = unseen(words, around, known) {
+        return Ok(cause);
     }
     match near_name(alloc, word, around, known)? {
         "" => nameless(alloc, words),
@@ -310,7 +349,9 @@ pub fn unknown<'a>(
         return in_context(alloc, words, known);
     }
     if around.is_in_head && words.fit("with|, ^_") {
-        return Ok(words.cause(0, "the aspect {0} has no effect here (13.1.1)"));
+        let said =
+            "the aspect {0} has no effect here; Priority, Interrupt_Priority and Attach_Handler have (13.1.1)";
+        return Ok(words.cause(0, said));
     }
     if words.is(1, ".") {
         return dotted(alloc, words, around, known);

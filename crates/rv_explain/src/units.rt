@@ -26,6 +26,7 @@ use rv_parse::ParseFault;
 use rv_reason::reason_of;
 use rv_restrict::Restriction;
 use rv_script::unit_text::unit_text;
+use rv_shape::catalogue::Catalogue;
 use rv_shape::fault::ShapeFault;
 use rv_static::TypeFault;
 use rv_unit::UnitFault;
@@ -167,13 +168,14 @@ fn of_names<'a>(
 fn of_types<'a>(
     alloc: Global,
     text: &str,
+    catalogue: &Catalogue,
     seen: &Seen<'_, 'a, '_>,
     fault: TypeFault,
 ) -> Result<Cause<'a>, AllocError> {
     let words = &seen.words;
     match fault {
         TypeFault::Mismatch(_) => {
-            let (operand, whole) = wanted_types(alloc, text, words)?;
+            let (operand, whole) = wanted_types(alloc, text, catalogue, words)?;
             Ok(types::mismatch(words, &seen.around, seen.known, operand, whole))
         }
         TypeFault::NotStatic(_) => Ok(types::not_static(words)),
@@ -252,6 +254,7 @@ fn package_place(tokens: &[Token<'_>]) -> usize {
 fn cause_of<'a>(
     alloc: Global,
     text: &'a str,
+    catalogue: &Catalogue,
     tokens: &[Token<'a>],
     known: &Known<'a>,
     fault: UnitFault,
@@ -263,7 +266,7 @@ fn cause_of<'a>(
         UnitFault::Parse(fault) => Ok(of_grammar(alloc, text, &seen, fault)),
         UnitFault::Restriction(violation) => of_restriction(alloc, &seen, violation.restriction),
         UnitFault::Names(fault) => of_names(alloc, &seen, fault),
-        UnitFault::Types(fault) => of_types(alloc, text, &seen, fault),
+        UnitFault::Types(fault) => of_types(alloc, text, catalogue, &seen, fault),
         UnitFault::Shape(fault) => Ok(of_shape(&seen, fault)),
         UnitFault::NoMemory => Ok(Cause::plain(0, NO_MEMORY)),
     }
@@ -311,15 +314,14 @@ fn of_attached<'a>(
 // The further faults of names of the text of a part, behind its first.
 fn further_of<'a>(
     alloc: Global,
-    script: &str,
+    catalogue: &Catalogue,
     part: &Part<'_>,
     text: &'a str,
     tokens: &[Token<'a>],
     known: &Known<'a>,
     first: NameFault,
 ) -> Result<Vec<Also>, AllocError> {
-    let catalogue = catalogue_before(alloc, script, part.line)?;
-    let found = further(alloc, text, tokens, &catalogue, known, first)?;
+    let found = further(alloc, text, tokens, catalogue, known, first)?;
     let mut told = Vec::new(alloc);
     for fault in found.as_slice() {
         if let Some(place) = rv_further::place_of(*fault) {
@@ -345,11 +347,12 @@ fn of_known<'a, 't>(
             return Ok(told);
         }
     }
-    let cause = cause_of(alloc, text, tokens, known, fault)?;
+    let catalogue = catalogue_before(alloc, script, part.line)?;
+    let cause = cause_of(alloc, text, &catalogue, tokens, known, fault)?;
     let told = of_part(alloc, part, &cause, known)?;
     match fault {
         UnitFault::Names(first) => {
-            let also = further_of(alloc, script, part, text, tokens, known, first)?;
+            let also = further_of(alloc, &catalogue, part, text, tokens, known, first)?;
             Ok(told.with_also(also))
         }
         _ => Ok(told),

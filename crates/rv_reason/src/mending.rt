@@ -60,7 +60,7 @@ const RESERVED: [Kind; 48] = [
 ];
 
 // Words, each with one that people mean who write it. The first that lets the text go on furthest is told.
-const CONFUSED: [(Kind, Kind); 26] = [
+const CONFUSED: [(Kind, Kind); 33] = [
     (Kind::Equal, Kind::Arrow),
     (Kind::Equal, Kind::Becomes),
     (Kind::Becomes, Kind::Equal),
@@ -87,6 +87,13 @@ const CONFUSED: [(Kind, Kind); 26] = [
     (Kind::Then, Kind::Loop),
     (Kind::Begin, Kind::Is),
     (Kind::Is, Kind::Then),
+    (Kind::Or, Kind::Bar),
+    (Kind::Comma, Kind::Bar),
+    (Kind::Comma, Kind::With),
+    (Kind::If, Kind::When),
+    (Kind::Equal, Kind::In),
+    (Kind::Becomes, Kind::In),
+    (Kind::Colon, Kind::Return),
 ];
 
 // Words that may be missing.
