@@ -6,9 +6,10 @@
 Two runs on one journal; a journal that others cut off, remove or replace; standard input, output or error closed before the
 start; a limit on the size of files; a journal's file that a wrong command line would leave behind; texts that are sent to a run, and
 hold commands, are cut short or large, by several senders at once; scripts that are named to the wrong command; notes on long lists, and on
-many changes of one; shapes of more lines than fit; parts of a script in files of their own that hold sections, are cut short or refused;
-plays that never end, and are ended by signals and Ctrl-C; words that the launcher alone takes. It needs flock, and a program: the proved one or the trial that is kept. Where
-ravenreview isn't there, its questions aren't asked.
+many changes of one; shapes of more lines than fit; a large type with many objects; choices that overlap; parts of a script in files of
+their own that hold sections, are cut short or refused; plays that never end, and are ended by signals and Ctrl-C; words that the launcher
+alone takes. It needs flock, and a program: the proved one or the trial that is kept. Where ravenreview isn't there, its questions aren't
+asked.
 """
 import contextlib
 import fcntl
@@ -406,6 +407,47 @@ def seconds_of(hands: Hands, words: list[str], script: bytes) -> tuple[float, su
     return min(found), done
 
 
+def cost_of(hands: Hands, words: list[str], script: bytes) -> tuple[float, int, bytes]:
+    """The least processor time of three starts, the most memory of one in kB, and what the last printed."""
+    seconds, memory, said = [], [], b""
+    for _ in range(3):
+        with subprocess.Popen([str(hands.launcher), *words, hands.file("script", script)], cwd=hands.folder, stdout=subprocess.PIPE, stderr=subprocess.DEVNULL) as start:
+            assert start.stdout
+            said = start.stdout.read()
+            _, status, used = os.wait4(start.pid, 0)
+            start.returncode = os.waitstatus_to_exitcode(status)
+        seconds.append(used.ru_utime + used.ru_stime)
+        memory.append(used.ru_maxrss)
+    return min(seconds), max(memory), said
+
+
+def unit_of_objects(objects: int, statement: str, size: int = 236_000) -> bytes:
+    """A unit with a protected type, so many objects of it, and a body in it that is this statement over and over."""
+    names = ", ".join(f"Object_{number}" for number in range(objects))
+    body = (statement * (78 // len(statement)) + "\n") * (size // (78 // len(statement) * len(statement) + 1))
+    return ("package Shared is\n   protected type Kind with Priority => 20 is\n      procedure Other;\n      procedure Long;\n   private\n      Count : Integer := 0;\n"
+            f"   end Kind;\n   {names} : Kind;\n   task Caller with Priority => 10;\nend Shared;\npackage body Shared is\n   protected body Kind is\n      procedure Other is\n      begin\n         null;\n"
+            f"      end Other;\n      procedure Long is\n      begin\n{body}      end Long;\n   end Kind;\n"
+            "   task body Caller is\n   begin\n      loop\n         Object_0.Other;\n      end loop;\n   end Caller;\nend Shared;\n").encode()
+
+
+def bodies_that_objects_share(hands: Hands) -> None:
+    """The bodies of a protected type are compiled once, however many objects share them."""
+    _, floor, _ = cost_of(hands, ["check"], b"@unit\n" + unit_of_objects(1, "null;", 80))
+    plain, _, _ = cost_of(hands, ["check"], b"@unit\n" + unit_of_objects(1, "null;"))
+    for statement in ("Other;", "null;", "Count:=Count+1;", "if Count>1 then Other;end if;"):
+        one, _, _ = cost_of(hands, ["check"], b"@unit\n" + unit_of_objects(1, statement))
+        seconds, memory, said = cost_of(hands, ["check"], b"@unit\n" + unit_of_objects(256, statement))
+        hands.due(f"{statement} with 256 objects is well formed", said == b"unit Shared: ok\n", said)
+        hands.due(f"{statement} with 256 objects takes at most 1.5 times the seconds of one", seconds <= 1.5 * one + 0.1, (seconds, one))
+        hands.due(f"{statement} with 256 objects takes at most 4 times the seconds of a plain text", seconds <= 4 * plain + 0.1, (seconds, plain))
+        hands.due(f"{statement} with 256 objects takes at most 64 MiB more than a short text", memory - floor <= 65536, (memory, floor))
+        loaded, memory, said = cost_of(hands, ["play"], b"@unit\n" + unit_of_objects(256, statement) + b"@steps\nShared.Caller go 3\n")
+        hands.due(f"a play of {statement} with 256 objects", said.startswith(b"1 operator load Shared -> accepted 0\n"), said[:200])
+        hands.due(f"a play of {statement} takes at most 1.5 times the seconds of a check", loaded <= 1.5 * seconds + 0.2, (loaded, seconds))
+        hands.due(f"a play of {statement} takes at most 64 MiB more than a short text", memory - floor <= 65536, (memory, floor))
+
+
 def many_operations() -> list[list[list[str]]]:
     """4,096 names of operations, drawn: sixteen for each of sixteen objects of sixteen units."""
     draw = random.Random(1)
@@ -459,6 +501,23 @@ def shapes_of_many_lines(hands: Hands) -> None:
         done = hands.asked(["check"], (script + (line % 0).replace(" T0", " t0")).encode())
         hands.due(f"{kind} with a name that stands twice", done.returncode == 1 and done.stderr.endswith(b"script line 1: shape NameTaken\n"), done)
         hands.due(f"shapes of {kind} grow with their lines alone", found[1] <= 3 * found[0], found)
+
+
+def choices_that_overlap(hands: Hands) -> None:
+    """A case statement whose last choice is its first again takes at most four times what it takes where no value stands twice."""
+
+    def text(last: int) -> bytes:
+        choices = " | ".join(str(number) for number in range(0, 54_000, 2))
+        return (b"@unit\npackage A is\n   protected P is\n      procedure Q;\n   private\n      X : Integer := 0;\n   end P;\nend A;\n\npackage body A is\n   protected body P is\n"
+                b"      procedure Q is\n      begin\n         case X is\n            when %s | %d => null;\n            when others => null;\n         end case;\n      end Q;\n   end P;\nend A;\n"
+                % (choices.encode(), last))
+
+    once, done = seconds_of(hands, ["check"], text(54_000))
+    hands.due("a case statement of many choices", done.stdout == b"unit A: ok\n", done)
+    again, done = seconds_of(hands, ["check"], text(0))
+    at = len(text(0).split(b"@unit\n")[1].split(b" | 0 =>")[0]) + 3
+    hands.due("its last choice is told", (done.returncode, done.stderr) == (1, b"script line 1: types BadChoice at %d\n" % at), done)
+    hands.due("choices that overlap take at most four times those that don't", again <= 4 * once, (once, again))
 
 
 def many_bad_commands(hands: Hands) -> None:
@@ -550,7 +609,8 @@ def words_of_the_launcher(hands: Hands) -> None:
 CASES: tuple[Callable[[Hands], None], ...] = (
     two_runs_on_one_file, journals_that_others_change, streams_that_are_closed, limits_on_files, wrong_command_lines, texts_that_are_sent,
     senders_at_once, wrong_sends, scripts_to_the_wrong_command, hostile_parts, parts_that_are_taken, faults_of_parts, runs_of_parts, notes_on_long_lists,
-    notes_on_many_appends, shapes_of_many_lines, many_bad_commands, plays_that_are_ended, words_of_the_launcher)
+    notes_on_many_appends, shapes_of_many_lines, bodies_that_objects_share, choices_that_overlap, many_bad_commands, plays_that_are_ended,
+    words_of_the_launcher)
 
 
 def main(words: list[str]) -> int:

@@ -1,5 +1,5 @@
 -- The bodies that values of the code stand for.
-use Rattle.std.specs.Prelude.{List, map, Option, Some, None}
+use Rattle.std.specs.Prelude.{ℕ, List, [], map, Option, Some, None, slice_get}
 use Rattle.rv_code.specs.Bodies as t
 use Rattle.rv_code.specs.ExpressionView.{expression_view}
 use Rattle.rv_code.specs.StatementView.{statements_view}
@@ -31,5 +31,13 @@ abbrev pub maybe_body_view : Option Body → Option t.Body
 maybe_body_view None = None
 maybe_body_view (Some b) = Some (body_view b)
 
+abbrev pub listed : Option ObjectBodies → List t.Body
+listed None = []
+listed (Some o) = object_view o
+
+-- the bodies of the list of an index
+abbrev pub list_at : List ObjectBodies → ℕ → List t.Body
+list_at lists list = listed (slice_get lists list)
+
 abbrev pub unit_view : UnitBodies → t.UnitBodies
-unit_view u = record { objects = map object_view u.objects.items; tasks = map maybe_body_view u.tasks.items }
+unit_view u = record { objects = map (list_at u.lists.items) u.objects.items; tasks = map maybe_body_view u.tasks.items }

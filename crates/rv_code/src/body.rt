@@ -1,5 +1,8 @@
 //! Bodies of operations and tasks (6.3, 9.1, 9.4, 9.5.2).
 
+ghost use Rattle.std.specs.Prelude.{◌≡◌, length, nat_lt, true};
+ghost use Rattle.std.specs.List.{list_all};
+
 use crate::expression::Expression;
 use crate::statement::{Statement, Target};
 use rv_event::entry::Exception;
@@ -50,16 +53,22 @@ pub struct ObjectBodies {
 }
 
 /// The bodies of a unit, in the order of the numbers of its objects, protected and suspension together, and of its
-/// tasks. In a unit without a text no operation and no task has a body.
+/// tasks. Objects whose operations have the same bodies may share one list of them. In a unit without a text no operation
+/// and no task has a body.
 pub struct UnitBodies {
-    pub objects: Vec<ObjectBodies>,
+    /// The lists that objects have.
+    pub lists: Vec<ObjectBodies>,
+    /// The list of each object, by its index from 0.
+    pub objects: Vec<usize>,
     pub tasks: Vec<Option<Body>>,
+    ghost listed: { list_all (λ list. nat_lt list (length lists.items)) objects.items ≡ true },
 }
 
 impl Drop for UnitBodies {
     // A function of its own: a derived one is written out wherever bodies are let go, and proved there.
     fn drop(self) {
         let UnitBodies {
+            lists: _,
             objects: _,
             tasks: _,
         } = self;

@@ -4,6 +4,7 @@
 
 pub mod body;
 pub mod expression;
+mod lists;
 mod shape_alone;
 pub mod statement;
 mod unit;

@@ -1,6 +1,6 @@
 //! Units that are a shape alone.
 
-ghost use Rattle.std.specs.Prelude.{◌≡◌, [], map, replicate, None, IfOk};
+ghost use Rattle.std.specs.Prelude.{◌≡◌, ◌∷◌, [], map, length, replicate, None, IfOk};
 ghost use Rattle.rv_code.specs.Bodies.{bodiless, without_bodies};
 ghost use Rattle.rv_code.specs.BodyView.{object_view, maybe_body_view, unit_view};
 
@@ -8,17 +8,16 @@ use crate::body::{Body, ObjectBodies, UnitBodies};
 use rv_shape::shape::UnitShape;
 use std::alloc::{AllocError, Global};
 
-// So many objects whose operations have no bodies.
-fn objects_without(alloc: Global, count: usize) -> Result<Vec<ObjectBodies>, AllocError>
-    ensures { IfOk result (λ objects. map object_view objects.items ≡ replicate count []) }
+// The list without bodies.
+fn no_list(alloc: Global) -> Result<Vec<ObjectBodies>, AllocError>
+    ensures lists { IfOk result (λ lists. map object_view lists.items ≡ [] ∷ []) }
+    ensures count { IfOk result (λ lists. length lists.items ≡ 1) }
 {
-    let mut objects = Vec::new(alloc);
-    for _ in 0..count {
-        objects.push(ObjectBodies {
-            operations: Vec::new(alloc),
-        })?;
-    }
-    Ok(objects)
+    let mut lists = Vec::new(alloc);
+    lists.push(ObjectBodies {
+        operations: Vec::new(alloc),
+    })?;
+    Ok(lists)
 }
 
 // So many tasks without a body.
@@ -33,13 +32,20 @@ fn tasks_without(alloc: Global, count: usize) -> Result<Vec<Option<Body>>, Alloc
 }
 
 impl UnitBodies {
+    #[tactic(auto, using(crate::proofs::Listed::within_first, crate::proofs::Listed::views_first))]
     /// Those of so many objects and tasks, none of which has a body. Err where memory was refused.
     pub fn empty(alloc: Global, objects: usize, tasks: usize) -> Result<UnitBodies, AllocError>
-        ensures { IfOk result (λ bodies. unit_view bodies ≡ bodiless objects tasks) }
+        ensures view { IfOk result (λ bodies. unit_view bodies ≡ bodiless objects tasks) }
+        ensures count { IfOk result (λ bodies. length bodies.objects.items ≡ objects) }
     {
-        let objects = objects_without(alloc, objects)?;
+        let lists = no_list(alloc)?;
+        let objects = vec![in alloc; 0; objects]?;
         let tasks = tasks_without(alloc, tasks)?;
-        Ok(UnitBodies { objects, tasks })
+        Ok(UnitBodies {
+            lists,
+            objects,
+            tasks,
+        })
     }
 
     /// The bodies of a unit that is a shape alone: none of its operations and tasks has one. Err where memory was

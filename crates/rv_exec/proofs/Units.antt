@@ -1,6 +1,7 @@
 -- Bodies of several units.
-use Rattle.std.proofs.Common.{◌≡◌, ℕ, zero, suc, ◌-◌, ◌≤◌, List, [], ◌∷◌, ◌++◌, length, map, Some, refl, sym, ap, ◌∙◌, arith, append_assoc, append-nil}
-use Rattle.std.specs.Prelude.{slice_get}
+use Rattle.std.proofs.Common.{◌≡◌, ℕ, zero, suc, ◌-◌, ◌≤◌, ◌<◌, List, [], ◌∷◌, ◌++◌, length, map, Option, Some, None, refl, sym, ap, ◌∙◌, arith, append_assoc, append-nil}
+use Rattle.std.specs.Prelude.{slice_get, IfSome, IsNone}
+use Rattle.std.specs.Option.{option_map}
 use Rattle.rv_code.specs.Bodies.{UnitBodies}
 use Rattle.rv_exec.specs.Bodies.{all_of, with_unit, shared_view}
 use Rattle.rv_exec.specs.declared.bodies.SharedUnit.{SharedUnit}
@@ -24,6 +25,22 @@ pub behind : {X : Type 0} (xs ys : List X) (i : ℕ) → length xs ≤ i → sli
 behind [] ys i e = let same : i - 0 ≡ i = omega arith in rw same refl
 behind (x ∷ xs) ys zero e = absurd (omega (arith, e))
 behind (x ∷ xs) ys (suc i) e = let same : suc i - suc (length xs) ≡ i - length xs = omega arith in rw same (behind xs ys i (omega (arith, e)))
+
+not_past : {X : Type 0} (xs : List X) (i : ℕ) → slice_get xs i ≡ None → length xs ≤ i
+not_past [] i e = omega arith
+not_past (x ∷ xs) zero e = absurd (cc e)
+not_past (x ∷ xs) (suc i) e = let rest = not_past xs i e in omega (arith, rest)
+
+-- what is found in the front, and that something is
+pub found_front : {X V : Type 0} (view : V → X) (xs ys : List X) (i : ℕ) (found : Option V) → option_map view found ≡ slice_get xs i
+    → IfSome found (λ v. slice_get (xs ++ ys) i ≡ Some (view v))
+found_front view xs ys i None e = tt
+found_front view xs ys i (Some v) e = front xs ys i (view v) (sym e)
+
+pub none_front : {X V : Type 0} (view : V → X) (xs ys : List X) (i : ℕ) (found : Option V) → option_map view found ≡ slice_get xs i → i < length xs
+    → IsNone found → slice_get (xs ++ ys) i ≡ None
+none_front view xs ys i None e lt none = let past = not_past xs i (sym e) in absurd (omega (arith, past, lt))
+none_front view xs ys i (Some v) e lt none = absurd (cc none)
 
 views_more : (us : List SharedUnit) (s : SharedUnit) → map shared_view (us ++ s ∷ []) ≡ map shared_view us ++ shared_view s ∷ []
 views_more [] s = refl

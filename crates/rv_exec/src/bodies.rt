@@ -1,10 +1,10 @@
 //! The bodies of all units loaded.
 
 ghost use Rattle.std.specs.Prelude.{◌≡◌, ◌++◌, ◌∷◌, [], IfOk, IfSome, IsNone, OnOk, OnErr, Some, None, slice_get, map};
-ghost use Rattle.rv_code.specs.BodyView.{body_view, object_view, unit_view, maybe_body_view};
+ghost use Rattle.rv_code.specs.BodyView.{body_view, unit_view, maybe_body_view};
 ghost use Rattle.rv_exec.specs.Bodies.{operation_of, task_of, bodies_view, no_bodies, numbered, with_unit, all_of, shared_view, units_of, held};
 
-use rv_code::{Body, ObjectBodies, UnitBodies};
+use rv_code::{Body, UnitBodies};
 use std::alloc::{AllocError, Global};
 use std::sync::Arc;
 
@@ -105,8 +105,8 @@ impl Bodies {
     }
 
     // The bodies of an object's operations.
-    fn object(&self, number: usize) -> Option<&ObjectBodies>
-        ensures found { IfSome result (λ object. numbered (bodies_view self.now).objects number ≡ Some (object_view object.now)) }
+    fn object(&self, number: usize) -> Option<&[Body]>
+        ensures found { IfSome result (λ bodies. numbered (bodies_view self.now).objects number ≡ Some (map body_view bodies.now)) }
         ensures none { IsNone result → numbered (bodies_view self.now).objects number ≡ None }
     {
         if number < 1 {
@@ -141,18 +141,18 @@ impl Bodies {
     }
 }
 
-// The object at an index, among those of all units.
-#[tactic(auto, using(crate::proofs::Units::front, crate::proofs::Units::behind))]
-fn object_among(units: &[SharedUnit], index: usize) -> Option<&ObjectBodies>
-    ensures found { IfSome result (λ object. slice_get (all_of (map shared_view units.now)).objects index ≡ Some (object_view object.now)) }
+// The bodies of the object at an index, among those of all units.
+#[tactic(auto, using(crate::proofs::Units::found_front, crate::proofs::Units::none_front, crate::proofs::Units::behind))]
+fn object_among(units: &[SharedUnit], index: usize) -> Option<&[Body]>
+    ensures found { IfSome result (λ bodies. slice_get (all_of (map shared_view units.now)).objects index ≡ Some (map body_view bodies.now)) }
     ensures none { IsNone result → slice_get (all_of (map shared_view units.now)).objects index ≡ None }
 {
     let (first, rest) = units.split_first()?;
-    let objects = &first.unit.objects;
-    if index < objects.len() {
-        return objects.get(index);
+    let count = first.unit.objects.len();
+    if index < count {
+        return first.unit.operations(index);
     }
-    object_among(rest, index - objects.len())
+    object_among(rest, index - count)
 }
 
 // The task at an index, among those of all units.
@@ -169,12 +169,12 @@ fn task_among(units: &[SharedUnit], index: usize) -> Option<&Option<Body>>
     task_among(rest, index - tasks.len())
 }
 
-fn operation_at(object: &ObjectBodies, operation: usize) -> Option<&Body>
-    ensures found { IfSome result (λ body. numbered (object_view object.now) operation ≡ Some (body_view body.now)) }
-    ensures none { IsNone result → numbered (object_view object.now) operation ≡ None }
+fn operation_at(bodies: &[Body], operation: usize) -> Option<&Body>
+    ensures found { IfSome result (λ body. numbered (map body_view bodies.now) operation ≡ Some (body_view body.now)) }
+    ensures none { IsNone result → numbered (map body_view bodies.now) operation ≡ None }
 {
     if operation < 1 {
         return None;
     }
-    object.operations.get(operation - 1)
+    bodies.get(operation - 1)
 }

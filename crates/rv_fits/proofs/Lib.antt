@@ -1,4 +1,5 @@
 pub mod Both
+pub mod Lists
 pub mod Parts
 pub mod Keeps
 mod Behind

@@ -6,7 +6,9 @@ mod body;
 mod callee;
 mod expression;
 pub mod laws;
+mod passing;
 mod statement;
 mod units;
 
+pub use body::name_no_own;
 pub use units::{may_load, with_unit};

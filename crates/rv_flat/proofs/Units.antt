@@ -1,12 +1,17 @@
 -- Lists of what stands in a table.
 use Rattle.std.proofs.Common.{◌≡◌, refl, ap, sym, ◌∙◌, subst, arith, ℕ, zero, suc, ◌+◌, ◌≤◌, ◌<◌, List, [], ◌∷◌, ◌++◌, length, map, take, get_or, Option, Some, None}
 use Rattle.std.proofs.Math.Seq.{take-suc}
+use Rattle.std.specs.Prelude.{slice_get}
+use Rattle.std.specs.Option.{option_map}
 use Rattle.std.proofs.lemmas.List.{map-append, append_assoc, append-nil}
+use Rattle.std.proofs.lemmas.Option.{slice_get-map}
 use Rattle.rv_code.specs.Bodies as t
 use Rattle.rv_flat.specs.declared.body.FlatBody.{FlatBody}
 use Rattle.rv_flat.specs.declared.unit.FlatObject.{FlatObject}
 use Rattle.rv_flat.specs.FlatView.{IsAmong, body_in, BodyStands}
-use Rattle.rv_flat.specs.FlatUnits.{Standing, Every, IsObjectAmong, IsTaskAmong, object_in, task_in}
+use Rattle.rv_code.specs.declared.body.ObjectBodies.{ObjectBodies}
+use Rattle.rv_code.specs.BodyView.{list_at, listed, object_view}
+use Rattle.rv_flat.specs.FlatUnits.{Standing, Every, IsObjectAmong, IsTaskAmong, listed_in, object_in, task_in}
 use Rattle.rv_flat.specs.Trees.{Tree, tree_at, as_declarations, as_statements, as_handlers}
 
 -- what stands in a table stands behind more, too
@@ -146,3 +151,65 @@ task_stands a b f x h = record { longer = h.longer; same = h.same; within = h.wi
 
 pub no_task_stands : (a : List Tree) → Standing IsTaskAmong task_in a a None None
 no_task_stands a = record { longer = omega arith; same = λ c le. refl; within = tt; is = refl }
+
+-- Lists that objects share
+
+or_none : Option (List t.Body) → List t.Body
+or_none None = []
+or_none (Some xs) = xs
+
+pub list_is : (ts : List Tree) (fs : List FlatObject) (ls : List ObjectBodies) (n : ℕ) → map (object_in ts) fs ≡ map object_view ls → listed_in ts (slice_get fs n) ≡ list_at ls n
+list_is ts fs ls n is =
+    flat_or (slice_get fs n)
+    ∙ (ap or_none (sym (slice_get-map (object_in ts) fs n))
+    ∙ (ap (λ z. or_none (slice_get z n)) is
+    ∙ (ap or_none (slice_get-map object_view ls n) ∙ code_or (slice_get ls n)))) where
+      flat_or : (o : Option FlatObject) → listed_in ts o ≡ or_none (option_map (object_in ts) o)
+      flat_or None = refl
+      flat_or (Some o) = refl
+
+      code_or : (o : Option ObjectBodies) → or_none (option_map object_view o) ≡ listed o
+      code_or None = refl
+      code_or (Some o) = refl
+
+-- a copy of a list stands where the list does
+pub copy_stands : (a ts : List Tree) (fs : List FlatObject) (ls : List ObjectBodies) (n : ℕ) (f : FlatObject)
+    → Standing (λ k. Every (IsObjectAmong k)) (λ us. map (object_in us)) a ts fs (map object_view ls)
+    → ((us : List Tree) → object_in us f ≡ listed_in us (slice_get fs n)) → ((k : ℕ) → Every (IsObjectAmong k) fs → IsObjectAmong k f)
+    → Standing IsObjectAmong object_in ts ts f (list_at ls n)
+copy_stands a ts fs ls n f h bodies among = record {
+  longer = omega arith;
+  same = λ c le. refl;
+  within = among (length ts) h.within;
+  is = bodies ts ∙ list_is ts fs ls n h.is;
+}
+
+pub every_at : {F : Type 0} (P : F → Type 0) (fs : List F) (n : ℕ) (f : F) → slice_get fs n ≡ Some f → Every P fs → P f
+every_at P [] n f is h = absurd (cc is)
+every_at P (g ∷ fs) zero f is h = let same : g ≡ f = cc is in subst P same h.0
+every_at P (g ∷ fs) (suc n) f is h = every_at P fs n f is h.1
+
+every_get : {F : Type 0} (P : F → Type 0) (fs : List F) (n : ℕ) (f : F) → n < length fs → f ≡ get_or fs n f → Every P fs → P f
+every_get P [] n f lt at h = absurd (omega (arith, lt))
+every_get P (g ∷ fs) zero f lt at h = subst P (sym at) h.0
+every_get P (g ∷ fs) (suc n) f lt at h = every_get P fs n f (omega (arith, lt)) at h.1
+
+-- one more is copied
+pub copied_bodies : (ts : List Tree) (cs ds fs : List FlatBody) (i : ℕ) (f d : FlatBody) → i < length fs → f ≡ get_or fs i f → ds ≡ cs ++ d ∷ []
+    → map (body_in ts) cs ≡ map (body_in ts) (take i fs) → body_in ts d ≡ body_in ts f → map (body_in ts) ds ≡ map (body_in ts) (take (i + 1) fs)
+copied_bodies ts cs ds fs i f d lt at is before here =
+    let e : i + 1 ≡ suc i = omega arith in
+    let taken : take (i + 1) fs ≡ take i fs ++ f ∷ [] =
+    ap (λ n. take n fs) e ∙ (take-suc fs i f lt ∙ ap (λ z. take i fs ++ z ∷ []) (sym at)) in
+    ap (map (body_in ts)) is
+    ∙ (map-append (body_in ts) cs (d ∷ [])
+    ∙ ((λ j. before j ++ here j ∷ [])
+    ∙ (sym (map-append (body_in ts) (take i fs) (f ∷ [])) ∙ ap (map (body_in ts)) (sym taken))))
+
+pub copied_among : (n : ℕ) (cs ds fs : List FlatBody) (i : ℕ) (f d : FlatBody) → i < length fs → f ≡ get_or fs i f → ds ≡ cs ++ d ∷ []
+    → (Every (IsAmong n) fs → Every (IsAmong n) cs) → (IsAmong n f → IsAmong n d) → Every (IsAmong n) fs → Every (IsAmong n) ds
+copied_among n cs ds fs i f d lt at is before here all =
+    subst (Every (IsAmong n)) (sym is) (every_more (IsAmong n) cs d (before all) (here (every_get (IsAmong n) fs i f lt at all)))
+
+pub copied_all : (ts : List Tree) (cs fs : List FlatBody) (i : ℕ) → length fs ≤ i → map (body_in ts) cs ≡ map (body_in ts) (take i fs) → map (body_in ts) cs ≡ map (body_in ts) fs
+copied_all ts cs fs i le h = h ∙ ap (map (body_in ts)) (take_all fs i le)

@@ -30,6 +30,11 @@ IsTaskAmong count (Some b) = IsAmong count b
 abbrev pub object_in : List Tree → FlatObject → List t.Body
 object_in ts o = map (body_in ts) o.operations.items
 
+-- those of a list that may be there
+abbrev pub listed_in : List Tree → Option FlatObject → List t.Body
+listed_in ts None = []
+listed_in ts (Some o) = object_in ts o
+
 abbrev pub task_in : List Tree → Option FlatBody → Option t.Body
 task_in ts None = None
 task_in ts (Some b) = Some (body_in ts b)

@@ -1,10 +1,10 @@
 //! Bodies of operations and tasks, put into a table.
 
-ghost use Rattle.std.specs.Prelude.{◌≡◌, IfOk, map};
+ghost use Rattle.std.specs.Prelude.{◌≡◌, ℕ, List, IfOk, map};
 ghost use Rattle.rv_code.specs.BodyView.{body_view, declaration_view, handler_view};
-ghost use Rattle.rv_flat.specs.FlatView.{BodyStands};
+ghost use Rattle.rv_flat.specs.FlatView.{BodyStands, IsAmong, body_in};
 ghost use Rattle.rv_flat.specs.Tables.{trees};
-ghost use Rattle.rv_flat.specs.Trees.{Stands, as_declarations, as_exceptions, as_handlers};
+ghost use Rattle.rv_flat.specs.Trees.{Stands, Tree, as_declarations, as_exceptions, as_handlers};
 
 use crate::code::{Code, Kind};
 use crate::expressions::add_expression;
@@ -88,6 +88,21 @@ impl FlatBody {
             declarations,
             statements,
             handlers,
+        })
+    }
+
+    /// The same numbers once more. Err where memory was refused.
+    pub fn copy(&self) -> Result<FlatBody, AllocError>
+        ensures body { IfOk result (λ flat. (ts : List Tree) → body_in ts flat ≡ body_in ts self.now) }
+        ensures among { IfOk result (λ flat. (n : ℕ) → IsAmong n self.now → IsAmong n flat) }
+    {
+        let parameters = self.parameters.clone()?;
+        Ok(FlatBody {
+            parameters,
+            is_function: self.is_function,
+            declarations: self.declarations,
+            statements: self.statements,
+            handlers: self.handlers,
         })
     }
 }

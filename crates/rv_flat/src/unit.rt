@@ -1,10 +1,10 @@
 //! The bodies of a unit over one table.
 
-ghost use Rattle.std.specs.Prelude.{◌≡◌, ◌++◌, List, Option, IfOk, OnOk, map};
+ghost use Rattle.std.specs.Prelude.{◌≡◌, ◌++◌, ℕ, List, Option, IfOk, OnOk, map, slice_get};
 ghost use Rattle.rv_code.specs.Bodies.{Body as Meant};
 ghost use Rattle.rv_code.specs.BodyView.{body_view, object_view, maybe_body_view, unit_view};
 ghost use Rattle.rv_flat.specs.FlatView.{IsAmong, body_in};
-ghost use Rattle.rv_flat.specs.FlatUnits.{Standing, Every, IsObjectAmong, IsTaskAmong, object_in, task_in, flat_view};
+ghost use Rattle.rv_flat.specs.FlatUnits.{Standing, Every, IsObjectAmong, IsTaskAmong, listed_in, object_in, task_in, flat_view};
 ghost use Rattle.rv_flat.specs.Tables.{trees};
 ghost use Rattle.rv_flat.specs.Trees.{Tree};
 
@@ -54,18 +54,65 @@ fn add_object(
     Ok(FlatObject { operations })
 }
 
-/// Adds the bodies of objects to a table, and their numbers behind others that stand in it. Err where memory was refused.
+// Adds lists of bodies to a table.
+fn add_lists(
+    code: &mut Code,
+    alloc: Global,
+    lists: &Vec<ObjectBodies>,
+) -> Result<Vec<FlatObject>, AllocError>
+    ensures { IfOk result (λ flat. Standing (λ n. Every (IsObjectAmong n)) (λ ts. map (object_in ts)) (trees code.old) (trees code.new) flat.items (map object_view lists.now.items)) }
+{
+    let mut flat = Vec::new(alloc);
+    for list in lists {
+        let added = add_object(code, alloc, list)?;
+        flat.push(added)?;
+    }
+    Ok(flat)
+}
+
+// The same numbers of bodies once more.
+fn copies(alloc: Global, bodies: &Vec<FlatBody>) -> Result<Vec<FlatBody>, AllocError>
+    ensures bodies { IfOk result (λ copies. (ts : List Tree) → map (body_in ts) copies.items ≡ map (body_in ts) bodies.now.items) }
+    ensures among { IfOk result (λ copies. (n : ℕ) → Every (IsAmong n) bodies.now.items → Every (IsAmong n) copies.items) }
+{
+    let mut copies = Vec::new(alloc);
+    for body in bodies {
+        let copy = body.copy()?;
+        copies.push(copy)?;
+    }
+    Ok(copies)
+}
+
+// The list of an index once more, or no bodies where there is no such list.
+fn copy_of(alloc: Global, lists: &[FlatObject], list: usize) -> Result<FlatObject, AllocError>
+    ensures bodies { IfOk result (λ flat. (ts : List Tree) → object_in ts flat ≡ listed_in ts (slice_get lists.now list)) }
+    ensures among { IfOk result (λ flat. (n : ℕ) → Every (IsObjectAmong n) lists.now → IsObjectAmong n flat) }
+{
+    match lists.get(list) {
+        Some(object) => {
+            let operations = copies(alloc, &object.operations)?;
+            Ok(FlatObject { operations })
+        }
+        None => Ok(FlatObject {
+            operations: Vec::new(alloc),
+        }),
+    }
+}
+
+/// Adds the bodies of a unit's objects to a table, each list that they share once, and their numbers behind others that
+/// stand in it. Err where memory was refused.
 pub fn add_objects(
     code: &mut Code,
     alloc: Global,
-    objects: &Vec<ObjectBodies>,
+    unit: &UnitBodies,
     flat: &mut Vec<FlatObject>,
 ) -> Result<(), AllocError>
-    ensures { OnOk result ((a : List Tree) (xs : List (List Meant)) → Standing (λ n. Every (IsObjectAmong n)) (λ ts. map (object_in ts)) a (trees code.old) flat.old.items xs → Standing (λ n. Every (IsObjectAmong n)) (λ ts. map (object_in ts)) a (trees code.new) flat.new.items (xs ++ map object_view objects.now.items)) }
+    ensures { OnOk result ((a : List Tree) (xs : List (List Meant)) → Standing (λ n. Every (IsObjectAmong n)) (λ ts. map (object_in ts)) a (trees code.old) flat.old.items xs → Standing (λ n. Every (IsObjectAmong n)) (λ ts. map (object_in ts)) a (trees code.new) flat.new.items (xs ++ (unit_view unit.now).objects)) }
 {
-    for object in objects {
-        let added = add_object(code, alloc, object)?;
-        flat.push(added)?;
+    let lists = add_lists(code, alloc, &unit.lists)?;
+    for list in &unit.objects {
+        let copy = copy_of(alloc, &lists, *list)?;
+        flat.push(copy)?;
     }
     Ok(())
 }
@@ -105,7 +152,7 @@ impl FlatUnit {
         let mut code = Code::new(alloc);
         let mut objects = Vec::new(alloc);
         let mut tasks = Vec::new(alloc);
-        add_objects(&mut code, alloc, &unit.objects, &mut objects)?;
+        add_objects(&mut code, alloc, unit, &mut objects)?;
         add_tasks(&mut code, &unit.tasks, &mut tasks)?;
         Ok(FlatUnit {
             code,

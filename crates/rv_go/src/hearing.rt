@@ -57,10 +57,7 @@ fn is_heard(goes: bool, request: &Request, answer: &Answer) -> bool
 pub fn no_bodies(alloc: Global) -> UnitBodies
     ensures { unit_view result ≡ no_bodies }
 {
-    UnitBodies {
-        objects: Vec::new(alloc),
-        tasks: Vec::new(alloc),
-    }
+    UnitBodies::none(alloc)
 }
 
 // Adds an item.

@@ -3,7 +3,7 @@ use Rattle.std.proofs.Common.{◌≡◌, ap, sym, ◌∙◌, arith, ℕ, suc, �
 use Rattle.std.proofs.Math.Seq.{take-suc}
 use Rattle.std.proofs.lemmas.List.{map-append}
 use Rattle.rv_code.specs.Bodies.{UnitBodies}
-use Rattle.rv_code.specs.BodyView.{object_view, maybe_body_view}
+use Rattle.rv_code.specs.BodyView.{maybe_body_view}
 use Rattle.rv_exec.proofs.Units.{all_more}
 use Rattle.rv_exec.specs.Bodies.{all_of, with_unit, shared_view, held}
 use Rattle.rv_exec.specs.declared.bodies.SharedUnit.{SharedUnit}
@@ -17,7 +17,7 @@ more us i u lt at =
     ∙ (ap all_of (map-append shared_view (take i us) (u ∷ [])) ∙ all_more (map shared_view (take i us)) (shared_view u))
 
 pub objects_more : (us : List SharedUnit) (i : ℕ) (u : SharedUnit) → i < length us → u ≡ get_or us i u
-    → (all_of (map shared_view (take (i + 1) us))).objects ≡ (all_of (map shared_view (take i us))).objects ++ map object_view (held u).objects.items
+    → (all_of (map shared_view (take (i + 1) us))).objects ≡ (all_of (map shared_view (take i us))).objects ++ (shared_view u).objects
 objects_more us i u lt at = ap (λ (b : UnitBodies). b.objects) (more us i u lt at)
 
 pub tasks_more : (us : List SharedUnit) (i : ℕ) (u : SharedUnit) → i < length us → u ≡ get_or us i u

@@ -21,7 +21,7 @@ fn all_objects(
 {
     let mut flat = Vec::new(alloc);
     for unit in units {
-        add_objects(code, alloc, &unit.bodies().objects, &mut flat)?;
+        add_objects(code, alloc, unit.bodies(), &mut flat)?;
     }
     Ok(flat)
 }

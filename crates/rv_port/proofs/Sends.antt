@@ -107,10 +107,10 @@ object_sync : IsSync object.the_row
 object_sync = recorded_sync (object.the_field).row _ _ (object.the_type).to_one (struct_sync (shape object.the_type) (list_sync body.the_row body_sync, tt))
 
 pub unit_send : IsSend unit.the_row
-unit_send = recorded_send (unit.the_field).row _ _ (unit.the_type).to_one (struct_send (shape unit.the_type) (list_send object.the_row object_send, (list_send (option.the_row body.the_row) (option_crosses.the_send body.the_row body_send), tt)))
+unit_send = recorded_send (unit.the_field).row _ _ (unit.the_type).to_one (struct_send (shape unit.the_type) (list_send object.the_row object_send, (list_send _ (plain_send _ _ _ _ _), (list_send (option.the_row body.the_row) (option_crosses.the_send body.the_row body_send), tt))))
 
 pub unit_sync : IsSync unit.the_row
-unit_sync = recorded_sync (unit.the_field).row _ _ (unit.the_type).to_one (struct_sync (shape unit.the_type) (list_sync object.the_row object_sync, (list_sync (option.the_row body.the_row) (option_crosses.the_sync body.the_row body_sync), tt)))
+unit_sync = recorded_sync (unit.the_field).row _ _ (unit.the_type).to_one (struct_sync (shape unit.the_type) (list_sync object.the_row object_sync, (list_sync _ (plain_sync _ _ _ _ _), (list_sync (option.the_row body.the_row) (option_crosses.the_sync body.the_row body_sync), tt))))
 
 unit_arc_send : IsSend (arc.the_row unit.the_row global.the_row ghosts)
 unit_arc_send = arc_crosses.the_send unit.the_row global.the_row ghosts unit_send global_crosses.the_send unit_sync global_crosses.the_sync heap_crosses.the_frees

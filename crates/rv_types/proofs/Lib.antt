@@ -1,4 +1,5 @@
 pub mod Pushed
+pub mod Sharing
 pub mod Ended
 pub mod Chains
 pub mod Covered

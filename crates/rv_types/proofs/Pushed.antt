@@ -3,8 +3,7 @@ use Rattle.std.proofs.Common.{◌≡◌, ℕ, List, [], ◌∷◌, ◌++◌, map
 use Rattle.std.proofs.Math.ListN.{set}
 use Rattle.std.proofs.lemmas.List.{map-append, map-set}
 use Rattle.rv_code.specs.declared.body.Body.{Body}
-use Rattle.rv_code.specs.declared.body.ObjectBodies.{ObjectBodies}
-use Rattle.rv_code.specs.BodyView.{body_view, object_view, maybe_body_view}
+use Rattle.rv_code.specs.BodyView.{body_view, maybe_body_view}
 use Rattle.rv_code.specs.declared.expression.Operator.{Operator}
 use Rattle.rv_code.specs.declared.expression.Expression.{Expression}
 use Rattle.rv_code.specs.declared.expression.Link.{Link, roll-Link, fold-roll-Link}
@@ -41,10 +40,6 @@ pushed_alternative alternatives cs v =
     (fold-roll-Alternative ts.Statement ts.Alternative ts.Branch statement_step alternative_step branch_step (record { choices = cs; statements = v }))
 
 -- what is put into one place of a list
-pub put_bodies : (objects : List ObjectBodies) (index : ℕ) (v : Vec Body Global) →
-    map object_view (set objects index (record { operations = v })) ≡ set (map object_view objects) index (map body_view v.items)
-put_bodies objects index v = map-set object_view objects index (record { operations = v })
-
 pub put_task : (tasks : List (Option Body)) (index : ℕ) (b : Body) →
     map maybe_body_view (set tasks index (Some b)) ≡ set (map maybe_body_view tasks) index (Some (body_view b))
 put_task tasks index b = map-set maybe_body_view tasks index (Some b)

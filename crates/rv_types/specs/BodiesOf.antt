@@ -29,6 +29,8 @@ use Rattle.rv_outline.specs.declared.outline.ObjectType.TheVariants as sort
 use Rattle.rv_outline.specs.Declarations.{body_scope}
 use Rattle.rv_outline.specs.Shapes.{OutlineView, outlined}
 use Rattle.rv_code.specs.Bodies.{Body, UnitBodies, bodiless}
+use Rattle.rv_fits.specs.Calls.{object_calls}
+use Rattle.rv_fits.specs.Passing.{names_no_own}
 use Rattle.rv_types.specs.Points.{PointView, taking_slot}
 use Rattle.rv_types.specs.Blocks.{block_of}
 
@@ -120,43 +122,38 @@ object_bodies s scope object number bodies =
 abbrev pub with_object_bodies : ℕ → UnitBodies → List Body → Option UnitBodies
 with_object_bodies index u bodies = Some (record u { objects = slice_set u.objects index bodies })
 
--- an object of a protected unit has the bodies of its operations; its number follows those before it
-abbrev pub object_compiled : Setting → ScopeView → ℕ → List OperationBody → ℕ → UnitBodies → Option UnitBodies
-object_compiled s scope number bodies index u =
-    object_bodies s scope (first_object s + index) number bodies >>= with_object_bodies index u
+-- the object of an index has these bodies
+abbrev pub object_compiled : (ℕ → Option (List Body)) → ℕ → UnitBodies → Option UnitBodies
+object_compiled bodies index u = bodies index >>= with_object_bodies index u
 
 -- the same of an object that may be another's
-abbrev pub perhaps_compiled : Setting → ScopeView → ℕ → List OperationBody → ℕ → ObjectType → UnitBodies → Option UnitBodies
-perhaps_compiled s scope number bodies index sort.Suspension u = Some u
-perhaps_compiled s scope number bodies index (sort.Protected unit) u =
-    if unit == number then object_compiled s scope number bodies index u else Some u
+abbrev pub perhaps_compiled : (ℕ → Option (List Body)) → ℕ → ℕ → ObjectType → UnitBodies → Option UnitBodies
+perhaps_compiled bodies number index sort.Suspension u = Some u
+perhaps_compiled bodies number index (sort.Protected unit) u = if unit == number then object_compiled bodies index u else Some u
 
 -- each object of a protected unit, from an index on; no unit has so many (own)
-abbrev pub objects_compiled : Setting → ScopeView → ℕ → List OperationBody → ℕ → List ObjectType → UnitBodies → Option UnitBodies
-objects_compiled s scope number bodies index [] u = Some u
-objects_compiled s scope number bodies index (object ∷ more) u =
+abbrev pub objects_compiled : (ℕ → Option (List Body)) → ℕ → ℕ → List ObjectType → UnitBodies → Option UnitBodies
+objects_compiled bodies number index [] u = Some u
+objects_compiled bodies number index (object ∷ more) u =
     if nat_lt index 4294967296 then
-    (perhaps_compiled s scope number bodies index object u >>= objects_compiled s scope number bodies (index + 1) more)
+    (perhaps_compiled bodies number index object u >>= objects_compiled bodies number (index + 1) more)
     else None
 
--- an object is of the protected unit of this number
-abbrev pub is_object_of : ℕ → ObjectType → Bool
-is_object_of number sort.Suspension = false
-is_object_of number (sort.Protected unit) = unit == number
+-- the bodies of the object of an index: its number follows those of the objects before it
+abbrev pub bodies_by_index : Setting → ScopeView → ℕ → List OperationBody → ℕ → Option (List Body)
+bodies_by_index s scope number bodies index = object_bodies s scope (first_object s + index) number bodies
 
-abbrev pub has_object : ℕ → List ObjectType → Bool
-has_object number [] = false
-has_object number (object ∷ more) = is_object_of number object || has_object number more
+-- bodies that call no entry of their own object are the same for each (own)
+abbrev pub objects_by : Setting → ScopeView → ℕ → List OperationBody → List Body → ℕ → Option (List Body)
+objects_by s scope number bodies same index =
+    if object_calls names_no_own same then Some same else bodies_by_index s scope number bodies index
 
--- the operations of a protected type without objects have bodies too, of which none is kept
-abbrev pub without_object : Setting → ScopeView → ℕ → List OperationBody → UnitBodies → Option UnitBodies
-without_object s scope number bodies u = object_bodies s scope 0 number bodies >>= λ unused. Some u
-
--- the bodies of the protected unit of this number, for each of its objects
+-- the bodies of the protected unit of this number, for each of its objects; a type without objects has bodies too, of which
+-- none is kept
 abbrev pub unit_bodies : Setting → ScopeView → ℕ → List OperationBody → UnitBodies → Option UnitBodies
 unit_bodies s scope number bodies u =
-    if has_object number s.outline.objects then objects_compiled s scope number bodies 0 s.outline.objects u
-    else without_object s scope number bodies u
+    object_bodies s scope 0 number bodies >>= λ same.
+    objects_compiled (objects_by s scope number bodies same) number 0 s.outline.objects u
 
 -- the bodies of a protected unit, with its number
 abbrev pub unit_compiled : Setting → ScopeView → List OperationBody → UnitBodies → (ℕ × ProtectedUnit) → Option UnitBodies

@@ -121,28 +121,41 @@ fn has_gap(range: Range, sorted: &[Span]) -> bool {
     next <= range.high
 }
 
-// Whether one of these covers a value of a span.
-fn meets(before: &[Span], low: i64, high: i64) -> bool {
-    for (other_low, other_high, _) in before {
-        if *other_low <= high && low <= *other_high {
-            return true;
-        }
-    }
-    false
+// Whether two of these cover a value, in whatever order they stand.
+fn is_twice(alloc: Global, spans: &[Span]) -> Result<bool, Refused> {
+    let mut sorted = Vec::from_slice(alloc, spans)?;
+    sorted.sort()?;
+    Ok(has_overlap(&sorted))
 }
 
-// Tells of the choices that cover a value which one before them covers.
-fn tell_overlaps(spans: &[Span], faults: &mut Faults) {
-    for (index, span) in spans.iter().enumerate() {
-        let (low, high, at) = *span;
-        if meets(&spans[..index], low, high) {
-            faults.tell(TypeFault::BadChoice(at));
+// How many of these, from the first on, cover no value twice; all but those beyond 2^32. It is found by halves.
+fn count_clear(alloc: Global, spans: &[Span]) -> Result<usize, Refused> {
+    let mut clear: usize = 0;
+    let mut more: usize = 2147483648;
+    for _ in 0..32 {
+        let next = clear.saturating_add(more);
+        if next <= spans.len() {
+            if !is_twice(alloc, &spans[..next])? {
+                clear = next;
+            }
         }
+        more /= 2;
     }
+    Ok(clear)
+}
+
+// Tells of the first choice that covers a value which one before it covers.
+fn tell_overlap(alloc: Global, spans: &[Span], faults: &mut Faults) -> Result<(), Refused> {
+    let clear = count_clear(alloc, spans)?;
+    if let Some((_, _, at)) = spans.get(clear) {
+        faults.tell(TypeFault::BadChoice(*at));
+    }
+    Ok(())
 }
 
 // Tells what is wrong with what the choices cover, of all values of a range.
 fn tell_coverage(
+    alloc: Global,
     range: Range,
     at: usize,
     gathered: Gathered,
@@ -156,7 +169,7 @@ fn tell_coverage(
     let mut sorted = spans.clone()?;
     sorted.sort()?;
     if has_overlap(&sorted) {
-        tell_overlaps(&spans, faults);
+        tell_overlap(alloc, &spans, faults)?;
     }
     if !has_others && !is_unknown && has_gap(range, &sorted) {
         faults.tell(TypeFault::BadChoice(at));
@@ -192,7 +205,7 @@ pub(crate) fn uncovered(
             &mut faults,
         )?;
     }
-    tell_coverage(range, at, gathered, &mut faults)?;
+    tell_coverage(alloc, range, at, gathered, &mut faults)?;
     match faults.first() {
         Some(fault) => Ok(Some(Refused(fault))),
         None => Ok(None),

@@ -1,17 +1,18 @@
 //! Bodies of protected units.
 
-ghost use Rattle.std.specs.Prelude.{◌≡◌, ◌<◌, IfOk, OnOk, Some, map};
+ghost use Rattle.std.specs.Prelude.{◌≡◌, ◌<◌, List, IfOk, OnOk, Some, length, map};
 ghost use Rattle.rv_tree.specs.DeclarationView.{protected_unit_view};
 ghost use Rattle.rv_tree.specs.BodyView.{operation_body_view, protected_body_view};
 ghost use Rattle.rv_scope.specs.UnitUses.{in_protected_unit};
-ghost use Rattle.rv_code.specs.Bodies.{UnitBodies as UnitBodiesView};
-ghost use Rattle.rv_code.specs.BodyView.{body_view, unit_view};
-ghost use Rattle.rv_types.specs.BodiesOf.{object_bodies, with_object_bodies, object_compiled, perhaps_compiled, objects_compiled, is_object_of as is_of_unit, has_object as unit_has_object, without_object as compiled_without_object, unit_bodies as unit_bodies_compiled, protected_body_compiled};
+ghost use Rattle.rv_code.specs.Bodies.{Body as BodyCode};
+ghost use Rattle.rv_code.specs.BodyView.{body_view, list_at, unit_view};
+ghost use Rattle.rv_types.specs.BodiesOf.{object_bodies, with_object_bodies, bodies_by_index, object_compiled, perhaps_compiled, objects_compiled, unit_bodies as unit_bodies_compiled, protected_body_compiled};
 
 use crate::body::operation_bodies;
 use crate::refused::{Refused, mismatch};
 use crate::setting::Setting;
-use rv_code::{Body, ObjectBodies, UnitBodies};
+use rv_code::{Body, UnitBodies};
+use rv_fits::name_no_own;
 use rv_outline::outline::ObjectType;
 use rv_scope::Scope;
 use rv_tree::body::ProtectedBody;
@@ -27,14 +28,15 @@ fn put_object(
 ) -> Result<(), Refused>
     ensures { OnOk result (with_object_bodies index (unit_view compiled.old) (map body_view operations.items) ≡ Some (unit_view compiled.new)) }
 {
-    if index < compiled.objects.len() {
-        compiled.objects[index] = ObjectBodies { operations };
-        return Ok(());
+    if index >= compiled.objects.len() {
+        return Err(mismatch(at));
     }
-    Err(mismatch(at))
+    let list = compiled.add_list(operations)?;
+    compiled.give(index, list);
+    Ok(())
 }
 
-// The bodies of the operations of the protected unit of a number, for an object; 0 is none.
+// The bodies of the operations of the protected unit of a number, for an object; 0 stands for each.
 fn bodies_for<'a>(
     alloc: Global,
     setting: &Setting<'a>,
@@ -72,7 +74,7 @@ fn object_of_unit<'a>(
     scope: Scope<'a>,
 ) -> Result<Scope<'a>, Refused>
     requires { index < 4294967296 }
-    ensures code { IfOk result (λ _. object_compiled setting.now scope.entry number (map operation_body_view body.now.operations.items) index (unit_view compiled.old) ≡ Some (unit_view compiled.new)) }
+    ensures code { IfOk result (λ _. object_compiled (bodies_by_index setting.now scope.entry number (map operation_body_view body.now.operations.items)) index (unit_view compiled.old) ≡ Some (unit_view compiled.new)) }
     ensures scope { IfOk result (λ s. s ≡ scope.entry) }
 {
     let object = setting.catalogue.objects() + 1 + index;
@@ -93,7 +95,7 @@ fn perhaps_bodies<'a>(
     scope: Scope<'a>,
 ) -> Result<Scope<'a>, Refused>
     requires { index < 4294967296 }
-    ensures code { IfOk result (λ _. perhaps_compiled setting.now scope.entry number (map operation_body_view body.now.operations.items) index object (unit_view compiled.old) ≡ Some (unit_view compiled.new)) }
+    ensures code { IfOk result (λ _. perhaps_compiled (bodies_by_index setting.now scope.entry number (map operation_body_view body.now.operations.items)) number index object (unit_view compiled.old) ≡ Some (unit_view compiled.new)) }
     ensures scope { IfOk result (λ s. s ≡ scope.entry) }
 {
     match object {
@@ -108,7 +110,7 @@ fn perhaps_bodies<'a>(
     }
 }
 
-// Each object of a protected unit has the bodies of its operations.
+// Each object of a protected unit has bodies of its own.
 fn all_object_bodies<'a>(
     alloc: Global,
     setting: &Setting<'a>,
@@ -117,7 +119,7 @@ fn all_object_bodies<'a>(
     compiled: &mut UnitBodies,
     around: Scope<'a>,
 ) -> Result<Scope<'a>, Refused>
-    ensures code { IfOk result (λ _. objects_compiled setting.now around.entry number (map operation_body_view body.now.operations.items) 0 setting.now.outline.objects (unit_view compiled.old) ≡ Some (unit_view compiled.new)) }
+    ensures code { IfOk result (λ _. objects_compiled (bodies_by_index setting.now around.entry number (map operation_body_view body.now.operations.items)) number 0 setting.now.outline.objects (unit_view compiled.old) ≡ Some (unit_view compiled.new)) }
     ensures scope { IfOk result (λ s. s ≡ around.entry) }
 {
     let mut scope = around;
@@ -134,43 +136,83 @@ fn all_object_bodies<'a>(
     Ok(scope)
 }
 
-// Whether an object is of the protected unit of a number.
-fn is_object_of(number: usize, object: ObjectType) -> bool
-    ensures { result ≡ is_of_unit number object }
+// Gives the object of an index a list of bodies.
+fn give(compiled: &mut UnitBodies, index: usize, list: usize, at: usize) -> Result<(), Refused>
+    requires { list < length compiled.old.lists.items }
+    ensures code { OnOk result ((same : List BodyCode) → list_at compiled.old.lists.items list ≡ same → object_compiled (λ _. Some same) index (unit_view compiled.old) ≡ Some (unit_view compiled.new)) }
+    ensures lists { OnOk result (compiled.new.lists ≡ compiled.old.lists) }
+{
+    if index >= compiled.objects.len() {
+        return Err(mismatch(at));
+    }
+    compiled.give(index, list);
+    Ok(())
+}
+
+// The same of an object that may be another's.
+fn give_perhaps(
+    compiled: &mut UnitBodies,
+    number: usize,
+    index: usize,
+    object: ObjectType,
+    list: usize,
+    at: usize,
+) -> Result<(), Refused>
+    requires { list < length compiled.old.lists.items }
+    ensures code { OnOk result ((same : List BodyCode) → list_at compiled.old.lists.items list ≡ same → perhaps_compiled (λ _. Some same) number index object (unit_view compiled.old) ≡ Some (unit_view compiled.new)) }
+    ensures lists { OnOk result (compiled.new.lists ≡ compiled.old.lists) }
 {
     match object {
-        ObjectType::Suspension => false,
-        ObjectType::Protected(unit) => unit == number,
-    }
-}
-
-fn has_object(number: usize, objects: &[ObjectType]) -> bool
-    ensures { result ≡ unit_has_object number objects.now }
-{
-    for object in objects {
-        if is_object_of(number, *object) {
-            return true;
+        ObjectType::Suspension => Ok(()),
+        ObjectType::Protected(unit) => {
+            if unit == number {
+                give(compiled, index, list, at)
+            } else {
+                Ok(())
+            }
         }
     }
-    false
 }
 
-// The operations of a protected type without objects have bodies too, of which none is kept.
-fn without_object<'a>(
-    alloc: Global,
-    setting: &Setting<'a>,
+// Gives each object of a protected unit a list of bodies.
+fn give_all(
+    compiled: &mut UnitBodies,
     number: usize,
-    body: &ProtectedBody,
-    scope: Scope<'a>,
-) -> Result<Scope<'a>, Refused>
-    ensures code { IfOk result (λ _. (u : UnitBodiesView) → compiled_without_object setting.now scope.entry number (map operation_body_view body.now.operations.items) u ≡ Some u) }
-    ensures scope { IfOk result (λ s. s ≡ scope.entry) }
+    objects: &[ObjectType],
+    list: usize,
+    at: usize,
+) -> Result<(), Refused>
+    requires { list < length compiled.old.lists.items }
+    ensures { OnOk result ((same : List BodyCode) → list_at compiled.old.lists.items list ≡ same → objects_compiled (λ _. Some same) number 0 objects.now (unit_view compiled.old) ≡ Some (unit_view compiled.new)) }
 {
-    let (_, left) = bodies_for(alloc, setting, 0, number, body, scope)?;
-    Ok(left)
+    let mut index: usize = 0;
+    for object in objects {
+        if index >= 4294967296 {
+            return Err(mismatch(at));
+        }
+        give_perhaps(compiled, number, index, *object, list, at)?;
+        index += 1;
+    }
+    Ok(())
+}
+
+// Each object of a protected unit shares these bodies.
+fn share(
+    compiled: &mut UnitBodies,
+    number: usize,
+    objects: &[ObjectType],
+    same: Vec<Body>,
+    at: usize,
+) -> Result<(), Refused>
+    ensures { OnOk result (objects_compiled (λ _. Some (map body_view same.items)) number 0 objects.now (unit_view compiled.old) ≡ Some (unit_view compiled.new)) }
+{
+    let list = compiled.add_list(same)?;
+    give_all(compiled, number, objects, list, at)?;
+    Ok(())
 }
 
 // The bodies of a protected unit of a number, for each of its objects.
+#[tactic(auto, using(crate::proofs::Sharing::shared, crate::proofs::Sharing::apart))]
 fn unit_bodies<'a>(
     alloc: Global,
     setting: &Setting<'a>,
@@ -182,10 +224,13 @@ fn unit_bodies<'a>(
     ensures code { IfOk result (λ _. unit_bodies_compiled setting.now scope.entry number (map operation_body_view body.now.operations.items) (unit_view compiled.old) ≡ Some (unit_view compiled.new)) }
     ensures scope { IfOk result (λ s. s ≡ scope.entry) }
 {
-    if has_object(number, setting.outline.objects()) {
-        return all_object_bodies(alloc, setting, number, body, compiled, scope);
+    let (same, left) = bodies_for(alloc, setting, 0, number, body, scope)?;
+    if name_no_own(&same) {
+        let objects = setting.outline.objects();
+        share(compiled, number, objects, same, body.name.at)?;
+        return Ok(left);
     }
-    without_object(alloc, setting, number, body, scope)
+    all_object_bodies(alloc, setting, number, body, compiled, left)
 }
 
 // The body of a protected unit of a number.

@@ -341,7 +341,7 @@ pub(crate) fn statements(
     ensures code { IfOk result (λ v. statements_onto point.old (statements_of (statements_view list.now.items)) [] ≡ Some (map action_view v.items)) }
     ensures point { OnOk result (point.new ≡ point.old) }
 {
-    let mut done = Vec::new(alloc);
+    let mut done = Vec::with_capacity(alloc, list.len())?;
     for one in list {
         let action = statement(alloc, one, point)?;
         push_statement(&mut done, action)?;
