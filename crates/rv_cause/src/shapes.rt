@@ -211,22 +211,22 @@ fn front<'l, 'a>(lines: &'l [Line<'a>], count: usize) -> &'l [Line<'a>] {
     lines.get(..count).unwrap_or(lines)
 }
 
-// Whether the name of a line stands on those before it, within the object or, of a task or an object, within the unit.
+// Whether the name of a line stands on those before it, within the object or, of a task or an object, within the unit. They are
+// looked at from the last on, so that of an object's many parts each is compared with those of its object alone.
 fn is_before(lines: &[Line<'_>], line: &Line<'_>) -> bool {
-    let mut is_found = false;
-    for before in lines {
+    for before in lines.iter().rev() {
         if is_part(line) && (before.is(0, "protected") || before.is(0, "suspension")) {
-            is_found = false;
+            return false;
         }
         if is_part(before) == is_part(line)
             && is_same_name(before.word(1), line.word(1))
             && !before.is(0, "scalar")
             && !before.is(0, "unit")
         {
-            is_found = true;
+            return true;
         }
     }
-    is_found
+    false
 }
 
 /// Which name is taken.
