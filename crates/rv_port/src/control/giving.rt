@@ -10,6 +10,7 @@ ghost use Rattle.rv_port.specs.Controls.{listed, IsGiven, IsPortFault};
 use super::{Control, PORT_ACTS};
 use crate::fault::PortFault;
 use crate::port::Port;
+use rv_runs::spare::Spare;
 use rv_shape::actor::Actor;
 use rv_shape::catalogue::Catalogue;
 use rv_turn::SplitFault;
@@ -48,7 +49,18 @@ fn is_performer(catalogue: &Catalogue, actor: u64) -> bool
 }
 
 impl Control {
-    /// The port of an actor that may have one, and had none.
+    // A stack with the memory that any run of the bodies of all units takes. None where memory was refused.
+    fn spare(&self) -> Option<Spare> {
+        let mut spare = Spare::new(self.alloc);
+        if let Some(lent) = &self.lent {
+            if spare.reserve(&lent.bodies.table).is_err() {
+                return None;
+            }
+        }
+        Some(spare)
+    }
+
+    /// The port of an actor that may have one, and had none. It takes the memory that any run of the bodies of all units takes.
     pub fn port(&mut self, actor: u64) -> Result<Port, PortFault>
         ensures ok { IfOk result (λ p. IsGiven self.old actor self.new (pass_of p) × (p.refused ≡ false)) }
         ensures fault { IfErr result (λ f. IsPortFault actor self.old.given (catalogue_of self.old.seen) self.old.left f) }
@@ -69,10 +81,13 @@ impl Control {
         if self.given.reserve(1).is_err() {
             return Err(PortFault::NoMemory);
         }
+        let Some(spare) = self.spare() else {
+            return Err(PortFault::NoMemory);
+        };
         match self.pass.split(actor, PORT_ACTS) {
             Ok(pass) => {
                 put_first(&mut self.given, actor);
-                Ok(Port::new(pass, bell))
+                Ok(Port::new(pass, bell, spare))
             }
             Err(SplitFault::TooFew) => Err(PortFault::Worn),
             Err(SplitFault::NoMemory) => Err(PortFault::NoMemory),

@@ -10,11 +10,12 @@ ghost use Rattle.rv_port.specs.Controls.{Told, LoadTold, Brings, no_bodies_of};
 ghost use Rattle.rv_behind.specs.Events.{catalogue_of};
 
 use super::{Control, heard};
-use rv_behind::event::Ask;
+use rv_behind::event::{Ask, Lent, Reply};
 use rv_code::{Unit, UnitBodies};
 use rv_event::entry::Answer;
 use rv_exec::bodies::{Bodies, SharedUnit};
 use rv_fits::{may_load, with_unit};
+use rv_runs::ready::Ready;
 use rv_shape::shape::UnitShape;
 use rv_turn::Worn;
 use std::alloc::{AllocError, Global};
@@ -27,21 +28,30 @@ fn no_bodies_of(alloc: Global, shape: &UnitShape) -> Result<SharedUnit, AllocErr
     SharedUnit::new(alloc, UnitBodies::of_shape(alloc, shape)?)
 }
 
-/// The bodies of units that were loaded before as shapes alone.
+/// The bodies of units that were loaded before as shapes alone. Err where memory was refused.
 pub(crate) fn no_bodies_of_all(
     alloc: Global,
     shapes: &[UnitShape],
-) -> Result<Arc<Bodies, Global>, AllocError>
-    ensures { IfOk result (λ b. map unit_view (units_of (arc_value b)) ≡ map no_bodies_of shapes.now) }
+) -> Result<Arc<Ready, Global>, AllocError>
+    ensures { IfOk result (λ b. map unit_view (units_of (arc_value b).bodies) ≡ map no_bodies_of shapes.now) }
 {
     let mut bodies = Bodies::new(alloc);
     for shape in shapes {
         let unit = no_bodies_of(alloc, shape)?;
         bodies = bodies.with(unit)?;
     }
-    match Arc::new(alloc, bodies) {
-        Ok(bodies) => Ok(bodies),
+    let ready = Ready::of(alloc, bodies)?;
+    match Arc::new(alloc, ready) {
+        Ok(ready) => Ok(ready),
         Err(_) => Err(AllocError),
+    }
+}
+
+// The bodies that a reply brings, if it does.
+fn lent_in(reply: Reply) -> Option<Lent> {
+    match reply {
+        Reply::Answered(_, _, lent) => lent,
+        _ => None,
     }
 }
 
@@ -121,6 +131,7 @@ impl Control {
             return Ok(answer);
         }
         self.catalogue = catalogue;
+        self.lent = lent_in(reply);
         Ok(answer)
     }
 }
