@@ -95,14 +95,6 @@ impl Behind {
         self.share()
     }
 
-    // The bodies, for an answer that brings those of a unit more.
-    fn lend_loaded(&self, answer: &Answer) -> Option<Lent> {
-        if answer.recorded().is_none() {
-            return None;
-        }
-        self.share()
-    }
-
     // The bodies, for a text.
     fn give_bodies(&self, actor: u64) -> Reply
         ensures { Does self.now.host.value.limits (log_in self.now.host.value (arc_value self.now.bodies).bodies) actor Ask.Bodies result (log_in self.now.host.value (arc_value self.now.bodies).bodies) }
@@ -207,11 +199,7 @@ impl Behind {
     {
         self.host.replays();
         match ask {
-            Ask::Load(shape, unit) => {
-                let answer = self.load(&shape, unit);
-                let lent = self.lend_loaded(&answer);
-                Reply::Answered(answer, NONE, lent)
-            }
+            Ask::Load(shape, unit) => Reply::Answered(self.load(&shape, unit), NONE, None),
             Ask::LoadWithoutMemory(shape) => {
                 Reply::Answered(self.load_without_memory(&shape), NONE, None)
             }

@@ -14,11 +14,11 @@ ghost use Rattle.rv_port.specs.Traces.{RepliedOnce, Settled, SettlesBehind, Sett
 
 use crate::bell::Bell;
 use crate::ended::{Course, Ending, stop_of};
+use crate::stacks::PortStack;
 use rv_behind::behind::Behind;
 use rv_behind::event::Letter;
 use rv_event::entry::{Answer, Next, Request};
 use rv_exec::outward::Outward;
-use rv_runs::spare::Spare;
 use rv_turn::{Pass, Worn};
 use std::alloc::Global;
 use std::sync::{Arc, Wait};
@@ -36,7 +36,7 @@ pub(crate) struct Asker {
     // What the run of a text has come to. Each request of a body goes on with it; only a text's run begins it anew.
     pub(crate) course: Course,
     // The stack on which its bodies and its text run.
-    pub(crate) spare: Spare,
+    pub(crate) stack: PortStack,
     pub(crate) ghost given: { pass.first ≡ false },
     pub(crate) ghost fresh: { pass.base ≡ [] },
     pub(crate) ghost limited: { is_some pass.about ≡ true },

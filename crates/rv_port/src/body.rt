@@ -76,13 +76,13 @@ fn run_one<R: Wait>(
         asker,
         request,
     );
-    asker.spare.put_back(stack);
+    asker.stack.put_back(stack);
     exit
 }
 
 /// Runs the body of an operation on these scalars, with these values, asking by the port's own
 /// asker, outside the turn; and puts the request for its end, whose exit it gives. Where the bodies
-/// couldn't be had, or memory for their run was refused, it asks nothing, leaves the scalars and exits by
+/// couldn't be had, or a stack for their run, it asks nothing, leaves the scalars and exits by
 /// `raise Program_Error`.
 pub(crate) fn run<R: Wait>(
     rt: &R,
@@ -99,8 +99,8 @@ pub(crate) fn run<R: Wait>(
         return leave_marked(asker, begun, scalars, args, request);
     };
     let ready = &*lent.bodies;
-    match asker.spare.taken(&ready.table) {
-        Ok(stack) => run_one(rt, asker, ready, stack, begun, scalars, args, request),
-        Err(_) => leave_marked(asker, begun, scalars, args, request),
+    match asker.stack.taken(rt, &ready.table) {
+        Some(stack) => run_one(rt, asker, ready, stack, begun, scalars, args, request),
+        None => leave_marked(asker, begun, scalars, args, request),
     }
 }

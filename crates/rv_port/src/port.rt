@@ -22,9 +22,9 @@ use crate::ended::Course;
 use crate::gate::{Gate, Open};
 use crate::note::Note;
 use crate::reached::Reached;
+use crate::stacks::PortStack;
 use rv_behind::behind::Behind;
 use rv_event::entry::Request;
-use rv_runs::spare::Spare;
 use rv_turn::Pass;
 use rv_value::Args;
 use std::alloc::Global;
@@ -123,7 +123,7 @@ impl Finished {
         let _ = &self.pass;
     }
 
-    /// Whether a body was ever left alone because there were too many holders of the bodies, or no memory for their run.
+    /// Whether a body was ever left alone because there were too many holders of the bodies, or no stack for their run.
     pub fn is_refused(&self) -> bool
         ensures { result ≡ self.now.refused }
     {
@@ -133,7 +133,7 @@ impl Finished {
 
 impl Port {
     // The port of a new pass.
-    pub(crate) fn new(pass: Pass<Behind>, bell: Arc<Bell, Global>, spare: Spare) -> Port
+    pub(crate) fn new(pass: Pass<Behind>, bell: Arc<Bell, Global>, stack: PortStack) -> Port
         requires given { pass.first ≡ false }
         requires limited { is_some pass.about ≡ true }
         requires fresh { pass.base ≡ [] }
@@ -151,7 +151,7 @@ impl Port {
                 is_refused: false,
                 held: 0,
                 course: Course::fresh(0),
-                spare,
+                stack,
             },
         }
     }
@@ -197,8 +197,7 @@ impl Port {
     /// A call of an operation (9.5.1, 9.5.3, D.10): by the numbers of its object and of the
     /// operation, each from 1, with the values of the `in` and `in out` parameters. It waits while
     /// the object is held by others, and where the call is queued. The body, and each that it calls,
-    /// runs outside the turn, on a stack of the port's own. Where the bodies take more memory than any that the port
-    /// ran before, as behind a load, and it is refused, the body is left alone, and the port is marked.
+    /// runs outside the turn, on a stack of the port's own, and takes no memory.
     pub fn call<R: Wait>(&mut self, rt: &R, object: usize, operation: usize, args: Args) -> Reached
         ensures performed { PerformedBy self.old (asks.Call object operation args) result self.new }
         ensures tied { Tied (pass_of self.old) (asks.Call object operation args) result (pass_of self.new) }
@@ -280,7 +279,7 @@ impl Port {
     }
 
     /// An interrupt of the port's line: a call of its handler (C.3). It waits while the handler's
-    /// object is held by others. Its memory is as for `call`.
+    /// object is held by others. Its stack is as for `call`.
     pub fn fire<R: Wait>(&mut self, rt: &R) -> Reached
         ensures performed { PerformedBy self.old asks.Fire result self.new }
         ensures tied { Tied (pass_of self.old) asks.Fire result (pass_of self.new) }

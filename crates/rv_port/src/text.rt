@@ -68,7 +68,7 @@ impl Asker {
         let actor = self.pass.actor() as usize;
         self.course = Course::fresh(budget);
         let (exit, stack) = run_text(rt, ready, stack, actor, budget, self);
-        self.spare.put_back(stack);
+        self.stack.put_back(stack);
         let ending = ending_by(&ready.bodies, actor, &exit, budget, self.course);
         (exit, ending)
     }
@@ -81,8 +81,7 @@ impl Asker {
         (Exit::Stopped, Ending::NoBodies)
     }
 
-    // Runs the text of the actor's task by these bodies. Where they couldn't be had, or memory for their run was refused, it asks
-    // nothing.
+    // Runs the text of the actor's task by these bodies. Where they couldn't be had, or a stack for their run, it asks nothing.
     fn run_lent<R: Wait>(&mut self, rt: &R, lent: &Option<Lent>, budget: u32) -> (Exit, Ending)
         ensures { TextGoes lent.now self.old.pass self.old.is_refused budget result.0 result.1 self.new.pass self.new.is_refused }
     {
@@ -90,9 +89,9 @@ impl Asker {
             return self.run_nothing();
         };
         let ready = &*lent.bodies;
-        match self.spare.taken(&ready.table) {
-            Ok(stack) => self.run_text(rt, ready, stack, budget),
-            Err(_) => self.run_nothing(),
+        match self.stack.taken(rt, &ready.table) {
+            Some(stack) => self.run_text(rt, ready, stack, budget),
+            None => self.run_nothing(),
         }
     }
 
@@ -115,9 +114,9 @@ impl Port {
     /// Runs the text of the port's task to its end (9.2, 9.3), by the bodies of the units loaded so
     /// far: its own body, which may make so many requests, 1 to 1,000,000, and each body that starts
     /// for it. The last request is Quit, where the task's mode allows it. Where no act is left, or
-    /// the task was left in a body, it is stopped at once; where the bodies have too many holders, or
-    /// memory for their run is refused, too, and the port is marked. The text runs on a stack of the port's own,
-    /// all of whose memory is taken before its first request. It gives how the text exited, and why it ended.
+    /// the task was left in a body, it is stopped at once; where the bodies have too many holders
+    /// too, and the port is marked. The text runs on a stack of the port's own, and takes no memory. It gives how the text
+    /// exited, and why it ended.
     pub fn run_text<R: Wait>(&mut self, rt: &R, budget: u32) -> (Exit, Ending)
         ensures ran { TextRan (pass_of self.old) self.old.refused budget result.0 (pass_of self.new) self.new.refused }
         ensures ended { TextEnded (pass_of self.old) self.old.refused budget result.0 result.1 (pass_of self.new) self.new.refused }

@@ -10,7 +10,6 @@ ghost use Rattle.rv_port.specs.Controls.{listed, IsGiven, IsPortFault};
 use super::{Control, PORT_ACTS};
 use crate::fault::PortFault;
 use crate::port::Port;
-use rv_runs::spare::Spare;
 use rv_shape::actor::Actor;
 use rv_shape::catalogue::Catalogue;
 use rv_turn::SplitFault;
@@ -49,18 +48,7 @@ fn is_performer(catalogue: &Catalogue, actor: u64) -> bool
 }
 
 impl Control {
-    // A stack with the memory that any run of the bodies of all units takes. None where memory was refused.
-    fn spare(&self) -> Option<Spare> {
-        let mut spare = Spare::new(self.alloc);
-        if let Some(lent) = &self.lent {
-            if spare.reserve(&lent.bodies.table).is_err() {
-                return None;
-            }
-        }
-        Some(spare)
-    }
-
-    /// The port of an actor that may have one, and had none. It takes the memory that any run of the bodies of all units takes.
+    /// The port of an actor that may have one, and had none. It takes all memory that any run of the loaded bodies takes.
     pub fn port(&mut self, actor: u64) -> Result<Port, PortFault>
         ensures ok { IfOk result (λ p. IsGiven self.old actor self.new (pass_of p) × (p.refused ≡ false)) }
         ensures fault { IfErr result (λ f. IsPortFault actor self.old.given (catalogue_of self.old.seen) self.old.left f) }
@@ -81,13 +69,13 @@ impl Control {
         if self.given.reserve(1).is_err() {
             return Err(PortFault::NoMemory);
         }
-        let Some(spare) = self.spare() else {
+        let Ok(stack) = self.stacks.given() else {
             return Err(PortFault::NoMemory);
         };
         match self.pass.split(actor, PORT_ACTS) {
             Ok(pass) => {
                 put_first(&mut self.given, actor);
-                Ok(Port::new(pass, bell, spare))
+                Ok(Port::new(pass, bell, stack))
             }
             Err(SplitFault::TooFew) => Err(PortFault::Worn),
             Err(SplitFault::NoMemory) => Err(PortFault::NoMemory),

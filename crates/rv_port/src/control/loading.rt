@@ -10,7 +10,7 @@ ghost use Rattle.rv_port.specs.Controls.{Told, LoadTold, Brings, no_bodies_of};
 ghost use Rattle.rv_behind.specs.Events.{catalogue_of};
 
 use super::{Control, heard};
-use rv_behind::event::{Ask, Lent, Reply};
+use rv_behind::event::Ask;
 use rv_code::{Unit, UnitBodies};
 use rv_event::entry::Answer;
 use rv_exec::bodies::{Bodies, SharedUnit};
@@ -44,14 +44,6 @@ pub(crate) fn no_bodies_of_all(
     match Arc::new(alloc, ready) {
         Ok(ready) => Ok(ready),
         Err(_) => Err(AllocError),
-    }
-}
-
-// The bodies that a reply brings, if it does.
-fn lent_in(reply: Reply) -> Option<Lent> {
-    match reply {
-        Reply::Answered(_, _, lent) => lent,
-        _ => None,
     }
 }
 
@@ -125,13 +117,16 @@ impl Control {
         let Some(catalogue) = with_unit(self.alloc, &self.catalogue, &shape) else {
             return self.load_nothing(rt, shape);
         };
+        let Ok(bodies) = self.stacks.put_by(rt, &unit, self.given.len()) else {
+            return self.load_nothing(rt, shape);
+        };
         let reply = self.pass.act(rt, Ask::Load(shape, unit))?;
         let answer = heard(&self.bell, &reply);
         if answer.recorded().is_none() {
             return Ok(answer);
         }
         self.catalogue = catalogue;
-        self.lent = lent_in(reply);
+        self.stacks.keep(bodies);
         Ok(answer)
     }
 }
