@@ -5,7 +5,6 @@ use Rattle.std.specs.List.{list_all}
 use Rattle.std.proofs.Math.ListN.{set}
 use Rattle.std.proofs.lemmas.Bool.Decides.{nat_tests}
 use Rattle.std.proofs.lemmas.List.{length-append, map-set}
-use Rattle.rv_code.specs.Bodies as t
 use Rattle.rv_code.specs.declared.body.ObjectBodies.{ObjectBodies}
 use Rattle.rv_code.specs.BodyView.{list_at, object_view}
 

@@ -154,7 +154,7 @@ no_task_stands a = record { longer = omega arith; same = λ c le. refl; within =
 
 -- Lists that objects share
 
-or_none : Option (List t.Body) → List t.Body
+abbrev or_none : Option (List t.Body) → List t.Body
 or_none None = []
 or_none (Some xs) = xs
 
@@ -184,12 +184,7 @@ copy_stands a ts fs ls n f h bodies among = record {
   is = bodies ts ∙ list_is ts fs ls n h.is;
 }
 
-pub every_at : {F : Type 0} (P : F → Type 0) (fs : List F) (n : ℕ) (f : F) → slice_get fs n ≡ Some f → Every P fs → P f
-every_at P [] n f is h = absurd (cc is)
-every_at P (g ∷ fs) zero f is h = let same : g ≡ f = cc is in subst P same h.0
-every_at P (g ∷ fs) (suc n) f is h = every_at P fs n f is h.1
-
-every_get : {F : Type 0} (P : F → Type 0) (fs : List F) (n : ℕ) (f : F) → n < length fs → f ≡ get_or fs n f → Every P fs → P f
+pub every_get : {F : Type 0} (P : F → Type 0) (fs : List F) (n : ℕ) (f : F) → n < length fs → f ≡ get_or fs n f → Every P fs → P f
 every_get P [] n f lt at h = absurd (omega (arith, lt))
 every_get P (g ∷ fs) zero f lt at h = subst P (sym at) h.0
 every_get P (g ∷ fs) (suc n) f lt at h = every_get P fs n f (omega (arith, lt)) at h.1
