@@ -8,7 +8,7 @@ use Rattle.rv_behind.proofs.Doing.{does_ask, changed_is, changed_limits, brings_
 use Rattle.rv_behind.proofs.behind.Behind.operate.Goals as goal
 
 pub returns-in-Load-clause-does : goal.returns-in-Load-clause-does
-returns-in-Load-clause-does c = does_ask c.args.self.now.host.value (arc_value c.args.self.now.bodies).bodies 0 c.args.ask _ _ _ c.in-Load.is (subst Legal c.deref.ensures c.replays.ensures.legal) c.args.self.now.brought c.load-answer.ensures.does
+returns-in-Load-clause-does c = does_ask c.args.self.now.host.value (arc_value c.args.self.now.bodies).bodies 0 c.args.ask _ _ _ c.in-Load.is (subst Legal c.deref.ensures c.replays.ensures.legal) c.args.self.now.brought c.load.ensures.does
 
 pub returns-in-LoadWithoutMemory-clause-does : goal.returns-in-LoadWithoutMemory-clause-does
 returns-in-LoadWithoutMemory-clause-does c = does_ask c.args.self.now.host.value (arc_value c.args.self.now.bodies).bodies 0 c.args.ask _ _ _ c.in-LoadWithoutMemory.is (subst Legal c.deref.ensures c.replays.ensures.legal) c.args.self.now.brought c.load_without_memory.ensures.does
