@@ -79,7 +79,7 @@ fits_log h bodies l b = (
 
 -- what was lent are the bodies of the events
 lent_log : (h : History) (bodies : Bodies) (lent : Option Lent) → Legal h → AreBrought h bodies
-    → IfSome lent (λ l. bodies_view (arc_value l.bodies) ≡ bodies_view bodies) → IsLent (log_in h bodies) (lent_view lent)
+    → IfSome lent (λ l. bodies_view (arc_value l.bodies).bodies ≡ bodies_view bodies) → IsLent (log_in h bodies) (lent_view lent)
 lent_log h bodies None l b same = tt
 lent_log h bodies (Some lent) l b same = (
   same ∙ bodies_log h bodies l b,
@@ -87,12 +87,12 @@ lent_log h bodies (Some lent) l b same = (
 )
 
 -- the bodies are given
-pub given : (h : History) (bodies : Bodies) (a : ℕ) (lent : Option Lent) → Legal h → AreBrought h bodies → IfSome lent (λ l. bodies_view (arc_value l.bodies) ≡ bodies_view bodies)
+pub given : (h : History) (bodies : Bodies) (a : ℕ) (lent : Option Lent) → Legal h → AreBrought h bodies → IfSome lent (λ l. bodies_view (arc_value l.bodies).bodies ≡ bodies_view bodies)
     → Does h.limits (log_in h bodies) a Wants.Bodies (Gives.Bodies lent) (log_in h bodies)
 given h bodies a lent l some kept = (legal_log h (units_of bodies) l, fits_log h bodies l some, (lent_log h bodies lent l some kept, refl))
 
 pub stepped : (h k : History) (bodies : Bodies) (a : ℕ) (q : Request) (r : Answer) (b : Begun) (lent : Option Lent) → Legal h → AreBrought h bodies → r ≡ out h a q → k ≡ legal.after h a q r
-    → b ≡ begun_by k.shapes a q r → k.shapes ≡ h.shapes → IfSome lent (λ l. bodies_view (arc_value l.bodies) ≡ bodies_view bodies)
+    → b ≡ begun_by k.shapes a q r → k.shapes ≡ h.shapes → IfSome lent (λ l. bodies_view (arc_value l.bodies).bodies ≡ bodies_view bodies)
     → Does h.limits (log_in h bodies) a (Wants.Step q) (Gives.Answered r b lent) (log_in k bodies)
 stepped h k bodies a q r b lent l some is e begun same kept = let us = units_of bodies in (
   legal_log h us l,

@@ -126,7 +126,7 @@ IsLent log (Some bodies) = (bodies ≡ bodies_at log) × BodiesFit log
 -- the bodies that an answer brings, if it does (own)
 abbrev pub lent_view : Option Lent → Option Code.UnitBodies
 lent_view None = None
-lent_view (Some lent) = Some (bodies_view (arc_value lent.bodies))
+lent_view (Some lent) = Some (bodies_view (arc_value lent.bodies).bodies)
 
 -- what is due to an ask, on a legal history (own)
 abbrev pub Due : Limits → List Event → ℕ → Ask → Reply → List Event → Type 0

@@ -12,10 +12,10 @@ ghost use Rattle.rv_behind.specs.Acting.{AreBrought, Does, changes};
 use crate::event::{Ask, Event, Lent, Letter, NONE, Reply};
 use begun::begun_by;
 use rv_event::entry::{Answer, Request};
-use rv_exec::bodies::Bodies;
 use rv_history::limits::Limits;
 use rv_host::host::Host;
 use rv_host::pages::Page;
+use rv_runs::ready::Ready;
 use rv_turn::Counted;
 use rv_view::View;
 use std::alloc::{AllocFailed, Global};
@@ -31,8 +31,8 @@ pub struct Behind {
     /// The host.
     pub host: Box<Host>,
     /// The bodies of its units.
-    pub bodies: Arc<Bodies, Global>,
-    pub ghost brought: { AreBrought host.value (arc_value bodies) },
+    pub bodies: Arc<Ready, Global>,
+    pub ghost brought: { AreBrought host.value (arc_value bodies).bodies },
 }
 
 // Whether a body starts with the answer.
@@ -52,9 +52,9 @@ fn is_change(ask: &Ask) -> bool
 
 impl Behind {
     /// A host and the bodies of its units. Where there is no memory the host comes back.
-    pub fn boxed(alloc: Global, host: Host, bodies: Arc<Bodies, Global>) -> Result<Behind, Host>
-        requires { AreBrought host (arc_value bodies) }
-        ensures ok { IfOk result (λ b. (b.host.value ≡ host) × (arc_value b.bodies ≡ arc_value bodies)) }
+    pub fn boxed(alloc: Global, host: Host, bodies: Arc<Ready, Global>) -> Result<Behind, Host>
+        requires { AreBrought host (arc_value bodies).bodies }
+        ensures ok { IfOk result (λ b. (b.host.value ≡ host) × ((arc_value b.bodies).bodies ≡ (arc_value bodies).bodies)) }
         ensures err { IfErr result (λ h. h ≡ host) }
     {
         match Box::new(alloc, host) {
@@ -77,7 +77,7 @@ impl Behind {
 
     // The bodies. None where there are too many holders of them.
     fn share(&self) -> Option<Lent>
-        ensures { IfSome result (λ l. bodies_view (arc_value l.bodies) ≡ bodies_view (arc_value self.now.bodies)) }
+        ensures { IfSome result (λ l. bodies_view (arc_value l.bodies).bodies ≡ bodies_view (arc_value self.now.bodies).bodies) }
     {
         match Arc::try_clone(&self.bodies) {
             Ok(bodies) => Some(Lent { bodies }),
@@ -87,7 +87,7 @@ impl Behind {
 
     // The bodies, for an answer that starts one.
     fn lend(&self, answer: &Answer) -> Option<Lent>
-        ensures { IfSome result (λ l. bodies_view (arc_value l.bodies) ≡ bodies_view (arc_value self.now.bodies)) }
+        ensures { IfSome result (λ l. bodies_view (arc_value l.bodies).bodies ≡ bodies_view (arc_value self.now.bodies).bodies) }
     {
         if !starts(answer) {
             return None;
@@ -97,7 +97,7 @@ impl Behind {
 
     // The bodies, for a text.
     fn give_bodies(&self, actor: u64) -> Reply
-        ensures { Does self.now.host.value.limits (log_in self.now.host.value (arc_value self.now.bodies)) actor Ask.Bodies result (log_in self.now.host.value (arc_value self.now.bodies)) }
+        ensures { Does self.now.host.value.limits (log_in self.now.host.value (arc_value self.now.bodies).bodies) actor Ask.Bodies result (log_in self.now.host.value (arc_value self.now.bodies).bodies) }
     {
         self.host.replays();
         Reply::Bodies(self.share())
@@ -105,7 +105,7 @@ impl Behind {
 
     // A request, which is answered in its letter.
     fn step(&mut self, actor: u64, letter: &mut Letter)
-        ensures does { Does self.old.host.value.limits (log_in self.old.host.value (arc_value self.old.bodies)) actor (Ask.Step letter.old.request) (Reply.Answered letter.new.answer letter.new.begun letter.new.lent) (log_in self.new.host.value (arc_value self.new.bodies)) }
+        ensures does { Does self.old.host.value.limits (log_in self.old.host.value (arc_value self.old.bodies).bodies) actor (Ask.Step letter.old.request) (Reply.Answered letter.new.answer letter.new.begun letter.new.lent) (log_in self.new.host.value (arc_value self.new.bodies).bodies) }
         ensures request { letter.new.request ≡ letter.old.request }
         ensures about { self.new.host.value.limits ≡ self.old.host.value.limits }
     {
@@ -123,7 +123,7 @@ impl Behind {
 
     // A request, as one of several things to ask.
     fn request(&mut self, actor: u64, request: &Request) -> Reply
-        ensures does { Does self.old.host.value.limits (log_in self.old.host.value (arc_value self.old.bodies)) actor (Ask.Step request.now) result (log_in self.new.host.value (arc_value self.new.bodies)) }
+        ensures does { Does self.old.host.value.limits (log_in self.old.host.value (arc_value self.old.bodies).bodies) actor (Ask.Step request.now) result (log_in self.new.host.value (arc_value self.new.bodies).bodies) }
         ensures about { self.new.host.value.limits ≡ self.old.host.value.limits }
     {
         let mut letter = Letter::new(request);
@@ -139,7 +139,7 @@ impl Behind {
 
     // A page.
     fn read(&mut self, actor: u64, from: usize) -> Reply
-        ensures does { Does self.old.host.value.limits (log_in self.old.host.value (arc_value self.old.bodies)) actor (Ask.Read from) result (log_in self.new.host.value (arc_value self.new.bodies)) }
+        ensures does { Does self.old.host.value.limits (log_in self.old.host.value (arc_value self.old.bodies).bodies) actor (Ask.Read from) result (log_in self.new.host.value (arc_value self.new.bodies).bodies) }
         ensures about { self.new.host.value.limits ≡ self.old.host.value.limits }
     {
         let host = &*self.host;
@@ -153,7 +153,7 @@ impl Behind {
 
     // The entries of a page. No text is made, so that others don't wait for it.
     fn entries(&self, actor: u64, from: usize) -> Reply
-        ensures { Does self.now.host.value.limits (log_in self.now.host.value (arc_value self.now.bodies)) actor (Ask.Entries from) result (log_in self.now.host.value (arc_value self.now.bodies)) }
+        ensures { Does self.now.host.value.limits (log_in self.now.host.value (arc_value self.now.bodies).bodies) actor (Ask.Entries from) result (log_in self.now.host.value (arc_value self.now.bodies).bodies) }
     {
         let host = &*self.host;
         host.replays();
@@ -165,7 +165,7 @@ impl Behind {
 
     // What is shown.
     fn view(&self, actor: u64) -> Reply
-        ensures { Does self.now.host.value.limits (log_in self.now.host.value (arc_value self.now.bodies)) actor Ask.View result (log_in self.now.host.value (arc_value self.now.bodies)) }
+        ensures { Does self.now.host.value.limits (log_in self.now.host.value (arc_value self.now.bodies).bodies) actor Ask.View result (log_in self.now.host.value (arc_value self.now.bodies).bodies) }
     {
         let host = &*self.host;
         host.replays();
@@ -178,7 +178,7 @@ impl Behind {
     // What any actor may ask.
     fn serve(&mut self, actor: u64, ask: &Ask) -> Reply
         requires { changes ask.now ≡ false }
-        ensures does { Does self.old.host.value.limits (log_in self.old.host.value (arc_value self.old.bodies)) actor ask.now result (log_in self.new.host.value (arc_value self.new.bodies)) }
+        ensures does { Does self.old.host.value.limits (log_in self.old.host.value (arc_value self.old.bodies).bodies) actor ask.now result (log_in self.new.host.value (arc_value self.new.bodies).bodies) }
         ensures about { self.new.host.value.limits ≡ self.old.host.value.limits }
     {
         match ask {
@@ -194,7 +194,7 @@ impl Behind {
     // What the operator alone may ask.
     fn operate(&mut self, ask: Ask) -> Reply
         requires { changes ask ≡ true }
-        ensures does { Does self.old.host.value.limits (log_in self.old.host.value (arc_value self.old.bodies)) 0 ask result (log_in self.new.host.value (arc_value self.new.bodies)) }
+        ensures does { Does self.old.host.value.limits (log_in self.old.host.value (arc_value self.old.bodies).bodies) 0 ask result (log_in self.new.host.value (arc_value self.new.bodies).bodies) }
         ensures about { self.new.host.value.limits ≡ self.old.host.value.limits }
     {
         self.host.replays();
@@ -212,7 +212,7 @@ impl Behind {
     fn refuse(&self, actor: u64, ask: &Ask) -> Reply
         requires changes { changes ask.now ≡ true }
         requires other { actor ≡ 0 → ⊥ }
-        ensures { Does self.now.host.value.limits (log_in self.now.host.value (arc_value self.now.bodies)) actor ask.now result (log_in self.now.host.value (arc_value self.now.bodies)) }
+        ensures { Does self.now.host.value.limits (log_in self.now.host.value (arc_value self.now.bodies).bodies) actor ask.now result (log_in self.now.host.value (arc_value self.now.bodies).bodies) }
     {
         self.host.replays();
         let _ = ask;
@@ -238,7 +238,7 @@ impl Counted for Behind {
 
     type About = Limits;
 
-    ghost history = { λ b. log_in b.host.value (arc_value b.bodies) };
+    ghost history = { λ b. log_in b.host.value (arc_value b.bodies).bodies };
 
     ghost about = { λ b. b.host.value.limits };
 

@@ -7,7 +7,6 @@ ghost use Rattle.rv_turn.specs.Histories.{Each};
 ghost use Rattle.rv_crew.specs.Crews.{Keeps, Joins, IsStartFault, IsClosedBy, actor_of, mark_of, with_started, given_up, with_joined, owed};
 
 use crate::job::{Job, OfPort};
-use rv_exec::machine::STACK_BYTES;
 use rv_host::host::Host;
 use rv_port::control::{Control, Unclosed};
 use rv_port::note::Note;
@@ -17,6 +16,9 @@ use std::marker::Model;
 use std::mem;
 use std::sync::Wait;
 use std::thread::{Builder, PromisedHandle, Threads};
+
+/// The stack of a job's thread, in bytes. What the bodies of a port take stands in the port.
+pub const STACK_BYTES: usize = 256 * 1024;
 
 /// Why a job wasn't started.
 #[derive(Drop)]
@@ -106,8 +108,7 @@ impl Drop for StillOpen {
     }
 }
 
-// Runs a job on a port in a thread of its own, whose stack holds the deepest bodies. None where that is refused, or there is
-// no thread.
+// Runs a job on a port in a thread of its own. None where that is refused, or there is no thread.
 fn begin<R: Threads>(
     rt: &R,
     job: Job,

@@ -52,6 +52,24 @@ pub fn text_task<R: Wait>(rt: &R, mut port: Port, budget: u32) -> (Finished, End
     (port.finish_text(rt), ending)
 }
 
+/// The same job, which notifies of how the text ended, where there is a channel for that.
+pub fn noticed_text_task<R: Wait>(
+    rt: &R,
+    port: Port,
+    budget: u32,
+    notices: &Option<Sender<Notice>>,
+) -> Finished
+    ensures ran { (exit : Exit) × (done : Porting) × TextRan (pass_of port) port.refused budget exit (pass_of done) done.refused × LeavesText done.refused (pass_of done) (pass_of result) × (result.refused ≡ done.refused) }
+    ensures stays { Stays (pass_of port) (pass_of result) }
+    ensures explained { IsExplained result }
+    ensures followed { FollowsUnless result.refused budget (pass_of port) (pass_of result) }
+{
+    let actor = port.actor();
+    let (finished, ending) = text_task(rt, port, budget);
+    notify(rt, notices, actor, ending);
+    finished
+}
+
 /// The job of a device: it calls an operation without parameters so many times, by the numbers of
 /// its object and of the operation, and finishes. It goes on where a call is refused or raises an
 /// exception, and ends where one is stopped or doesn't fit its actor.
@@ -74,7 +92,7 @@ pub fn device<R: Wait>(
 fn notify_raised<R: Wait>(rt: &R, notices: &Option<Sender<Notice>>, actor: u64, reached: &Reached) {
     if let Reached::Raised(exception) = reached {
         let ending = Ending::Raised(*exception);
-        notify(rt, notices, Notice { actor, ending });
+        notify(rt, notices, actor, ending);
     }
 }
 

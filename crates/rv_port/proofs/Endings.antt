@@ -19,11 +19,13 @@ use Rattle.rv_behind.specs.declared.event.Reply.TheVariants as Gives
 use Rattle.rv_port.specs.declared.ended.Course.{Course}
 use Rattle.rv_port.specs.declared.ended.Ending.{Ending}
 use Rattle.rv_port.specs.declared.ended.Ending.TheVariants as Endings
-use Rattle.rv_port.specs.Calls.{marked, StopsBody, StoppedAt}
-use Rattle.rv_port.specs.Endings.{stop_of, stop_or, first_of, past, fresh, ending_of, TellsWhy, RunsCourse, EndsBy, OwnEnds, LentEnds, OwnGoes, LentGoes, TextEnded}
+use Rattle.rv_port.specs.Bodies.{IsHad, marked}
+use Rattle.rv_port.specs.Calls.{StopsBody, StoppedAt}
+use Rattle.rv_port.specs.Endings.{stop_of, stop_or, first_of, past, fresh, ending_of, TellsWhy, RunsCourse, EndsBy, OwnEnds, LentEnds, OwnGoes, LentGoes, TextEnded, TextGoes}
 use Rattle.rv_port.specs.Held.{held_by}
 use Rattle.rv_port.specs.Texts.{TextRuns, TextLent, TextRan, TextStops}
 use Rattle.rv_port.specs.Traces.{Passing, Trace, Went, WoreOut, Settled, SettlesBehind, told}
+use Rattle.rv_port.proofs.Performing.{had_lent}
 use Rattle.rv_port.proofs.Texts.{lent_run}
 use Rattle.rv_port.proofs.Finals.{final_is}
 
@@ -104,21 +106,34 @@ lent_ends None actor budget exit v trace w ending s t = t
 lent_ends (Some bodies) actor budget exit v trace w ending s t =
     own_ends (task_of bodies actor) budget exit v trace w ending (λ e. stopped_at bodies exit v trace s e) t
 
-abbrev Ran : Option Lent → Passing → ℕ → Exit → Passing → Ending → Type 0
-Ran lent u budget exit w ending =
-    (trace : Trace) × TextRuns (lent_view lent) u.actor budget trace exit × Went u trace w × LentGoes (lent_view lent) u.actor budget exit u trace w ending
+-- By the bodies that were had
+
+acted_had : (v u : Passing) (lent had : Option Lent) → IsHad lent had → Acted by Does v Wants.Bodies (Gives.Bodies lent) u → Acted by Does v Wants.Bodies (Gives.Bodies had) u
+acted_had v u lent had had_is a = record {
+  at = a.at;
+  later = a.later;
+  owned = a.owned;
+  about = a.about;
+  about_is = a.about_is;
+  answer = (a.answer.0, a.answer.1, (had_lent a.at lent had had_is a.answer.2.0, a.answer.2.1));
+  entry = a.entry;
+  owns = a.owns;
+  some_left = a.some_left;
+  same = a.same;
+}
 
 pub ran_lent : (v u w : Passing) (mark same after : Bool) (budget : ℕ) (exit : Exit) (ending : Ending) (lent : Option Lent) → held_by v ≡ 0 → Acted by Does v Wants.Bodies (Gives.Bodies lent) u → same ≡ mark
-    → Ran lent u budget exit w ending → after ≡ marked same (lent_view lent) → TextRan v mark budget exit w after
-ran_lent v u w mark same after budget exit ending lent none a is t k = inr (inr (lent_run v u w mark same after budget exit lent t.0 none a is t.1 t.2 k))
+    → TextGoes lent u same budget exit ending w after → TextRan v mark budget exit w after
+ran_lent v u w mark same after budget exit ending lent none a is t =
+    inr (inr (lent_run v u w mark same after budget exit t.had t.trace none (acted_had v u lent t.had t.had_is a) is t.runs t.went t.marked_is))
 
 pub ended_lent : (v u w : Passing) (mark same after : Bool) (budget : ℕ) (exit : Exit) (ending : Ending) (lent : Option Lent) → held_by v ≡ 0 → Acted by Does v Wants.Bodies (Gives.Bodies lent) u → same ≡ mark
-    → Ran lent u budget exit w ending → after ≡ marked same (lent_view lent) → TextEnded v mark budget exit ending w after
+    → TextGoes lent u same budget exit ending w after → TextEnded v mark budget exit ending w after
 unfolding lent_run
-ended_lent v u w mark same after budget exit ending lent none a is t k =
-    let run : TextLent v mark budget exit w after = lent_run v u w mark same after budget exit lent t.0 none a is t.1 t.2 k in
+ended_lent v u w mark same after budget exit ending lent none a is t =
+    let run : TextLent v mark budget exit w after = lent_run v u w mark same after budget exit t.had t.trace none (acted_had v u lent t.had t.had_is a) is t.runs t.went t.marked_is in
     inr (inr (
       run,
-      lent_ends (lent_view lent) v.actor budget exit u t.0 w ending run.stops
-          (subst (λ (n : ℕ). LentGoes (lent_view lent) n budget exit u t.0 w ending) (ap (λ (z : Passing). z.actor) a.same) t.3),
+      lent_ends (lent_view t.had) v.actor budget exit u t.trace w ending run.stops
+          (subst (λ (n : ℕ). LentGoes (lent_view t.had) n budget exit u t.trace w ending) (ap (λ (z : Passing). z.actor) a.same) t.goes),
     ))

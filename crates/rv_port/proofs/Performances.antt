@@ -31,7 +31,8 @@ use Rattle.rv_behind.specs.declared.event.Event.{Event}
 use Rattle.rv_accounts.specs.Explained.{ExplainedEnd, Explained}
 use Rattle.rv_accounts.proofs.Staying.{stays}
 use Rattle.rv_port.specs.Actors.{HasHandler}
-use Rattle.rv_port.specs.Calls.{marked, IsPause, EndsIf, RanOn, Ran, Resumed, Waited, Followed, Performed}
+use Rattle.rv_port.specs.Bodies.{marked}
+use Rattle.rv_port.specs.Calls.{IsPause, EndsIf, RanOn, Ran, Resumed, Waited, Followed, Performed}
 use Rattle.rv_port.specs.Held.{asked_so_far, held_by, Owns}
 use Rattle.rv_port.specs.Reaching.{Performs, arguments_of, waited_for}
 use Rattle.rv_port.specs.Traces.{Passing, Trace, limits_in, Asked}

@@ -1,5 +1,5 @@
 -- What a call did, from its parts.
-use Rattle.std.proofs.Common.{◌≡◌, ℕ, ◌+◌, ◌≤◌, Bool, true, false, List, [], ◌++◌, length, Option, Some, refl, sym, ap, ◌∙◌, subst, inr, ⊎_elim, append_assoc, append-nil, arith}
+use Rattle.std.proofs.Common.{◌≡◌, ℕ, ◌+◌, ◌≤◌, Bool, true, false, List, [], ◌++◌, length, Option, Some, None, refl, sym, ap, ◌∙◌, subst, inr, ⊎_elim, append_assoc, append-nil, arith}
 use Rattle.std.specs.Prelude.{ℤ, nat_lt, ◌==◌, IfSome}
 use Rattle.rv_event.specs.declared.entry.Request.{Request}
 use Rattle.rv_event.specs.declared.entry.Request.TheVariants.{Complete, Resume, Quit}
@@ -9,16 +9,16 @@ use Rattle.rv_behind.specs.declared.event.Event.{Event}
 use Rattle.rv_port.specs.declared.reached.Reached.{Reached}
 use Rattle.rv_behind.specs.Events.{catalogue_of, called}
 use Rattle.rv_port.specs.Traces.{Passing, Trace, InVain, Went, Asked, Replied, RepliedOnce, SettlesBehind, asks_on}
-use Rattle.rv_behind.specs.Acting.{begun_by, lent_view}
+use Rattle.rv_behind.specs.Acting.{begun_by, IsLent, lent_view}
 use Rattle.rv_code.specs.Bodies.{UnitBodies}
 use Rattle.rv_behind.specs.declared.event.Lent.{Lent}
 use Rattle.rv_port.specs.Reaching.{arguments_of, reads, plain_of, start_of, waits_on, waited_for}
 use Rattle.rv_port.proofs.Asking.{in_vain_later, asked_later}
 use Rattle.rv_port.proofs.Settles.{settles_to}
 use Rattle.rv_event.specs.declared.entry.Exit.{Exit}
-use Rattle.rv_port.specs.Bodies.{RunsTo}
+use Rattle.rv_port.specs.Bodies.{RunsTo, RanTo, IsHad, marked}
 use Rattle.rv_port.specs.Held.{held_by, Owns}
-use Rattle.rv_port.specs.Calls.{marked, EndsIf, RanOn, Resumed, Waited, Followed, Performed, QuitBy, Quits, Grown, Stays}
+use Rattle.rv_port.specs.Calls.{EndsIf, RanBehind, RanOn, Resumed, Waited, Followed, Performed, QuitBy, Quits, Grown, Stays}
 use Rattle.rv_turn.specs.Histories.{StartsWith}
 use Rattle.rv_turn.specs.Prefixes.{starts_self, starts_both}
 use Rattle.rv_behind.specs.declared.event.Begun.{Begun}
@@ -114,6 +114,41 @@ woken v u w m n q r b lent scalars begun reached x calm is at mark ran =
     let resumes : Resumed (Answers.Woken (Some scalars)) x.asked.at u m q reached w n =
     (lent_view lent, x.lent_is, mark, subst (λ (z : Begun). RanOn (lent_view lent) u z scalars (arguments_of q) reached w) at so) in
     inr (r, u, x.asked, calm, subst (λ (z : Answer). Resumed z x.asked.at u m q reached w n) (sym is) resumes)
+
+-- By the bodies that were had
+
+pub had_lent : (log : List Event) (lent had : Option Lent) → IsHad lent had → IsLent log (lent_view lent) → IsLent log (lent_view had)
+had_lent log lent had had_is is =
+    ⊎_elim (λ e. subst (λ (l : Option Lent). IsLent log (lent_view l)) (sym e) is) (λ e. subst (λ (l : Option Lent). IsLent log (lent_view l)) (sym e) tt) had_is
+
+replied_had : (v u : Passing) (q : Request) (r : Answer) (b : Begun) (lent had : Option Lent) → IsHad lent had → Replied v q r b lent u → Replied v q r b had u
+replied_had v u q r b lent had had_is x = record { asked = x.asked; lent_is = had_lent x.asked.at lent had had_is x.lent_is; begun_is = x.begun_is }
+
+on_some : (start : Option (List ℤ)) (P Q : List ℤ → Type 0) → ((s : List ℤ) → P s → Q s) → IfSome start P → IfSome start Q
+on_some None P Q f h = tt
+on_some (Some s) P Q f h = f s h
+
+pub ran_behind : (lent : Option Lent) (u v w : Passing) (mark middle after : Bool) (begun : Begun) (start : Option (List ℤ)) (scalars arguments : List ℤ) (p q : Request) (exit : Exit) (reached : Reached) (last first : ℕ)
+    → start ≡ Some scalars → arguments ≡ arguments_of p → RanTo lent u mark begun scalars arguments q exit v middle → Owns v → last ≡ held_by v → first ≡ held_by u
+    → EndsIf (last == first) v q exit reached w → after ≡ middle → IfSome start (λ s. RanBehind lent u mark begun s (arguments_of p) reached w after)
+ran_behind lent u v w mark middle after begun start scalars arguments p q exit reached last first is same ran owned e f ends stays =
+    on_some start (λ s. RanOn (lent_view ran.had) u begun s (arguments_of p) reached w) (λ s. RanBehind lent u mark begun s (arguments_of p) reached w after)
+    (λ s on. (ran.had, ran.had_is, on, stays ∙ ran.marked_is))
+    (ran_on (lent_view ran.had) u v w begun start scalars arguments p q exit reached last first is same (ran.trace, ran.runs, ran.went) owned e f ends)
+
+pub started_had : (v u w : Passing) (m k n : Bool) (q : Request) (r : Answer) (b : Begun) (lent : Option Lent) (scalars : List ℤ) (reached : Reached) → Replied v q r b lent u → asks_on r ≡ false → r ≡ Answers.Started scalars
+    → k ≡ m → IfSome (start_of r) (λ s. RanBehind lent u k b s (arguments_of q) reached w n) → Performed v m q reached w n
+started_had v u w m k n q r b lent scalars reached x calm is same ran =
+    let so : RanBehind lent u k b scalars (arguments_of q) reached w n = subst (λ (z : Answer). IfSome (start_of z) (λ s. RanBehind lent u k b s (arguments_of q) reached w n)) is ran in
+    started v u w m n q r b so.0 scalars reached (replied_had v u q r b lent so.0 so.1 x) calm is (so.3 ∙ ap (λ (z : Bool). marked z (lent_view so.0)) same)
+    (subst (λ (z : Answer). IfSome (start_of z) (λ s. RanOn (lent_view so.0) u b s (arguments_of q) reached w)) (sym is) so.2)
+
+pub woken_had : (v u w : Passing) (m k n : Bool) (q : Request) (r : Answer) (b : Begun) (lent : Option Lent) (scalars : List ℤ) (begun : Begun) (reached : Reached) → Replied v Resume r b lent u → asks_on r ≡ false
+    → r ≡ Answers.Woken (Some scalars) → begun ≡ waited_for q → k ≡ m → IfSome (start_of r) (λ s. RanBehind lent u k begun s (arguments_of q) reached w n) → Waited v m q reached w n
+woken_had v u w m k n q r b lent scalars begun reached x calm is at same ran =
+    let so : RanBehind lent u k begun scalars (arguments_of q) reached w n = subst (λ (z : Answer). IfSome (start_of z) (λ s. RanBehind lent u k begun s (arguments_of q) reached w n)) is ran in
+    woken v u w m n q r b so.0 scalars begun reached (replied_had v u Resume r b lent so.0 so.1 x) calm is at (so.3 ∙ ap (λ (z : Bool). marked z (lent_view so.0)) same)
+    (subst (λ (z : Answer). IfSome (start_of z) (λ s. RanOn (lent_view so.0) u begun s (arguments_of q) reached w)) (sym is) so.2)
 
 -- Growth of a pass's own events
 

@@ -20,7 +20,8 @@ use Rattle.rv_accounts.specs.Explained.{Explained}
 use Rattle.rv_accounts.specs.Followed.{TextFollowed}
 use Rattle.rv_accounts.proofs.Staying.{stays}
 use Rattle.rv_port.specs.Actors.{HasHandler}
-use Rattle.rv_port.specs.Calls.{marked, Quits}
+use Rattle.rv_port.specs.Bodies.{marked}
+use Rattle.rv_port.specs.Calls.{Quits}
 use Rattle.rv_port.specs.Ends.{EndsExplained, ExplainedUnless}
 use Rattle.rv_port.specs.Following.{FollowsUnless}
 use Rattle.rv_port.specs.Held.{held_by, Owns}

@@ -7,7 +7,8 @@ use Rattle.rv_turn.specs.Prefixes.{starts_self}
 use Rattle.rv_behind.specs.Events.{by}
 use Rattle.rv_behind.specs.Acting.{Does, IsLent, lent_view}
 use Rattle.rv_port.specs.Traces.{Passing, Trace, Went}
-use Rattle.rv_port.specs.Calls.{marked, Stays}
+use Rattle.rv_port.specs.Bodies.{marked}
+use Rattle.rv_port.specs.Calls.{Stays}
 use Rattle.rv_port.specs.Held.{held_by}
 use Rattle.rv_port.specs.Texts.{TextRuns, TextLent, TextRan}
 use Rattle.rv_behind.specs.declared.event.Lent.{Lent}

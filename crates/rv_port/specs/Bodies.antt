@@ -1,5 +1,5 @@
 -- What runs between a start and its end. (own)
-use Rattle.std.specs.Prelude.{◌≡◌, ℕ, ℤ, List, [], Option, Some, None}
+use Rattle.std.specs.Prelude.{◌≡◌, ◌⊎◌, ℕ, ℤ, Bool, true, List, [], Option, Some, None}
 use Rattle.rv_event.specs.declared.entry.Request.{Request}
 use Rattle.rv_event.specs.declared.entry.Request.TheVariants.{Complete}
 use Rattle.rv_event.specs.declared.entry.Exit.{Exit}
@@ -11,7 +11,10 @@ use Rattle.rv_exec.specs.Blocks.{operation_run_at}
 use Rattle.rv_outside.specs.Ends.{given_by}
 use Rattle.rv_port.specs.declared.body.Ended.{Ended}
 use Rattle.rv_behind.specs.declared.event.Begun.{Begun}
-use Rattle.rv_port.specs.Traces.{Trace}
+use Rattle.rv_behind.specs.declared.event.Lent.{Lent}
+use Rattle.rv_behind.specs.Acting.{lent_view}
+use Rattle.rv_port.specs.Held.{held_by}
+use Rattle.rv_port.specs.Traces.{Passing, Trace, Went}
 
 -- where the bodies couldn't be had the body leaves the scalars and exits by `raise Program_Error` (own)
 abbrev pub left_alone : Begun → List ℤ → Ended
@@ -30,3 +33,22 @@ Runs (Some bodies) held begun scalars arguments trace ended =
 abbrev pub RunsTo : Option UnitBodies → (held : ℕ) → Begun → List ℤ → List ℤ → Trace → Request → Exit → Type 0
 RunsTo bodies held begun scalars arguments trace request exit =
     (ended : Ended) × Runs bodies held begun scalars arguments trace ended × (request ≡ Complete ended.scalars ended.exit) × (exit ≡ ended.exit)
+
+-- the mark that bodies which were wanted couldn't be had, after a body ran by these bodies, or without (own)
+abbrev pub marked : Bool → Option UnitBodies → Bool
+marked mark None = true
+marked mark (Some bodies) = mark
+
+-- what was lent is had, unless memory for a run of it was refused (own)
+abbrev pub IsHad : Option Lent → Option Lent → Type 0
+IsHad lent had = (had ≡ lent) ⊎ (had ≡ None)
+
+-- A body that started on a port ran up to the request for its end, which is by this exit: by the bodies that were lent, or
+-- without, where they couldn't be had, which is marked. (own)
+pub record RanTo (lent : Option Lent) (v : Passing) (mark : Bool) (begun : Begun) (scalars arguments : List ℤ) (request : Request) (exit : Exit) (w : Passing) (after : Bool) : Type 0 where
+  pub had : Option Lent
+  pub had_is : IsHad lent had
+  pub trace : Trace
+  pub runs : RunsTo (lent_view had) (held_by v) begun scalars arguments trace request exit
+  pub went : Went v trace w
+  pub marked_is : after ≡ marked mark (lent_view had)

@@ -24,8 +24,9 @@ use Rattle.rv_port.specs.Later.{version_seen}
 use Rattle.rv_turn.specs.Histories.{StartsWith}
 use Rattle.rv_accounts.specs.Seen.{but_settles}
 use Rattle.rv_port.specs.Traces.{Passing, Trace, told, noted, WoreOut, Went, Asked, asks_on, SettlesBehind}
-use Rattle.rv_behind.specs.Acting.{IsLent}
-use Rattle.rv_port.specs.Bodies.{Runs}
+use Rattle.rv_behind.specs.Acting.{IsLent, lent_view}
+use Rattle.rv_behind.specs.declared.event.Lent.{Lent}
+use Rattle.rv_port.specs.Bodies.{Runs, IsHad, marked}
 use Rattle.rv_port.specs.Held.{held_by, Owns}
 use Rattle.rv_port.specs.Reaching.{arguments_of, reads, values_of, plain_of, end_of, reached_by, waits_on, waited_for}
 
@@ -70,10 +71,10 @@ pub record RanOn (bodies : Option UnitBodies) (started : Passing) (begun : Begun
   pub owned : Owns body
   pub end_is : EndsIf (held_by body == held_by started) body (Complete ended.scalars ended.exit) ended.exit reached w
 
--- the mark that bodies which were wanted couldn't be had, after a body ran by these bodies, or without (own)
-abbrev pub marked : Bool → Option UnitBodies → Bool
-marked mark None = true
-marked mark (Some bodies) = mark
+-- The same by the bodies that were lent, or without, where they couldn't be had, which is marked. (own)
+abbrev pub RanBehind : Option Lent → Passing → Bool → Begun → List ℤ → List ℤ → Reached → Passing → Bool → Type 0
+RanBehind lent started mark begun scalars arguments reached w after =
+    (had : Option Lent) × IsHad lent had × RanOn (lent_view had) started begun scalars arguments reached w × (after ≡ marked mark (lent_view had))
 
 -- The same by the bodies of all units that this history loads, or without, where a port can't hold them, which is marked. (own)
 abbrev pub Ran : List Event → Passing → Bool → Begun → List ℤ → List ℤ → Reached → Passing → Bool → Type 0

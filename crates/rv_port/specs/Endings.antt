@@ -15,9 +15,12 @@ use Rattle.rv_turn.specs.Passes.{IsWorn}
 use Rattle.rv_port.specs.declared.ended.Course.{Course}
 use Rattle.rv_port.specs.declared.ended.Ending.{Ending}
 use Rattle.rv_port.specs.declared.ended.Ending.TheVariants as Endings
+use Rattle.rv_behind.specs.Acting.{lent_view}
+use Rattle.rv_behind.specs.declared.event.Lent.{Lent}
+use Rattle.rv_port.specs.Bodies.{IsHad, marked}
 use Rattle.rv_port.specs.Held.{held_by}
-use Rattle.rv_port.specs.Texts.{TextBarred, TextLent}
-use Rattle.rv_port.specs.Traces.{Passing, Trace, told, asks_on, Asked, WoreOut, SettlesBehind}
+use Rattle.rv_port.specs.Texts.{TextBarred, TextLent, TextRuns}
+use Rattle.rv_port.specs.Traces.{Passing, Trace, told, asks_on, Asked, WoreOut, SettlesBehind, Went}
 
 -- how it is said
 abbrev pub ending_text : Ending → List ℕ
@@ -135,3 +138,13 @@ OwnGoes task budget exit v trace w ending = (c : Course) × RunsCourse (fresh bu
 abbrev pub LentGoes : Option UnitBodies → (actor budget : ℕ) → Exit → Passing → Trace → Passing → Ending → Type 0
 LentGoes None actor budget exit v trace w ending = ending ≡ Endings.NoBodies
 LentGoes (Some bodies) actor budget exit v trace w ending = OwnGoes (task_of bodies actor) budget exit v trace w ending
+
+-- The run of a text by the bodies that were lent, or without, where they couldn't be had, which is marked. (own)
+pub record TextGoes (lent : Option Lent) (v : Passing) (mark : Bool) (budget : ℕ) (exit : Exit) (ending : Ending) (w : Passing) (after : Bool) : Type 0 where
+  pub had : Option Lent
+  pub had_is : IsHad lent had
+  pub trace : Trace
+  pub runs : TextRuns (lent_view had) v.actor budget trace exit
+  pub went : Went v trace w
+  pub goes : LentGoes (lent_view had) v.actor budget exit v trace w ending
+  pub marked_is : after ≡ marked mark (lent_view had)

@@ -29,7 +29,7 @@ pub record Porting : Type 0 where
   pub given : List ℕ
   -- what no act changes
   pub about : Option Limits
-  -- the mark: a body was left alone, since there were too many holders of the bodies
+  -- the mark: a body was left alone, since there were too many holders of the bodies, or no memory for their run
   pub refused : Bool
 
 -- a port of a pass, with the mark (own)

@@ -11,7 +11,8 @@ use Rattle.rv_behind.specs.declared.event.Ask.TheVariants as Wants
 use Rattle.rv_behind.specs.declared.event.Reply.TheVariants as Gives
 use Rattle.rv_behind.specs.Acting.{Does, lent_view}
 use Rattle.rv_behind.specs.Events.{by}
-use Rattle.rv_port.specs.Calls.{marked, StoppedAt, Quits}
+use Rattle.rv_port.specs.Bodies.{marked}
+use Rattle.rv_port.specs.Calls.{StoppedAt, Quits}
 use Rattle.rv_port.specs.Held.{held_by}
 use Rattle.rv_port.specs.Traces.{Passing, Trace, Went}
 

@@ -14,6 +14,7 @@ ghost use Rattle.rv_port.specs.Traces.{RepliedOnce, Settled, SettlesBehind, Sett
 
 use crate::bell::Bell;
 use crate::ended::{Course, Ending, stop_of};
+use crate::stacks::PortStack;
 use rv_behind::behind::Behind;
 use rv_behind::event::Letter;
 use rv_event::entry::{Answer, Next, Request};
@@ -34,6 +35,8 @@ pub(crate) struct Asker {
     pub(crate) held: u64,
     // What the run of a text has come to. Each request of a body goes on with it; only a text's run begins it anew.
     pub(crate) course: Course,
+    // The stack on which its bodies and its text run.
+    pub(crate) stack: PortStack,
     pub(crate) ghost given: { pass.first ≡ false },
     pub(crate) ghost fresh: { pass.base ≡ [] },
     pub(crate) ghost limited: { is_some pass.about ≡ true },

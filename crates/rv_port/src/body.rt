@@ -1,20 +1,20 @@
 //! What runs between a start and its end.
 
-ghost use Rattle.std.specs.Prelude.{◌≡◌, Some};
-ghost use Rattle.std.specs.Arc.{arc_value};
-ghost use Rattle.rv_exec.specs.Bodies.{bodies_view};
-ghost use Rattle.rv_behind.specs.Acting.{lent_view};
-ghost use Rattle.rv_port.specs.Traces.{Trace, Went};
+ghost use Rattle.std.specs.Prelude.{◌≡◌, Option, Some};
+ghost use Rattle.rv_behind.specs.declared.event.Lent.{Lent as Brought};
 ghost use Rattle.rv_event.specs.declared.entry.Request.TheVariants.{Complete};
-ghost use Rattle.rv_port.specs.Bodies.{RunsTo, left_alone};
-ghost use Rattle.rv_port.specs.Calls.{marked};
+ghost use Rattle.rv_machine.specs.Machines.{IsFor};
+ghost use Rattle.rv_exec.specs.Bodies.{bodies_view};
+ghost use Rattle.rv_port.specs.Bodies.{RanTo, RunsTo, left_alone};
 ghost use Rattle.rv_port.specs.Held.{held_by};
+ghost use Rattle.rv_port.specs.Traces.{Trace, Went};
 
 use crate::asker::Asker;
 use rv_behind::event::{Begun, Lent};
 use rv_event::entry::{Exception, Exit, Request};
-use rv_exec::bodies::Bodies;
+use rv_machine::stack::Stack;
 use rv_outside::{put_end, run_body};
+use rv_runs::ready::Ready;
 use rv_value::{Args, Scalars};
 use std::sync::Wait;
 
@@ -35,34 +35,55 @@ fn leave_alone(begun: &Begun, scalars: &Scalars, request: &mut Request) -> Exit
     exit
 }
 
-// Runs the body of an operation, of these.
-fn run_one<R: Wait>(
-    rt: &R,
+// The same; the port is marked.
+fn leave_marked(
     asker: &mut Asker,
-    bodies: &Bodies,
     begun: &Begun,
     scalars: &Scalars,
     args: &Args,
     request: &mut Request,
 ) -> Exit
-    ensures runs { (trace : Trace) × RunsTo (Some (bodies_view bodies.now)) (held_by asker.old.pass) begun.now scalars.now args.now trace request.new result × Went asker.old.pass trace asker.new.pass }
+    ensures { (lent : Option Brought) → RanTo lent asker.old.pass asker.old.is_refused begun.now scalars.now args.now request.new result asker.new.pass asker.new.is_refused }
+{
+    let _ = args;
+    asker.is_refused = true;
+    leave_alone(begun, scalars, request)
+}
+
+// Runs the body of an operation, of these.
+fn run_one<R: Wait>(
+    rt: &R,
+    asker: &mut Asker,
+    ready: &Ready,
+    stack: Stack,
+    begun: &Begun,
+    scalars: &Scalars,
+    args: &Args,
+    request: &mut Request,
+) -> Exit
+    requires { IsFor ready.now.table.unit stack }
+    ensures runs { (trace : Trace) × RunsTo (Some (bodies_view ready.now.bodies)) (held_by asker.old.pass) begun.now scalars.now args.now trace request.new result × Went asker.old.pass trace asker.new.pass }
     ensures mark { asker.new.is_refused ≡ asker.old.is_refused }
 {
-    run_body(
+    let (exit, stack) = run_body(
         rt,
-        bodies,
+        ready,
+        stack,
         asker.held as usize,
         begun,
         scalars,
         args,
         asker,
         request,
-    )
+    );
+    asker.stack.put_back(stack);
+    exit
 }
 
 /// Runs the body of an operation on these scalars, with these values, asking by the port's own
 /// asker, outside the turn; and puts the request for its end, whose exit it gives. Where the bodies
-/// couldn't be had it asks nothing, leaves the scalars and exits by `raise Program_Error`.
+/// couldn't be had, or a stack for their run, it asks nothing, leaves the scalars and exits by
+/// `raise Program_Error`.
 pub(crate) fn run<R: Wait>(
     rt: &R,
     asker: &mut Asker,
@@ -72,14 +93,14 @@ pub(crate) fn run<R: Wait>(
     args: &Args,
     request: &mut Request,
 ) -> Exit
-    ensures runs { (trace : Trace) × RunsTo (lent_view lent.now) (held_by asker.old.pass) begun.now scalars.now args.now trace request.new result × Went asker.old.pass trace asker.new.pass }
-    ensures mark { asker.new.is_refused ≡ marked asker.old.is_refused (lent_view lent.now) }
+    ensures { RanTo lent.now asker.old.pass asker.old.is_refused begun.now scalars.now args.now request.new result asker.new.pass asker.new.is_refused }
 {
-    match lent {
-        Some(lent) => run_one(rt, asker, &lent.bodies, begun, scalars, args, request),
-        None => {
-            asker.is_refused = true;
-            leave_alone(begun, scalars, request)
-        }
+    let Some(lent) = lent else {
+        return leave_marked(asker, begun, scalars, args, request);
+    };
+    let ready = &*lent.bodies;
+    match asker.stack.taken(rt, &ready.table) {
+        Some(stack) => run_one(rt, asker, ready, stack, begun, scalars, args, request),
+        None => leave_marked(asker, begun, scalars, args, request),
     }
 }

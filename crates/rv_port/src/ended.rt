@@ -27,7 +27,7 @@ pub enum Ending {
     Misuse,
     /// No act was left.
     Worn,
-    /// No body ran: its unit has none, or the bodies had too many holders.
+    /// No body ran: its unit has none, or the bodies had too many holders, or no stack was there for their run.
     NoBodies,
     /// No body ran, since its task was left in a body that it had called.
     LeftInBody,

@@ -13,6 +13,7 @@ pub mod note;
 mod performance;
 pub mod port;
 pub mod reached;
+mod stacks;
 mod text;
 
 pub use rv_behind::{behind, event};

@@ -1,8 +1,7 @@
 //! One performance of a request: its answer, and where a body starts, the body and its end.
 
 ghost use Rattle.std.specs.Prelude.{◌≡◌, ◌==◌, true, is_some, IfSome};
-ghost use Rattle.rv_behind.specs.Acting.{lent_view};
-ghost use Rattle.rv_port.specs.Calls.{EndsIf, RanOn, Waited, Performed, Stays, Tied, marked};
+ghost use Rattle.rv_port.specs.Calls.{EndsIf, RanBehind, Waited, Performed, Stays, Tied};
 ghost use Rattle.rv_port.specs.Ends.{ExplainedUnless};
 ghost use Rattle.rv_port.specs.Reaching.{Performs, arguments_of, start_of};
 
@@ -52,8 +51,7 @@ impl Asker {
         request: &Request,
     ) -> Reached
         requires { is_some (start_of letter.old.answer) ≡ true }
-        ensures ran { IfSome (start_of letter.old.answer) (λ scalars. RanOn (lent_view letter.old.lent) self.old.pass begun scalars (arguments_of request.now) result self.new.pass) }
-        ensures mark { self.new.is_refused ≡ marked self.old.is_refused (lent_view letter.old.lent) }
+        ensures { IfSome (start_of letter.old.answer) (λ scalars. RanBehind letter.old.lent self.old.pass self.old.is_refused begun scalars (arguments_of request.now) result self.new.pass self.new.is_refused) }
     {
         let Some(scalars) = start_of(&letter.answer) else {
             unreachable!()

@@ -22,6 +22,7 @@ use crate::ended::Course;
 use crate::gate::{Gate, Open};
 use crate::note::Note;
 use crate::reached::Reached;
+use crate::stacks::PortStack;
 use rv_behind::behind::Behind;
 use rv_event::entry::Request;
 use rv_turn::Pass;
@@ -122,7 +123,7 @@ impl Finished {
         let _ = &self.pass;
     }
 
-    /// Whether a body was ever left alone because there were too many holders of the bodies.
+    /// Whether a body was ever left alone because there were too many holders of the bodies, or no stack for their run.
     pub fn is_refused(&self) -> bool
         ensures { result ≡ self.now.refused }
     {
@@ -132,7 +133,7 @@ impl Finished {
 
 impl Port {
     // The port of a new pass.
-    pub(crate) fn new(pass: Pass<Behind>, bell: Arc<Bell, Global>) -> Port
+    pub(crate) fn new(pass: Pass<Behind>, bell: Arc<Bell, Global>, stack: PortStack) -> Port
         requires given { pass.first ≡ false }
         requires limited { is_some pass.about ≡ true }
         requires fresh { pass.base ≡ [] }
@@ -150,6 +151,7 @@ impl Port {
                 is_refused: false,
                 held: 0,
                 course: Course::fresh(0),
+                stack,
             },
         }
     }
@@ -195,8 +197,7 @@ impl Port {
     /// A call of an operation (9.5.1, 9.5.3, D.10): by the numbers of its object and of the
     /// operation, each from 1, with the values of the `in` and `in out` parameters. It waits while
     /// the object is held by others, and where the call is queued. The body, and each that it calls,
-    /// runs outside the turn, on the stack of the calling thread: `rv_exec::machine::STACK_BYTES` of
-    /// it, 512 MiB, hold the deepest that a text can give; the 8 MiB of a thread by default do not.
+    /// runs outside the turn, on a stack of the port's own, and takes no memory.
     pub fn call<R: Wait>(&mut self, rt: &R, object: usize, operation: usize, args: Args) -> Reached
         ensures performed { PerformedBy self.old (asks.Call object operation args) result self.new }
         ensures tied { Tied (pass_of self.old) (asks.Call object operation args) result (pass_of self.new) }

@@ -9,11 +9,20 @@ use rv_exec::bodies::Bodies;
 use std::alloc::{AllocError, Global};
 
 /// The bodies of all units that are loaded, as their texts give them and as a machine runs them.
-#[derive(Drop)]
 pub struct Ready {
     pub bodies: Bodies,
     pub table: Table,
     ghost tabled: { ∥ flat_view table.unit ≡ bodies_view bodies ∥₁ },
+}
+
+impl Drop for Ready {
+    // A function of its own: a derived one is written out wherever bodies are let go, and proved there.
+    fn drop(self) {
+        let Ready {
+            bodies: _,
+            table: _,
+        } = self;
+    }
 }
 
 impl Ready {

@@ -1,6 +1,6 @@
 //! The stack of an actor's runs.
 
-ghost use Rattle.std.specs.Prelude.{◌≡◌, ◌≤◌, [], IfOk, IsTrue};
+ghost use Rattle.std.specs.Prelude.{◌≡◌, ◌≤◌, [], IfOk, IfSome, IsTrue};
 ghost use Rattle.rv_machine.specs.Machines.{IsFor};
 ghost use Rattle.rv_machine.specs.Stacks.{waiting, set_aside};
 
@@ -10,10 +10,16 @@ use rv_machine::stack::Stack;
 use std::alloc::{AllocError, Global};
 
 /// The stack of an actor's runs, while none is under way: each run takes it, and gives it back at its end.
-#[derive(Drop)]
 pub struct Spare {
     alloc: Global,
     stack: Option<Stack>,
+}
+
+impl Drop for Spare {
+    // A function of its own: a derived one is written out wherever a stack is let go, and proved there.
+    fn drop(self) {
+        let Spare { alloc: _, stack: _ } = self;
+    }
 }
 
 // Whether nothing stands on a stack, and it has the memory for this need.
@@ -35,15 +41,36 @@ impl Spare {
         Spare { alloc, stack: None }
     }
 
+    /// A stack with so much memory. Err where memory was refused.
+    pub fn reserve(alloc: Global, need: Need) -> Result<Spare, AllocError> {
+        let stack = Stack::reserve(alloc, need.frames, need.activations)?;
+        Ok(Spare {
+            alloc,
+            stack: Some(stack),
+        })
+    }
+
+    /// The stack, where it has the memory that any run of these bodies takes. It takes none. None where it has less, or is taken.
+    pub fn fitting(&mut self, table: &Table) -> Option<Stack>
+        ensures { IfSome result (IsFor table.now.unit) }
+    {
+        let Some(stack) = self.stack.take() else {
+            return None;
+        };
+        if is_room(&stack, table.need) {
+            return Some(stack);
+        }
+        self.stack = Some(stack);
+        None
+    }
+
     /// The stack, with the memory that any run of these bodies takes: where it has less, one that has it takes its place. Err
     /// where memory was refused.
     pub fn taken(&mut self, table: &Table) -> Result<Stack, AllocError>
         ensures { IfOk result (IsFor table.now.unit) }
     {
-        if let Some(stack) = self.stack.take() {
-            if is_room(&stack, table.need) {
-                return Ok(stack);
-            }
+        if let Some(stack) = self.fitting(table) {
+            return Ok(stack);
         }
         table.stack(self.alloc)
     }
@@ -51,12 +78,5 @@ impl Spare {
     /// The stack of a run that has ended is kept for the next one.
     pub fn put_back(&mut self, stack: Stack) {
         self.stack = Some(stack);
-    }
-
-    /// Takes the memory that any run of these bodies takes, before the first one. Err where memory was refused.
-    pub fn reserve(&mut self, table: &Table) -> Result<(), AllocError> {
-        let stack = self.taken(table)?;
-        self.put_back(stack);
-        Ok(())
     }
 }

@@ -15,11 +15,17 @@ use rv_machine::table::table;
 use std::alloc::{AllocError, Global};
 
 /// Bodies over one table, and how much memory any run of them takes.
-#[derive(Drop)]
 pub struct Table {
     pub unit: FlatUnit,
     pub need: Need,
     ghost needed: { IsNeed unit need },
+}
+
+impl Drop for Table {
+    // A function of its own: a derived one is written out wherever a table is let go, and proved there.
+    fn drop(self) {
+        let Table { unit: _, need: _ } = self;
+    }
 }
 
 impl Table {
@@ -31,6 +37,7 @@ impl Table {
         let need = Need::of(alloc, &unit)?;
         Ok(Table { unit, need })
     }
+
     /// An empty stack with all memory that any run of these bodies takes. Err where memory was refused.
     pub fn stack(&self, alloc: Global) -> Result<Stack, AllocError>
         ensures { IfOk result (IsFor self.now.unit) }

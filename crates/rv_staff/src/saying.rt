@@ -70,7 +70,11 @@ pub fn notice_line(
 ) -> Result<String, AllocError>
     ensures { IfOk result (λ line. string_bytes line ≡ notice_line catalogue.now notice.now) }
 {
-    ending_line(alloc, &catalogue.who(notice.actor as usize), &notice.ending)
+    ending_line(
+        alloc,
+        &catalogue.who(notice.actor() as usize),
+        &notice.ending(),
+    )
 }
 
 // What is said of actors whose ports were lost.

@@ -1,12 +1,12 @@
 //! What the threads of a run do.
 
 ghost use Rattle.std.specs.Prelude.{◌≡◌};
-ghost use Rattle.rv_staff.specs.Working.{LinesWork, TextWorks, Works};
+ghost use Rattle.rv_staff.specs.Working.{LinesWork, Works};
 
 use crossbeam_channel::{Receiver, Sender};
 use rv_actor::{Desk, actor_task};
-use rv_crew::notice::{Notice, notify};
-use rv_crew::tasks::{device, line_task, text_task};
+use rv_crew::notice::Notice;
+use rv_crew::tasks::{device, line_task, noticed_text_task};
 use rv_pipes::Pipes;
 use rv_port::port::{Finished, Port};
 use rv_shape::catalogue::Catalogue;
@@ -26,18 +26,6 @@ pub enum Work {
     Line(Receiver<u8>, Option<Sender<Notice>>),
     /// It performs what another process asks by pipes, with the names of a catalogue.
     Lines(Global, Pipes, Catalogue),
-}
-
-// Runs the text of a task, finishes its port, and notifies of how the text ended.
-fn run_text<R: Wait>(rt: &R, port: Port, budget: u32, notices: &Option<Sender<Notice>>) -> Finished
-    ensures ran { TextWorks budget port result }
-    ensures turn { result.turn ≡ port.turn }
-    ensures actor { result.actor ≡ port.actor }
-{
-    let actor = port.actor();
-    let (finished, ending) = text_task(rt, port, budget);
-    notify(rt, notices, Notice { actor, ending });
-    finished
 }
 
 // Performs what comes by pipes, a line after another, and finishes the port.
@@ -84,7 +72,7 @@ pub fn perform<R: Wait + Clock>(rt: &R, port: Port, work: Work) -> Finished
     ensures actor { result.actor ≡ port.actor }
 {
     match work {
-        Work::Text(budget, notices) => run_text(rt, port, budget, &notices),
+        Work::Text(budget, notices) => noticed_text_task(rt, port, budget, &notices),
         Work::Device(object, operation, calls) => device(rt, port, object, operation, calls),
         Work::Line(raised, notices) => line_task(rt, port, raised, notices),
         Work::Lines(alloc, pipes, names) => serve_lines(rt, alloc, port, pipes, &names),

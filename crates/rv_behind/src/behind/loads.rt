@@ -11,21 +11,18 @@ use rv_code::UnitBodies;
 use rv_event::entry::Answer;
 use rv_exec::bodies::{Bodies, SharedUnit};
 use rv_fits::may_load;
+use rv_runs::ready::Ready;
 use rv_shape::shape::UnitShape;
 use std::alloc::{AllocError, Global};
 use std::sync::Arc;
 
 // The bodies with those of one more unit, which others may hold.
-fn grown(
-    alloc: Global,
-    bodies: &Bodies,
-    unit: SharedUnit,
-) -> Result<Arc<Bodies, Global>, AllocError>
-    ensures { IfOk result (λ b. units_of (arc_value b) ≡ units_of bodies.now ++ held unit ∷ []) }
+fn grown(alloc: Global, bodies: &Bodies, unit: SharedUnit) -> Result<Arc<Ready, Global>, AllocError>
+    ensures { IfOk result (λ b. units_of (arc_value b).bodies ≡ units_of bodies.now ++ held unit ∷ []) }
 {
-    let bodies = bodies.with(unit)?;
-    match Arc::new(alloc, bodies) {
-        Ok(bodies) => Ok(bodies),
+    let ready = Ready::of(alloc, bodies.with(unit)?)?;
+    match Arc::new(alloc, ready) {
+        Ok(ready) => Ok(ready),
         Err(_) => Err(AllocError),
     }
 }
@@ -33,7 +30,7 @@ fn grown(
 impl Behind {
     // Whether a unit's bodies are found to be numbered as its shape is, and their calls to fit the units that are loaded, with its own.
     fn are_fitting(&self, shape: &UnitShape, unit: &UnitBodies) -> bool
-        ensures { result ≡ true → fits_behind (log_in self.now.host.value (arc_value self.now.bodies)) shape.now unit.now ≡ true }
+        ensures { result ≡ true → fits_behind (log_in self.now.host.value (arc_value self.now.bodies).bodies) shape.now unit.now ≡ true }
     {
         let host = &*self.host;
         host.replays();
@@ -44,14 +41,14 @@ impl Behind {
     }
 
     // The bodies with those of one more unit, which fit. None where they don't, or memory is refused.
-    fn grown_by(&self, shape: &UnitShape, unit: SharedUnit) -> Option<Arc<Bodies, Global>>
-        ensures units { IfSome result (λ b. units_of (arc_value b) ≡ units_of (arc_value self.now.bodies) ++ held unit ∷ []) }
-        ensures fits { IfSome result (λ _. fits_behind (log_in self.now.host.value (arc_value self.now.bodies)) shape.now (held unit) ≡ true) }
+    fn grown_by(&self, shape: &UnitShape, unit: SharedUnit) -> Option<Arc<Ready, Global>>
+        ensures units { IfSome result (λ b. units_of (arc_value b).bodies ≡ units_of (arc_value self.now.bodies).bodies ++ held unit ∷ []) }
+        ensures fits { IfSome result (λ _. fits_behind (log_in self.now.host.value (arc_value self.now.bodies).bodies) shape.now (held unit) ≡ true) }
     {
         if !self.are_fitting(shape, unit.bodies()) {
             return None;
         }
-        match grown(self.alloc, &self.bodies, unit) {
+        match grown(self.alloc, &self.bodies.bodies, unit) {
             Ok(bodies) => Some(bodies),
             Err(_) => None,
         }
@@ -60,7 +57,7 @@ impl Behind {
     /// A load by the operator. The memory of its bodies is taken before its entry is added. A unit whose bodies don't fit
     /// isn't accepted.
     pub(crate) fn load(&mut self, shape: &UnitShape, unit: SharedUnit) -> Answer
-        ensures does { LoadedIf (fits_behind (log_in self.old.host.value (arc_value self.old.bodies)) shape.now (held unit)) self.old.host.value.limits (log_in self.old.host.value (arc_value self.old.bodies)) shape.now (held unit) result (log_in self.new.host.value (arc_value self.new.bodies)) }
+        ensures does { LoadedIf (fits_behind (log_in self.old.host.value (arc_value self.old.bodies).bodies) shape.now (held unit)) self.old.host.value.limits (log_in self.old.host.value (arc_value self.old.bodies).bodies) shape.now (held unit) result (log_in self.new.host.value (arc_value self.new.bodies).bodies) }
         ensures about { self.new.host.value.limits ≡ self.old.host.value.limits }
     {
         self.host.replays();
@@ -77,7 +74,7 @@ impl Behind {
 
     /// A load by the operator, for which there is no memory.
     pub(crate) fn load_without_memory(&mut self, shape: &UnitShape) -> Answer
-        ensures does { Unloaded self.old.host.value.limits (log_in self.old.host.value (arc_value self.old.bodies)) shape.now result (log_in self.new.host.value (arc_value self.new.bodies)) }
+        ensures does { Unloaded self.old.host.value.limits (log_in self.old.host.value (arc_value self.old.bodies).bodies) shape.now result (log_in self.new.host.value (arc_value self.new.bodies).bodies) }
         ensures about { self.new.host.value.limits ≡ self.old.host.value.limits }
     {
         let host = &*self.host;

@@ -80,6 +80,7 @@ impl Control {
             given: _,
             catalogue: _,
             lists: _,
+            stacks: _,
         } = self;
         meet_all(&mut pass, notes);
         let behind = turn.close(rt, pass, passes);

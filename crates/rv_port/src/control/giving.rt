@@ -48,7 +48,7 @@ fn is_performer(catalogue: &Catalogue, actor: u64) -> bool
 }
 
 impl Control {
-    /// The port of an actor that may have one, and had none.
+    /// The port of an actor that may have one, and had none. It takes all memory that any run of the loaded bodies takes.
     pub fn port(&mut self, actor: u64) -> Result<Port, PortFault>
         ensures ok { IfOk result (λ p. IsGiven self.old actor self.new (pass_of p) × (p.refused ≡ false)) }
         ensures fault { IfErr result (λ f. IsPortFault actor self.old.given (catalogue_of self.old.seen) self.old.left f) }
@@ -69,10 +69,13 @@ impl Control {
         if self.given.reserve(1).is_err() {
             return Err(PortFault::NoMemory);
         }
+        let Ok(stack) = self.stacks.given() else {
+            return Err(PortFault::NoMemory);
+        };
         match self.pass.split(actor, PORT_ACTS) {
             Ok(pass) => {
                 put_first(&mut self.given, actor);
-                Ok(Port::new(pass, bell))
+                Ok(Port::new(pass, bell, stack))
             }
             Err(SplitFault::TooFew) => Err(PortFault::Worn),
             Err(SplitFault::NoMemory) => Err(PortFault::NoMemory),

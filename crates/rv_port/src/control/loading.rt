@@ -15,6 +15,7 @@ use rv_code::{Unit, UnitBodies};
 use rv_event::entry::Answer;
 use rv_exec::bodies::{Bodies, SharedUnit};
 use rv_fits::{may_load, with_unit};
+use rv_runs::ready::Ready;
 use rv_shape::shape::UnitShape;
 use rv_turn::Worn;
 use std::alloc::{AllocError, Global};
@@ -27,20 +28,21 @@ fn no_bodies_of(alloc: Global, shape: &UnitShape) -> Result<SharedUnit, AllocErr
     SharedUnit::new(alloc, UnitBodies::of_shape(alloc, shape)?)
 }
 
-/// The bodies of units that were loaded before as shapes alone.
+/// The bodies of units that were loaded before as shapes alone. Err where memory was refused.
 pub(crate) fn no_bodies_of_all(
     alloc: Global,
     shapes: &[UnitShape],
-) -> Result<Arc<Bodies, Global>, AllocError>
-    ensures { IfOk result (λ b. map unit_view (units_of (arc_value b)) ≡ map no_bodies_of shapes.now) }
+) -> Result<Arc<Ready, Global>, AllocError>
+    ensures { IfOk result (λ b. map unit_view (units_of (arc_value b).bodies) ≡ map no_bodies_of shapes.now) }
 {
     let mut bodies = Bodies::new(alloc);
     for shape in shapes {
         let unit = no_bodies_of(alloc, shape)?;
         bodies = bodies.with(unit)?;
     }
-    match Arc::new(alloc, bodies) {
-        Ok(bodies) => Ok(bodies),
+    let ready = Ready::of(alloc, bodies)?;
+    match Arc::new(alloc, ready) {
+        Ok(ready) => Ok(ready),
         Err(_) => Err(AllocError),
     }
 }
@@ -115,12 +117,16 @@ impl Control {
         let Some(catalogue) = with_unit(self.alloc, &self.catalogue, &shape) else {
             return self.load_nothing(rt, shape);
         };
+        let Ok(bodies) = self.stacks.put_by(rt, &unit, self.given.len()) else {
+            return self.load_nothing(rt, shape);
+        };
         let reply = self.pass.act(rt, Ask::Load(shape, unit))?;
         let answer = heard(&self.bell, &reply);
         if answer.recorded().is_none() {
             return Ok(answer);
         }
         self.catalogue = catalogue;
+        self.stacks.keep(bodies);
         Ok(answer)
     }
 }

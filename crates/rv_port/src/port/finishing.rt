@@ -64,6 +64,7 @@ fn finished(asker: Asker) -> Finished
         is_refused,
         held: _,
         course: _,
+        stack: _,
     } = asker;
     Finished { pass, is_refused }
 }

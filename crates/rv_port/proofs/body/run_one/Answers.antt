@@ -9,10 +9,12 @@ use Rattle.rv_port.proofs.body.run_one.Goals as goal
 
 pub returns-clause-runs : goal.returns-clause-runs
 returns-clause-runs g c =
-    let ended : Ended = record { scalars = given_by c.args.begun.now c.run_body.ensures.left; exit = c.run_body.result } in
-    let along = subst (λ (n : ℕ). Along (operation_run_at (bodies_view c.args.bodies.now) n c.args.begun.now.object c.args.begun.now.operation c.args.args.now c.args.scalars.now) c.run_body.ensures.ran.trace (c.run_body.result, c.run_body.ensures.left))
-    c.args.asker.now.counts c.run_body.ensures.ran.along in (
-      c.run_body.ensures.ran.trace,
-      (ended, (c.run_body.ensures.left, along, refl), c.run_body.ensures.ends, refl),
-      c.run_body.ensures.ran.outside.0 (bodies_never_settle (bodies_view c.args.bodies.now) _ _ _ _ _ _ _ _ c.run_body.ensures.ran.along),
+    let bodies = bodies_view c.args.ready.now.bodies in
+    let exit = c.run_body-exit.result.0 in
+    let ended : Ended = record { scalars = given_by c.args.begun.now c.run_body-exit.ensures.left; exit = exit } in
+    let along = subst (λ (n : ℕ). Along (operation_run_at bodies n c.args.begun.now.object c.args.begun.now.operation c.args.args.now c.args.scalars.now) c.run_body-exit.ensures.ran.trace (exit, c.run_body-exit.ensures.left))
+    c.args.asker.now.counts c.run_body-exit.ensures.ran.along in (
+      c.run_body-exit.ensures.ran.trace,
+      (ended, (c.run_body-exit.ensures.left, along, refl), c.run_body-exit.ensures.ends, refl),
+      c.run_body-exit.ensures.ran.outside.0 (bodies_never_settle bodies _ _ _ _ _ _ _ _ c.run_body-exit.ensures.ran.along),
     )

@@ -10,5 +10,5 @@ use Rattle.rv_behind.proofs.behind.Behind.are_fitting.Goals as goal
 pub returns-in-Some : goal.returns-in-Some
 returns-in-Some c = let s = c.args.self.now in
     let shapes : c.catalogue.result.now ≡ s.host.value.shapes = search rules in
-    fits_found s.host.value (arc_value s.bodies) c.args.shape.now c.args.unit.now _ (subst Legal c.deref-host.ensures c.replays.ensures.legal)
+    fits_found s.host.value (arc_value s.bodies).bodies c.args.shape.now c.args.unit.now _ (subst Legal c.deref-host.ensures c.replays.ensures.legal)
     (c.in-Some.ensures ∙ ap (λ (z : List Shape). are_of z c.args.shape.now (unit_view c.args.unit.now)) shapes)

@@ -5,4 +5,4 @@ use Rattle.rv_behind.proofs.Doing.{given}
 use Rattle.rv_behind.proofs.behind.Behind.give_bodies.Goals as goal
 
 pub returns : goal.returns
-returns c = given c.args.self.now.host.value (arc_value c.args.self.now.bodies) c.args.actor c.share.result (subst Legal c.deref.ensures c.replays.ensures.legal) c.args.self.now.brought c.share.ensures
+returns c = given c.args.self.now.host.value (arc_value c.args.self.now.bodies).bodies c.args.actor c.share.result (subst Legal c.deref.ensures c.replays.ensures.legal) c.args.self.now.brought c.share.ensures

@@ -10,8 +10,8 @@ use Rattle.rv_behind.proofs.behind.Behind.load_without_memory.Goals as goal
 
 pub returns-then-is_some-clause-does : goal.returns-then-is_some-clause-does
 returns-then-is_some-clause-does c = let is : is_some (recorded c.due_load-due.result) ≡ true = search (rules, tests) in
-    unloaded_lack c.args.self.now.host.value (units_of (arc_value c.args.self.now.bodies)) c.args.shape.now _ (subst Legal c.deref-host.ensures c.replays.ensures.legal) (c.due_load-due.ensures ∙ ap (λ (z : History). out_load z c.args.shape.now) c.deref-host.ensures) is
+    unloaded_lack c.args.self.now.host.value (units_of (arc_value c.args.self.now.bodies).bodies) c.args.shape.now _ (subst Legal c.deref-host.ensures c.replays.ensures.legal) (c.due_load-due.ensures ∙ ap (λ (z : History). out_load z c.args.shape.now) c.deref-host.ensures) is
 
 pub returns-clause-does : goal.returns-clause-does
 returns-clause-does c = let is : is_some (recorded c.due_load-due.result) ≡ false = search (rules, tests) in
-    unloaded_due c.args.self.now.host.value (units_of (arc_value c.args.self.now.bodies)) c.args.shape.now _ (subst Legal c.deref-host.ensures c.replays.ensures.legal) (c.due_load-due.ensures ∙ ap (λ (z : History). out_load z c.args.shape.now) c.deref-host.ensures) is
+    unloaded_due c.args.self.now.host.value (units_of (arc_value c.args.self.now.bodies).bodies) c.args.shape.now _ (subst Legal c.deref-host.ensures c.replays.ensures.legal) (c.due_load-due.ensures ∙ ap (λ (z : History). out_load z c.args.shape.now) c.deref-host.ensures) is

@@ -8,15 +8,15 @@ use Rattle.rv_behind.proofs.Doing.{does_ask, changed_is, changed_limits, brings_
 use Rattle.rv_behind.proofs.behind.Behind.operate.Goals as goal
 
 pub returns-in-Load-clause-does : goal.returns-in-Load-clause-does
-returns-in-Load-clause-does c = does_ask c.args.self.now.host.value (arc_value c.args.self.now.bodies) 0 c.args.ask _ _ _ c.in-Load.is (subst Legal c.deref.ensures c.replays.ensures.legal) c.args.self.now.brought c.load.ensures.does
+returns-in-Load-clause-does c = does_ask c.args.self.now.host.value (arc_value c.args.self.now.bodies).bodies 0 c.args.ask _ _ _ c.in-Load.is (subst Legal c.deref.ensures c.replays.ensures.legal) c.args.self.now.brought c.load.ensures.does
 
 pub returns-in-LoadWithoutMemory-clause-does : goal.returns-in-LoadWithoutMemory-clause-does
-returns-in-LoadWithoutMemory-clause-does c = does_ask c.args.self.now.host.value (arc_value c.args.self.now.bodies) 0 c.args.ask _ _ _ c.in-LoadWithoutMemory.is (subst Legal c.deref.ensures c.replays.ensures.legal) c.args.self.now.brought c.load_without_memory.ensures.does
+returns-in-LoadWithoutMemory-clause-does c = does_ask c.args.self.now.host.value (arc_value c.args.self.now.bodies).bodies 0 c.args.ask _ _ _ c.in-LoadWithoutMemory.is (subst Legal c.deref.ensures c.replays.ensures.legal) c.args.self.now.brought c.load_without_memory.ensures.does
 
 pub returns-in-Change-clause-does : goal.returns-in-Change-clause-does
 returns-in-Change-clause-does c = let s = c.args.self.now in
-    does_ask s.host.value (arc_value s.bodies) 0 c.args.ask _ _ _ c.in-Change.is (subst Legal c.deref.ensures c.replays.ensures.legal) s.brought
-    (changed_is s.host.value _ (units_of (arc_value s.bodies)) c.in-Change.change _ (subst Legal c.deref.ensures c.replays.ensures.legal)
+    does_ask s.host.value (arc_value s.bodies).bodies 0 c.args.ask _ _ _ c.in-Change.is (subst Legal c.deref.ensures c.replays.ensures.legal) s.brought
+    (changed_is s.host.value _ (units_of (arc_value s.bodies).bodies) c.in-Change.change _ (subst Legal c.deref.ensures c.replays.ensures.legal)
     (subst (λ (z : History). MayLackMemory (due_change z c.in-Change.change) c.change_list.result) c.deref_mut.ensures.value c.change_list.ensures.answer)
     (c.change_list.ensures.history ∙ ap (λ (z : History). after_change z c.in-Change.change c.change_list.result) c.deref_mut.ensures.value))
 
@@ -28,6 +28,6 @@ returns-in-Change-clause-about c = let s = c.args.self.now in
 pub invariant_of-self : goal.invariant_of-self
 invariant_of-self c = let s = c.args.self.now in
     record {
-      brought = brings_change s.host.value _ (arc_value s.bodies) c.in-Change.change _ s.brought
+      brought = brings_change s.host.value _ (arc_value s.bodies).bodies c.in-Change.change _ s.brought
           (c.change_list.ensures.history ∙ ap (λ (z : History). after_change z c.in-Change.change c.change_list.result) c.deref_mut.ensures.value);
     }

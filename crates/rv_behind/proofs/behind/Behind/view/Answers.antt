@@ -8,8 +8,8 @@ use Rattle.rv_behind.proofs.Doing.{legal_log, fits_log}
 use Rattle.rv_behind.proofs.behind.Behind.view.Goals as goal
 
 pub returns-in-Ok : goal.returns-in-Ok
-returns-in-Ok c = let s = c.args.self.now in let us = units_of (arc_value s.bodies) in
-    (legal_log s.host.value us (subst Legal c.deref-host.ensures c.replays.ensures.legal), fits_log s.host.value (arc_value s.bodies) (subst Legal c.deref-host.ensures c.replays.ensures.legal) s.brought, (c.in-Ok.ensures ∙ ap shown c.deref-host.ensures ∙ ap shown (sym (rebuilt s.host.value us (subst Legal c.deref-host.ensures c.replays.ensures.legal))), refl))
+returns-in-Ok c = let s = c.args.self.now in let us = units_of (arc_value s.bodies).bodies in
+    (legal_log s.host.value us (subst Legal c.deref-host.ensures c.replays.ensures.legal), fits_log s.host.value (arc_value s.bodies).bodies (subst Legal c.deref-host.ensures c.replays.ensures.legal) s.brought, (c.in-Ok.ensures ∙ ap shown c.deref-host.ensures ∙ ap shown (sym (rebuilt s.host.value us (subst Legal c.deref-host.ensures c.replays.ensures.legal))), refl))
 
 pub returns-in-Err : goal.returns-in-Err
-returns-in-Err c = let s = c.args.self.now in (legal_log s.host.value (units_of (arc_value s.bodies)) (subst Legal c.deref-host.ensures c.replays.ensures.legal), fits_log s.host.value (arc_value s.bodies) (subst Legal c.deref-host.ensures c.replays.ensures.legal) s.brought, refl)
+returns-in-Err c = let s = c.args.self.now in (legal_log s.host.value (units_of (arc_value s.bodies).bodies) (subst Legal c.deref-host.ensures c.replays.ensures.legal), fits_log s.host.value (arc_value s.bodies).bodies (subst Legal c.deref-host.ensures c.replays.ensures.legal) s.brought, refl)

@@ -1,11 +1,9 @@
 use Rattle.std.proofs.Common.{◌≡◌, ◌∙◌, ap, Bool, true, false, rules, tests}
 use Rattle.std.specs.Prelude.{is_some}
 use Rattle.rv_event.specs.declared.entry.Answer.{Answer}
-use Rattle.rv_behind.specs.Acting.{lent_view}
-use Rattle.rv_port.specs.Calls.{marked}
 use Rattle.rv_port.specs.Reaching.{waits_on, plain_of, start_of}
 use Rattle.rv_port.proofs.Asking.{sent_of}
-use Rattle.rv_port.proofs.Performing.{started, waited, first_plain, starts}
+use Rattle.rv_port.proofs.Performing.{started_had, waited, first_plain, starts}
 use Rattle.rv_port.proofs.asker.Asker.go.Goals as goal
 
 pub run_begun-requires : goal.run_begun-requires
@@ -14,9 +12,8 @@ run_begun-requires g c = ap (λ (z : Answer). is_some (start_of z)) c.in-Started
 pub returns-in-Started : goal.returns-in-Started
 returns-in-Started g c =
     let given = sent_of c.args.self.now.pass c.insist.new.self.pass c.args.request.now c.new-letter.result.request c.insist.new.letter.answer c.insist.new.letter.begun c.insist.new.letter.lent c.insist.result _ c.insist.ensures.reply c.new-letter.ensures c.in-Ok.is in
-    let mark : c.run_begun.new.self.is_refused ≡ marked c.args.self.now.is_refused (lent_view c.insist.new.letter.lent) = c.run_begun.ensures.mark ∙ ap (λ (b : Bool). marked b (lent_view c.insist.new.letter.lent)) c.insist.ensures.mark in
-    started c.args.self.now.pass c.insist.new.self.pass c.run_begun.new.self.pass c.args.self.now.is_refused c.run_begun.new.self.is_refused c.args.request.now c.insist.new.letter.answer c.insist.new.letter.begun c.insist.new.letter.lent c.in-Started.field-0 c.run_begun.result
-    given.0 given.1 c.in-Started.is mark c.run_begun.ensures.ran
+    started_had c.args.self.now.pass c.insist.new.self.pass c.run_begun.new.self.pass c.args.self.now.is_refused c.insist.new.self.is_refused c.run_begun.new.self.is_refused c.args.request.now c.insist.new.letter.answer c.insist.new.letter.begun c.insist.new.letter.lent c.in-Started.field-0 c.run_begun.result
+    given.0 given.1 c.in-Started.is c.insist.ensures.mark c.run_begun.ensures
 
 pub returns-then-is_wait : goal.returns-then-is_wait
 returns-then-is_wait g c =

@@ -28,7 +28,7 @@ close-behind-requires-clause-others g c =
     (subst (λ (t : TableId). Each (λ (p : Passing). p.turn ≡ t) (map pass_of c.args.finished.items)) (sym (ap (λ (k : Passing). k.turn) c.self.view_is) ∙ c.self.invariant.here) (each_pass c.args.self.turn c.args.finished.items c.requires.finished))
 
 pub returns-clause-ok : goal.returns-clause-ok
-returns-clause-ok g c = let b = c.close-behind.result in let h = b.host.value in let us = units_of (arc_value b.bodies) in let same : c.into_host-host.result ≡ h = c.into_host-host.ensures in
+returns-clause-ok g c = let b = c.close-behind.result in let h = b.host.value in let us = units_of (arc_value b.bodies).bodies in let same : c.into_host-host.result ≡ h = c.into_host-host.ensures in
     subst (λ (z : History). IsClosed c.args.self (map pass_of c.args.finished.items) c.args.notes.items z) (sym same)
     (closed c.args.self c.meet_all.new.pass (map pass_of c.args.finished.items) c.take_passes.new.passes.items c.args.notes.items h us (subst Legal same c.replays.ensures.legal) b.brought.count c.take_passes.ensures.passes
     c.take_passes.ensures.given (subst (λ (v : Passing). HasMet v c.args.notes.items c.meet_all.new.pass) c.self.view_is c.meet_all.ensures)
