@@ -33,6 +33,7 @@ WORDED = {
     "--tick": ("MS", "1 to 3600000", ("0", "3600001", *NUMBERS[2:])),
     "--halt-below": ("N", "1 to 1048576", NUMBERS),
     "--quota": ("N", "1 to 1048576", NUMBERS),
+    "--grace": ("MS", "1 to 3600000", ("0", "3600001", *NUMBERS[2:])),
     "--notes": ("WHEN", "auto, always or never", ("x", "", "Auto", "al")),
     "--color": ("WHEN", "auto, always or never", ("blue", "", "NEVER")),
 }
@@ -184,7 +185,7 @@ def misuses(asked: Asked) -> None:
     is_told("'--sync <HOW>' needs '--journal <FILE>'", "run", "--sync", "each")
     is_told("'--sync <HOW>' needs '--journal <FILE>'", "run", "--sync", "x")
     # (the first of several)
-    wrong = {"--sync": "x", "--tick": "0", "--halt-below": "0", "--quota": "0", "--notes": "x", "--color": "x"}
+    wrong = {"--sync": "x", "--tick": "0", "--halt-below": "0", "--quota": "0", "--grace": "0", "--notes": "x", "--color": "x"}
     left = list(wrong)
     while left:
         first = left[0]

@@ -7,8 +7,8 @@ Two runs on one journal; a journal that others cut off, remove or replace; stand
 start; a limit on the size of files; a journal's file that a wrong command line would leave behind; texts that are sent to a run, and
 hold commands, are cut short or large, by several senders at once; scripts that are named to the wrong command; notes on long lists, and on
 many changes of one; shapes of more lines than fit; a large type with many objects; choices that overlap; parts of a script in files of
-their own that hold sections, are cut short or refused; plays that never end, and are ended by signals and Ctrl-C; words that the launcher
-alone takes. It needs flock, and a program: the proved one or the trial that is kept. Where ravenreview isn't there, its questions aren't
+their own that hold sections, are cut short or refused; plays that never end, and are ended by signals and Ctrl-C; runs
+whose bodies won't end; words that the launcher alone takes. It needs flock, and a program: the proved one or the trial that is kept. Where ravenreview isn't there, its questions aren't
 asked.
 """
 import contextlib
@@ -578,6 +578,47 @@ def plays_that_are_ended(hands: Hands) -> None:
                 hands.due(f"{named}, has all that was written", said.count(b"\n") >= lines, (said.count(b"\n"), lines))
 
 
+# A unit whose task calls a body that a hundred thousand turns with a long expression keep for a minute and more.
+def slow_unit(operators: int) -> bytes:
+    terms = b"".join(b" + One - One\n" for _ in range(operators // 2))
+    return (b"package Slow is\n   protected Tank with Priority => 20 is\n      procedure Fill;\n   private\n      Level : Integer := 0;\n      One : Integer := 1;\n"
+            b"   end Tank;\n   task Busy with Priority => 10;\n   task Idle with Priority => 9;\nend Slow;\n\npackage body Slow is\n   protected body Tank is\n"
+            b"      procedure Fill is\n      begin\n         loop\n            Level := Level" + terms + b";\n         end loop;\n      end Fill;\n   end Tank;\n\n"
+            b"   task body Busy is\n   begin\n      Tank.Fill;\n   end Busy;\n\n   task body Idle is\n   begin\n      null;\n   end Idle;\nend Slow;\n")
+
+
+def ends_that_are_hurried(hands: Hands) -> None:
+    """A body that won't end for minutes holds up no end of a run that has a grace: its actor is lost, and the journal is whole."""
+    unit = slow_unit(20_000)
+    script = b"@unit\n" + unit + b"@list\nallow * * *\n@run\n"
+    for number, words in enumerate((["--grace", "300"], ["--grace=300", "--tick", "10"], ["--grace", "300", "--end-status"])):
+        journal = hands.folder / f"hurried{number}.journal"
+        with subprocess.Popen([hands.launcher, "run", "--journal", journal, *words], stdin=subprocess.PIPE, stdout=subprocess.PIPE, stderr=subprocess.PIPE) as run:
+            assert run.stdin and run.stdout
+            run.stdin.write(script + b"tick 1\n")
+            run.stdin.flush()
+            run.stdout.readline()
+            while b"Slow.Busy call Slow.Tank Fill -> started" not in journal.read_bytes():
+                time.sleep(0.05)
+            begun = time.monotonic()
+            out, told = run.communicate(b"quit\n", timeout=SECONDS)
+            took = time.monotonic() - begun
+        hands.due(f"a run with {words} ends within its grace", 0.25 <= took <= 2, took)
+        hands.due(f"a run with {words} names whom it left behind, alone", told == b"lost Slow.Busy\n", told)
+        hands.due(f"a run with {words} has status 6", run.returncode == 6, run.returncode)
+        lines = journal.read_bytes()
+        hands.due(f"a run with {words} says how long its whole journal is", out.endswith(b"entries %d\n" % lines.count(b"\n")), (out[-100:], lines.count(b"\n")))
+        judged = hands.asked(["audit", "--journal", str(journal)], b"@unit\n" + unit)
+        hands.due(f"a run with {words} leaves a legal journal", (judged.returncode, judged.stdout) == (0, b"legal %d entries\n" % lines.count(b"\n")), judged)
+    journal = hands.folder / "unhurried.journal"
+    begun = time.monotonic()
+    done = hands.asked(["run", "--grace", "60000", "--journal", str(journal)], PLANT + b"tick 1\nquit\n")
+    hands.due("a run whose threads end waits for nothing more", time.monotonic() - begun <= 20, time.monotonic() - begun)
+    hands.due("and ends as without the flag", (done.returncode, done.stderr) == (0, b""), (done.returncode, done.stderr))
+    done = hands.asked(["run", "--grace", "0"], PLANT + b"quit\n")
+    hands.due("a grace of nothing is no grace", done.returncode == 2 and b"invalid value '0' for '--grace <MS>': 1 to 3600000" in done.stderr, done)
+
+
 def words_of_the_launcher(hands: Hands) -> None:
     """Help of the words that the launcher adds, a FILE of a question, a service's folder, and what is told of a new plant."""
     for word in ("send", "new", "waits", "who"):
@@ -609,7 +650,7 @@ def words_of_the_launcher(hands: Hands) -> None:
 CASES: tuple[Callable[[Hands], None], ...] = (
     two_runs_on_one_file, journals_that_others_change, streams_that_are_closed, limits_on_files, wrong_command_lines, texts_that_are_sent,
     senders_at_once, wrong_sends, scripts_to_the_wrong_command, hostile_parts, parts_that_are_taken, faults_of_parts, runs_of_parts, notes_on_long_lists,
-    notes_on_many_appends, shapes_of_many_lines, bodies_that_objects_share, choices_that_overlap, many_bad_commands, plays_that_are_ended,
+    notes_on_many_appends, shapes_of_many_lines, bodies_that_objects_share, choices_that_overlap, many_bad_commands, plays_that_are_ended, ends_that_are_hurried,
     words_of_the_launcher)
 
 

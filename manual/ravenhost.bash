@@ -15,7 +15,7 @@ _ravenhost_flags() {
         "") echo "-h --help -V --version" ;;
         play) echo "--all --explain --no-explain --notes --warnings-are-errors --color -h --help" ;;
         check) echo "--explain --no-explain --script --notes --warnings-are-errors --color -h --help" ;;
-        run) echo "--journal --sync --explain --no-explain --halt-below --quota --tick --stop-by --console --end-status --sections-end --actor --notes --warnings-are-errors --color -h --help" ;;
+        run) echo "--journal --sync --explain --no-explain --halt-below --quota --tick --stop-by --console --end-status --sections-end --grace --actor --notes --warnings-are-errors --color -h --help" ;;
         audit) echo "--journal --torn --explain --notes --color -h --help" ;;
         manual) echo "-h --help" ;;
     esac
@@ -66,8 +66,9 @@ _ravenhost_value() {
         --quota) echo "100 1000 10000" ;;
         --tick) echo "1000 100 10" ;;
         --stop-by) echo "files" ;;
-        --times) echo "files" ;;
+        --grace) echo "1000 100 10" ;;
         --actor) echo "nothing" ;;
+        --times) echo "files" ;;
         --since) echo "entry: tick:" ;;
         --by) echo "nothing" ;;
         --of) echo "nothing" ;;

@@ -8,9 +8,11 @@ use crate::status::Stop;
 use rv_fault::Failure;
 use rv_feed::{Feed, Speaker};
 use rv_outlet::{Drain, Outlet};
+use rv_staff::{Grace, Timekeeper, grace};
 use std::alloc::Global;
 use std::rt::Files;
 use std::sync::Wait;
+use std::time::Clock;
 use std::{fs, io};
 
 /// What a thread does beside a run.
@@ -24,6 +26,8 @@ pub enum Errand {
     Output(Drain),
     /// Reads and writes the pipes of a task that belongs to another process.
     Post(Post),
+    /// Keeps the time for which the end of the run waits for threads.
+    Time(Timekeeper),
 }
 
 // Waits for a pipe. What stands against it is said, and is as its end.
@@ -38,7 +42,7 @@ fn wait_for<R: Wait + Files + Eprint>(rt: &R, mut speaker: Speaker, name: &str) 
 }
 
 /// Does what is done beside a run.
-pub fn run_errand<R: Wait + Files + Input + Print + Eprint>(rt: &R, errand: Errand) {
+pub fn run_errand<R: Wait + Clock + Files + Input + Print + Eprint>(rt: &R, errand: Errand) {
     match errand {
         Errand::Input(mut speaker) => speaker.read_all(rt, &mut rt.reader()),
         Errand::Pipe(speaker, name) => wait_for(rt, speaker, name.as_str()),
@@ -47,6 +51,7 @@ pub fn run_errand<R: Wait + Files + Input + Print + Eprint>(rt: &R, errand: Erra
             let _ = drain.write_all(rt, &mut io::writer(rt));
         }
         Errand::Post(post) => carry(rt, post),
+        Errand::Time(keeper) => keeper.keep(rt),
     }
 }
 
@@ -111,6 +116,23 @@ pub fn stop_of<R: Files + Eprint>(
     };
     begun(rt, aides, Errand::Pipe(speaker, owned))?;
     Ok(Some(feed))
+}
+
+/// How long the end of a run waits for threads, where that is asked: a thread keeps the time.
+pub fn grace_of<R: Eprint>(
+    rt: &R,
+    alloc: Global,
+    aides: &Aides,
+    millis: Option<u32>,
+) -> Result<Option<Grace>, Stop> {
+    let Some(millis) = millis else {
+        return Ok(None);
+    };
+    let Ok((grace, keeper)) = grace(alloc, millis as u64) else {
+        return Err(Stop::Failed(Failure::Memory));
+    };
+    begun(rt, aides, Errand::Time(keeper))?;
+    Ok(Some(grace))
 }
 
 /// The output of a run, which a thread writes.

@@ -3,7 +3,7 @@
 ghost use Rattle.std.specs.Prelude.{◌≡◌, IfOk};
 
 use crate::attending::{attend, drained, unless_unkept};
-use crate::errands::{input_of, no_input, outlet_of, stop_of};
+use crate::errands::{grace_of, input_of, no_input, outlet_of, stop_of};
 use crate::errors::StandardError;
 use crate::keeping::{journal_file, syncing_of};
 use crate::means::{Means, Terminals};
@@ -146,6 +146,7 @@ fn attention_of(words: &RunWords<'_>, telling: Telling, terminals: Terminals) ->
         period: words.tick.map(|millis| millis as u64),
         quota: words.quota,
         halt_below: words.halt_below,
+        grace: words.grace,
         tells: telling.tells,
         explains: telling.explains,
         console: if words.console { Some(typing) } else { None },
@@ -185,6 +186,7 @@ where
         attention_of(&words, telling, means.terminals),
     );
     follower.outsiders = outsiders_of(rt, alloc, means.aides, actors)?;
+    follower.grace = grace_of(rt, alloc, means.aides, words.grace)?;
     let mut outlet = outlet_of(rt, alloc, means.aides)?;
     let (done, flushed) = attend(
         rt,
@@ -202,6 +204,7 @@ where
     let done = unless_unkept(rt, done, name)?;
     ended(rt, alloc, telling, before.sections.as_slice(), done)?;
     match flushed {
+        Ok(()) if follower.has_given_up() => Err(Stop::LeftBehind),
         Ok(()) if words.tells_end && follower.has_ended() => Err(Stop::EndedItself),
         Ok(()) => Ok(()),
         Err(e) => Err(Stop::Failed(of_io(e))),

@@ -29,12 +29,14 @@ pub enum Stop {
     CutOff,
     /// A run ended by itself, and the status is to say so.
     EndedItself,
+    /// Threads of a run didn't end within its grace, and were left behind, which was said.
+    LeftBehind,
     /// A journal isn't that of a legal history, or an end in it isn't what its text means, which was said.
     NotLegal,
 }
 
 /// The status of the program: 0 done, 1 a refused or cut script, one with notes that are errors or a journal that isn't legal, 2 usage or help, 3 want of
-/// memory or of a thread, 4 a failed read or write, 5 a run that ended by itself.
+/// memory or of a thread, 4 a failed read or write, 5 a run that ended by itself, 6 one that left threads behind.
 pub fn status_of(outcome: &Result<(), Stop>) -> u8
     ensures { result ≡ status_of outcome.now }
 {
@@ -51,5 +53,6 @@ pub fn status_of(outcome: &Result<(), Stop>) -> u8
         Err(Stop::Failed(Failure::Memory) | Stop::NoThread) => 3,
         Err(Stop::Failed(Failure::Io(_)) | Stop::BadFile) => 4,
         Err(Stop::EndedItself) => 5,
+        Err(Stop::LeftBehind) => 6,
     }
 }

@@ -10,7 +10,7 @@ use Rattle.rv_run.specs.FinishingBeside.{CountsWith, FinishesWith, PlaysWith, Un
 use Rattle.rv_run.specs.Running.{OpensFor}
 use Rattle.rv_staff.specs.Staffs.{Staffed}
 use Rattle.rv_attend.specs.Attending.{come, point}
-use Rattle.rv_attend.specs.Going.{terms}
+use Rattle.rv_attend.specs.Going.{Terms, terms}
 use Rattle.rv_attend.specs.Holding.{Holding, attended, point_of}
 use Rattle.rv_attend.specs.KeepingRuns.{Around, EndsKept, KeepsFrom, LeavesKept, RunsKept, Stands, TakesSections, around}
 use Rattle.rv_attend.specs.declared.attention.Attention.{Attention}
@@ -32,12 +32,14 @@ failed (Err failure) (Err other) ends = tt
 ends : {C : Type 0} (holds : C → Holding) (opened : Known) (m : Moment C) (chores : C) (written errors : Known) (served result : Ended)
     → FinishesWith (attended holds) m chores written errors served result
     → Stands opened (holds m.chores).file m.stage.staff.control (holds m.chores).next served
-    → EndsKept opened (around (holds chores).file written (holds chores).heard (holds chores).told) m.stage.staff m.stage.written served result
+    → EndsKept opened (around (holds chores).file written (holds chores).heard (holds chores).told) (holds m.chores).terms m.stage.staff m.stage.written served result
 ends holds opened m chores written errors served result (inl leaves) stands =
     let takes = leaves.takes in
-    let closes = takes.closes.written opened (leaving_by opened (holds m.chores).file (holds m.chores).next m.stage.staff leaves.closed served leaves.ended stands) in
+    let closes = takes.closes.written opened (leaving_by opened (holds m.chores).file (holds m.chores).next m.stage.staff leaves.closed served leaves.hurried leaves.ended stands) in
     inl record {
       closed = leaves.closed;
+      hurried = leaves.hurried;
+      hurries = leaves.hurries;
       ended = leaves.ended;
       kept = counted m.stage.written written _ opened (holds chores).file leaves.closed.host takes.kept result takes.counted closes;
       wrote = takes.kept;
@@ -71,7 +73,9 @@ keeps_from holds opened runs m chores written errors result plays unread kept =
       goes = λ plain.
           goes_attended holds (holds m.chores).terms opened runs m plays.last plays.served (record { plain = plain; same = refl; unread = unread; kept = kept }) plays.goes;
       later = lasts.1;
-      ends = ends holds opened plays.last chores written errors plays.served result plays.finishes (lasts.0 opened kept);
+      ends =
+          subst (λ (t : Terms). EndsKept opened (around (holds chores).file written (holds chores).heard (holds chores).told) t plays.last.stage.staff plays.last.stage.written plays.served result)
+          lasts.2 (ends holds opened plays.last chores written errors plays.served result plays.finishes (lasts.0 opened kept));
       heard = same.0;
       told = same.1;
     }

@@ -1,5 +1,5 @@
 -- Why an attended run goes on, and why it ends. (own)
-use Rattle.std.specs.Prelude.{◌≡◌, ◌⊎◌, ℕ, ◌-◌, true, List, Option, Some, None, length, Result, Ok, Err}
+use Rattle.std.specs.Prelude.{◌≡◌, ◌⊎◌, ℕ, ◌-◌, Bool, true, false, List, Option, Some, None, length, Result, Ok, Err}
 use Rattle.rv_behind.specs.Events.{history_at}
 use Rattle.rv_event.specs.declared.entry.Answer.{Answer}
 use Rattle.rv_fault.specs.declared.failure.Failure.TheVariants.{Memory}
@@ -65,6 +65,10 @@ abbrev pub UnlessStopped : Option (List Piece) → Option (List Piece) → Goes 
 UnlessStopped told told' Out result = (told' ≡ told) × (result ≡ Out)
 UnlessStopped told told' On On = Unit {0}
 UnlessStopped told told' On Out = IsStopped told'
+
+-- its end isn't hurried where no grace is asked
+abbrev pub HurriesBy : Terms → Bool → Type 0
+HurriesBy terms hurried = terms.asked.grace ≡ None → hurried ≡ false
 
 -- Its file
 

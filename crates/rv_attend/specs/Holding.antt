@@ -12,7 +12,7 @@ use Rattle.rv_run.specs.declared.command.Goes.TheVariants.{Out}
 use Rattle.rv_run.specs.declared.outputs.KeptFailure.{KeptFailure}
 use Rattle.rv_attend.specs.Attending.{Attends, Point, point}
 use Rattle.rv_attend.specs.Chores.{Chores}
-use Rattle.rv_attend.specs.Going.{ClosesAs, Terms}
+use Rattle.rv_attend.specs.Going.{ClosesAs, HurriesBy, Terms}
 use Rattle.rv_attend.specs.KeepingRuns.{Leaving}
 use Rattle.rv_attend.specs.Lasting.{GoesFor, State, Tends, at}
 
@@ -68,5 +68,6 @@ attended holds = record {
   heeds = λ m line n answer. HeedsTo holds m n answer;
   hears = λ chores old new. Unit {0};
   leaves = λ chores old new result. IsPlain (holds chores) → (new ≡ old) × (result ≡ Ok Out);
+  hurries = λ chores hurried. HurriesBy (holds chores).terms hurried;
   closes = λ chores errors closed served chores' errors' kept. ClosesTo holds chores closed served chores' kept;
 }

@@ -18,6 +18,8 @@ pub struct Attention {
     pub quota: Option<u32>,
     /// The room of the journal below which the run ends.
     pub halt_below: Option<u32>,
+    /// How many milliseconds the end of the run waits for threads, where that is bounded.
+    pub grace: Option<u32>,
     /// Whether notes are told.
     pub tells: bool,
     /// Whether it is explained why a command, or a unit text behind `load`, is refused.

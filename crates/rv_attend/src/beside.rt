@@ -15,7 +15,7 @@ use rv_run::chores::Chores;
 use rv_run::command::Goes;
 use rv_run::outputs::{KeptFailure, Outputs};
 use rv_shell::Order;
-use rv_staff::Session;
+use rv_staff::{Grace, Session};
 use rv_step::reading::StepError;
 use std::io::Write;
 use std::sync::Wait;
@@ -52,6 +52,10 @@ impl<'a, T: Wait + Clock, W: Write, E: Write, F: Write> Chores<T, W, E> for Foll
 
     fn leave(&self, writer: &mut W) -> Result<Goes, Failure> {
         leave(&self.asked, writer)
+    }
+
+    fn grace(&self) -> Option<&Grace> {
+        Follower::grace(self)
     }
 
     fn close(

@@ -1,6 +1,7 @@
 //! What an attended run has beside its host.
 
-ghost use Rattle.std.specs.Prelude.{◌≡◌};
+ghost use Rattle.std.specs.Prelude.{◌≡◌, is_some};
+ghost use Rattle.rv_attend.specs.Going.{HurriesBy, terms};
 
 use crate::attention::Attention;
 use crate::explaining::Given;
@@ -12,7 +13,7 @@ use rv_feed::Listening;
 use rv_keep::Keeper;
 use rv_pace::Pace;
 use rv_run::serving::MOST_COMMANDS;
-use rv_staff::Outsider;
+use rv_staff::{Grace, Outsider};
 use std::alloc::Global;
 
 /// What an attended run has beside its host: whence its input comes, the file, and the clock that is followed.
@@ -28,6 +29,10 @@ pub struct Follower<'a, T, F> {
     pub asked: Attention,
     /// The tasks that belong to other processes, up to the start of the run.
     pub outsiders: Vec<Outsider>,
+    /// How long its end waits for threads, where that is asked.
+    pub grace: Option<Grace>,
+    // How many threads were given up at its end.
+    pub(crate) abandoned: usize,
     // The ticks that a real clock makes due, once it is looked at.
     pub(crate) pace: Option<Pace>,
     pub(crate) room: Room,
@@ -62,6 +67,8 @@ impl<'a, T, F> Follower<'a, T, F> {
             keeper,
             asked,
             outsiders: Vec::new(alloc),
+            grace: None,
+            abandoned: 0,
             pace: None,
             room: Room::new(alloc, &asked),
             console: Console::new(alloc, asked.columns),
@@ -76,6 +83,21 @@ impl<'a, T, F> Follower<'a, T, F> {
     // Whether the run has served as many commands as it may, the last of which didn't end it.
     pub(crate) fn is_served_out(&self) -> bool {
         self.served >= MOST_COMMANDS
+    }
+
+    // How long its end waits for threads; none where no grace is asked.
+    pub(crate) fn grace(&self) -> Option<&Grace>
+        ensures { HurriesBy (terms self.now.asked self.now.room.capacity) (is_some result) }
+    {
+        match self.asked.grace {
+            Some(_) => self.grace.as_ref(),
+            None => None,
+        }
+    }
+
+    /// Whether threads were given up at its end, since they didn't end in time.
+    pub fn has_given_up(&self) -> bool {
+        self.abandoned > 0
     }
 
     /// Whether the run ended by itself, once it has ended: for want of room in its journal, behind its last command, or at a line

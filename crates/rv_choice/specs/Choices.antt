@@ -100,9 +100,13 @@ ending = with_rule (with_rule consoled (flag_rule (codes "end-status"))) (flag_r
 abbrev pub many_rule : Text → Rule
 many_rule name = record (new_rule name) { long = Some name; action = Some Append; value_names = 1 }
 
+-- whose end may wait for threads no longer than so many milliseconds
+abbrev pub hurried : App
+hurried = with_rule ending (value_rule (codes "grace"))
+
 -- of which tasks may belong to other processes
 abbrev pub acting : App
-acting = with_rule ending (many_rule (codes "actor"))
+acting = with_rule hurried (many_rule (codes "actor"))
 
 abbrev pub running : App
 running = with_file (with_color (with_notes acting))
@@ -244,7 +248,7 @@ abbrev pub number_of : ℕ → Option Text → Option (Option ℕ)
 number_of most None = Some None
 number_of most (Some word) = counted most (natural_of word)
 
--- the longest time between two ticks, an hour of milliseconds; and the most entries of a journal
+-- the longest time between two ticks, and for which a run's end waits, an hour of milliseconds; and the most entries of a journal
 abbrev pub longest_period : ℕ
 longest_period = 3600000
 
@@ -253,7 +257,8 @@ most_entries = 1048576
 
 -- What a run does beside its commands: the file that its journal is kept in, the milliseconds between two ticks, the room of the
 -- journal below which it ends, how many entries a unit's tasks may add, the pipe whose end ends it, whether it has a console,
--- whether its status says that it ended by itself, and whether nothing starts without a line `@run`.
+-- whether its status says that it ended by itself, whether nothing starts without a line `@run`, and the milliseconds that its end
+-- waits for threads.
 pub record RunWords : Type 0 where
   pub kept : Option (Text × Sync)
   pub tick : Option ℕ
@@ -263,6 +268,7 @@ pub record RunWords : Type 0 where
   pub console : Bool
   pub tells_end : Bool
   pub wants_run : Bool
+  pub grace : Option ℕ
 
 -- the same, of the program's own
 abbrev pub words_of : GivenWords → RunWords
@@ -275,6 +281,7 @@ words_of run = record {
   console = run.console;
   tells_end = run.tells_end;
   wants_run = run.wants_run;
+  grace = run.grace;
 }
 
 -- by what `run` is given
@@ -285,10 +292,11 @@ IsRun rows run =
     × (number_of most_entries (first_of (codes "quota") rows) ≡ Some run.quota) × (run.stop ≡ first_of (codes "stop-by") rows)
     × IsFlag (one_of (codes "console") rows) run.console
     × IsFlag (one_of (codes "end-status") rows) run.tells_end × IsFlag (one_of (codes "sections-end") rows) run.wants_run
+    × (number_of longest_period (first_of (codes "grace") rows) ≡ Some run.grace)
 
 -- nothing of that
 abbrev pub no_run : RunWords
-no_run = record { kept = None; tick = None; halt_below = None; quota = None; stop = None; console = false; tells_end = false; wants_run = false }
+no_run = record { kept = None; tick = None; halt_below = None; quota = None; stop = None; console = false; tells_end = false; wants_run = false; grace = None }
 
 -- the same, for `run` alone
 abbrev pub IsRunning : Text × List Row → Choice → RunWords → Type 0
@@ -364,7 +372,8 @@ beside_wrong rows =
     or_else (sync_wrong rows)
     (or_else (number_wrong Flags.Tick (codes "tick") longest_period rows)
     (or_else (number_wrong Flags.HaltBelow (codes "halt-below") most_entries rows)
-    (number_wrong Flags.Quota (codes "quota") most_entries rows)))
+    (or_else (number_wrong Flags.Quota (codes "quota") most_entries rows)
+    (number_wrong Flags.Grace (codes "grace") longest_period rows))))
 
 -- with `run`,
 abbrev pub run_wrong : List Row → Option Wrong

@@ -16,6 +16,8 @@ pub enum Flag {
     HaltBelow,
     /// How many entries a unit may add.
     Quota,
+    /// How long the end of a run waits.
+    Grace,
     /// When notes are told.
     Notes,
     /// When there are colours.
@@ -34,6 +36,7 @@ impl Flag {
             Flag::Tick => "--tick <MS>",
             Flag::HaltBelow => "--halt-below <N>",
             Flag::Quota => "--quota <N>",
+            Flag::Grace => "--grace <MS>",
             Flag::Notes => "--notes <WHEN>",
             Flag::Color => "--color <WHEN>",
             Flag::Torn => "--torn",
@@ -45,7 +48,7 @@ impl Flag {
     fn takes(self) -> &'static str {
         match self {
             Flag::Sync => "each, second or never",
-            Flag::Tick => "1 to 3600000",
+            Flag::Tick | Flag::Grace => "1 to 3600000",
             Flag::HaltBelow | Flag::Quota => "1 to 1048576",
             Flag::Notes | Flag::Color => "auto, always or never",
             Flag::Torn => "no word",

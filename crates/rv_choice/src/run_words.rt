@@ -10,7 +10,7 @@ use crate::selection::{KeptFile, RunWords, Sync};
 use clap::ArgMatches;
 use rv_text::natural_of;
 
-// The longest time between two ticks, in milliseconds: an hour.
+// The longest time between two ticks, and for which a run's end waits, in milliseconds: an hour.
 const LONGEST_PERIOD: u32 = 3_600_000;
 
 // The most entries that a journal may have.
@@ -125,6 +125,10 @@ pub fn run_words<'a>(words: &ArgMatches<'a>) -> Result<RunWords<'a>, Misuse<'a>>
         Ok(quota) => quota,
         Err(misuse) => return Err(misuse),
     };
+    let grace = match given_number(words, Flag::Grace, "grace", LONGEST_PERIOD) {
+        Ok(grace) => grace,
+        Err(misuse) => return Err(misuse),
+    };
     Ok(RunWords {
         kept,
         tick,
@@ -134,5 +138,6 @@ pub fn run_words<'a>(words: &ArgMatches<'a>) -> Result<RunWords<'a>, Misuse<'a>>
         console: has_flag(words, "console"),
         tells_end: has_flag(words, "end-status"),
         wants_run: has_flag(words, "sections-end"),
+        grace,
     })
 }

@@ -3,7 +3,7 @@
 ghost use Rattle.std.specs.Prelude.{◌≡◌, false, IfOk};
 ghost use Rattle.clap.specs.Words.{app_of};
 ghost use Rattle.clap.specs.declared.builder.command.Command.TheViews.{out-Command as fields_of};
-ghost use Rattle.rv_choice.specs.Choices.{acting, attending, consoled, ending, guarding, keeping, running};
+ghost use Rattle.rv_choice.specs.Choices.{acting, attending, consoled, ending, guarding, hurried, keeping, running};
 
 use crate::args::{
     coloured, explained, file_arg, flag, noted, sync_arg, with_file, with_value, with_values,
@@ -102,6 +102,20 @@ fn ending_subcommand<'a>(alloc: Global) -> Result<Command<'a>, AllocError>
     consoled_subcommand(alloc)?.arg(end)?.arg(run)
 }
 
+// The same, whose end may wait for threads no longer than a while.
+fn hurried_subcommand<'a>(alloc: Global) -> Result<Command<'a>, AllocError>
+    ensures app { IfOk result (λ c. app_of c ≡ hurried) }
+    ensures local { IfOk result (λ c. (fields_of c).has_globals ≡ false) }
+{
+    with_value(
+        alloc,
+        ending_subcommand(alloc)?,
+        "grace",
+        "MS",
+        "Wait at the end at most MS milliseconds for threads; a line 'lost ACTOR' names each that is left behind, and the status is 6",
+    )
+}
+
 // The same, of which tasks may belong to other processes.
 fn acting_subcommand<'a>(alloc: Global) -> Result<Command<'a>, AllocError>
     ensures app { IfOk result (λ c. app_of c ≡ acting) }
@@ -109,7 +123,7 @@ fn acting_subcommand<'a>(alloc: Global) -> Result<Command<'a>, AllocError>
 {
     with_values(
         alloc,
-        ending_subcommand(alloc)?,
+        hurried_subcommand(alloc)?,
         "actor",
         "TASK=IN,OUT",
         "Give the task, as Plant.Sensor, to a process, which writes requests to the pipe IN, and reads from OUT what they came to; repeatable",

@@ -68,13 +68,15 @@ pub struct RunWords<'a> {
     pub tells_end: bool,
     /// Whether nothing starts where the input ends before its line `@run`.
     pub wants_run: bool,
+    /// The milliseconds that its end waits for threads, where that is bounded.
+    pub grace: Option<u32>,
 }
 
 impl RunWords<'_> {
     /// Whether there is anything beside its commands.
     pub fn is_attended(&self) -> bool
         ensures { result ≡ (is_some self.now.kept || is_some self.now.tick || is_some self.now.halt_below || is_some self.now.quota
-            || is_some self.now.stop_by || self.now.console || self.now.tells_end || self.now.wants_run) }
+            || is_some self.now.stop_by || self.now.console || self.now.tells_end || self.now.wants_run || is_some self.now.grace) }
     {
         self.kept.is_some()
             || self.tick.is_some()
@@ -84,6 +86,7 @@ impl RunWords<'_> {
             || self.console
             || self.tells_end
             || self.wants_run
+            || self.grace.is_some()
     }
 }
 
@@ -122,4 +125,5 @@ pub const NO_RUN: RunWords<'static> = RunWords {
     console: false,
     tells_end: false,
     wants_run: false,
+    grace: None,
 };

@@ -24,10 +24,11 @@ each_explained limits log [] k s a = tt
 each_explained limits log (p ∷ ps) k s a = (stands_explained limits log p k.0 s.0 a.0, each_explained limits log ps k.1 s.1 a.1)
 
 pub closed_by : (crew : Team) (control : Passing) (closed : Closed) → Each (λ p. Keeps p) crew.joined → IsClosed control (map pass_of crew.joined) crew.noted closed.host → closed.finished.items ≡ map actor_of crew.joined
-    → closed.lost.items ≡ crew.lost → IsClosedBy crew control closed
-closed_by crew control closed keeps host finished lost = record {
+    → closed.lost.items ≡ crew.lost → closed.abandoned ≡ crew.abandoned → IsClosedBy crew control closed
+closed_by crew control closed keeps host finished lost abandoned = record {
   host = host;
   finished = finished;
   lost = lost;
+  abandoned = abandoned;
   explained = each_explained closed.host.limits (log_of closed.host host.units) crew.joined keeps host.ports_stand host.ports_limits;
 }

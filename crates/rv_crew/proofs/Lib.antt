@@ -2,3 +2,4 @@ pub mod Joins
 pub mod Doing
 pub mod Turns
 pub mod Closes
+pub mod Parted

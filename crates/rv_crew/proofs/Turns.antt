@@ -1,5 +1,5 @@
 -- A crew whose ports are of one turn, and what stays of a lost one.
-use Rattle.std.proofs.Common.{◌≡◌, ℕ, List, [], ◌∷◌, ◌++◌, map, refl, sym, subst}
+use Rattle.std.proofs.Common.{◌≡◌, ℕ, List, [], ◌∷◌, ◌++◌, map, length, inl, inr, refl, sym, subst}
 use Rattle.std.specs.Prelude.{Result, Ok, Err}
 use Rattle.atomic_table.specs.Seated.{TableId}
 use Rattle.rv_turn.specs.Histories.{mine, Each, StartsWith}
@@ -12,6 +12,7 @@ use Rattle.rv_behind.specs.declared.event.Event.{Event}
 use Rattle.rv_port.proofs.Closings.{mine_later}
 use Rattle.rv_crew.specs.Teams.{Owed, Team, IsOfTurn, no_threads}
 use Rattle.rv_crew.specs.Crews.{HasLost, IsClosedBy, Joins, told_of, note_of, with_started, given_up, with_lost, with_joined}
+use Rattle.rv_crew.specs.Abandoning.{Abandons, Parts, actors_out}
 use Rattle.rv_crew.specs.Hiring.{hired}
 use Rattle.rv_crew.specs.declared.crew.Closed.{Closed}
 use Rattle.rv_crew.specs.declared.hiring.HireFault.{HireFault}
@@ -64,6 +65,21 @@ joined_of_turn turn crew after of joins is =
     let back : Each (λ (port : Porting). port.turn ≡ turn) after.joined = subst (Each (λ (port : Porting). port.turn ≡ turn)) (sym joins.2) came in
     let all : IsOfTurn turn (with_joined crew after.joined) = record { out = tt; back = back; gone = of.gone } in
     subst (IsOfTurn turn) (sym is) all
+
+-- some threads are given up
+each_stays : (P : Owed → Type 0) (threads stay gone : List Owed) → Parts threads stay gone → Each P threads → Each P stay
+each_stays P [] stay gone parts each = subst (Each P) (sym parts.0) tt
+each_stays P (thread ∷ threads) stay gone (inl p) each = subst (Each P) (sym p.1) (each.0, each_stays P threads p.0 gone p.2 each.1)
+each_stays P (thread ∷ threads) stay gone (inr p) each = each_stays P threads stay p.0 p.2 each.1
+
+pub abandoned_of_turn : (turn : TableId) (crew after : Team) → IsOfTurn turn crew → Abandons crew after → IsOfTurn turn after
+abandoned_of_turn turn crew after of given_up =
+    let left : IsOfTurn turn (record crew { running = given_up.stay; lost = crew.lost ++ actors_out given_up.gone; abandoned = length given_up.gone }) = record {
+      out = each_stays (λ (owed : Owed). owed.turn ≡ turn) crew.running given_up.stay given_up.gone given_up.parts of.out;
+      back = of.back;
+      gone = of.gone;
+    } in
+    subst (IsOfTurn turn) (sym given_up.is) left
 
 -- what was noted of a port that was lost stays, and with it its entries
 each_within : (P : Noted Event → Type 0) (before after : List (Noted Event)) (note : Noted Event) → Each P (before ++ note ∷ after) → P note

@@ -19,15 +19,15 @@ use Rattle.rv_crew.specs.declared.crew.StartFault.TheVariants.{NoThread, NoMemor
 use denote.Param.Members.{Mut}
 use Rattle.rv_port.specs.declared.port.Port.{Port}
 use Rattle.rv_port.specs.declared.port.Finished.{Finished}
-use Rattle.std.specs.declared.thread.PromisedHandle.{PromisedHandle}
+use Rattle.rv_crew.specs.declared.running.Running.{Running}
 
 -- what is owed for a port
 abbrev pub told_of : Porting → Owed
 told_of p = record { turn = p.turn; actor = p.actor }
 
 -- what a thread owes
-abbrev pub owed : PromisedHandle Finished OfPort → Owed
-owed h = told_of h.promise.0.value
+abbrev pub owed : Running → Owed
+owed r = told_of r.thread.promise.0.value
 
 -- whose port it is
 abbrev pub actor_of : Porting → ℕ
@@ -87,4 +87,5 @@ pub record IsClosedBy (crew : Team) (control : Passing) (closed : Closed) : Type
   pub host : IsClosed control (map pass_of crew.joined) crew.noted closed.host
   pub finished : closed.finished.items ≡ map actor_of crew.joined
   pub lost : closed.lost.items ≡ crew.lost
+  pub abandoned : closed.abandoned ≡ crew.abandoned
   pub explained : Each (ExplainedIn closed.host.limits (log_of closed.host host.units)) crew.joined

@@ -16,16 +16,18 @@ pub record Team : Type 0 where
   pub running : List Owed
   -- the ports that came back, in the order in which they were joined
   pub joined : List Porting
-  -- the actors whose ports were lost: with their jobs, or given up
+  -- the actors whose ports were lost: with their jobs, given up, or left to threads that didn't end in time
   pub lost : List ℕ
-  -- of each of these ports, in the same order, what it had seen when it was lost
+  -- of each of these ports but those left to threads, in the same order, what it had seen when it was lost
   pub noted : List (Noted Event)
   -- which of the coming starts makes no thread, counted from 1; none where it is 0
   pub refuses : ℕ
+  -- how many threads were given up that didn't end in time
+  pub abandoned : ℕ
 
 -- a crew without threads (own)
 abbrev pub no_threads : ℕ → Team
-no_threads refuses = record { running = []; joined = []; lost = []; noted = []; refuses = refuses }
+no_threads refuses = record { running = []; joined = []; lost = []; noted = []; refuses = refuses; abandoned = 0 }
 
 -- All ports of a crew are of one turn: those that are out, those that came back, and those that were lost. It is what `close`
 -- asks of a crew. (own)

@@ -6,7 +6,9 @@ ghost use Rattle.rv_crew.specs.Teams.{IsOfTurn, no_threads};
 ghost use Rattle.rv_turn.specs.Histories.{Each};
 ghost use Rattle.rv_crew.specs.Crews.{Keeps, Joins, IsStartFault, IsClosedBy, actor_of, mark_of, with_started, given_up, with_joined, owed};
 
-use crate::job::{Job, OfPort};
+use crate::job::Job;
+pub use crate::running::STACK_BYTES;
+use crate::running::{Ended, Running};
 use rv_host::host::Host;
 use rv_port::control::{Control, Unclosed};
 use rv_port::note::Note;
@@ -15,10 +17,7 @@ use std::alloc::{AllocError, Global};
 use std::marker::Model;
 use std::mem;
 use std::sync::Wait;
-use std::thread::{Builder, PromisedHandle, Threads};
-
-/// The stack of a job's thread, in bytes. What the bodies of a port take stands in the port.
-pub const STACK_BYTES: usize = 256 * 1024;
+use std::thread::Threads;
 
 /// Why a job wasn't started.
 #[derive(Drop)]
@@ -32,14 +31,16 @@ pub enum StartFault {
 
 /// The threads of a host. Contracts see which ports are out, which came back, and which are lost.
 pub struct Crew {
-    alloc: Global,
-    running: Vec<PromisedHandle<Finished, OfPort>>,
+    pub(crate) alloc: Global,
+    pub(crate) running: Vec<Running>,
     joined: Vec<Finished>,
-    // The actors whose ports were lost, and what each of these ports had seen.
-    lost: Vec<u64>,
+    // The actors whose ports were lost, and what each of these ports had seen but those of threads that were given up.
+    pub(crate) lost: Vec<u64>,
     notes: Vec<Note>,
     // Which of the coming starts makes no thread, counted from 1; 0 is none.
     refuses: u64,
+    // How many threads were given up.
+    pub(crate) abandoned: usize,
 }
 
 impl Model for Crew {
@@ -54,7 +55,7 @@ impl Model for Crew {
 
     ghost use Rattle.rv_crew.specs.Crews.{owed};
 
-    ghost view = { λ c. record { running = map owed c.running.items; joined = c.joined.items; lost = c.lost.items; noted = c.notes.items; refuses = c.refuses } };
+    ghost view = { λ c. record { running = map owed c.running.items; joined = c.joined.items; lost = c.lost.items; noted = c.notes.items; refuses = c.refuses; abandoned = c.abandoned } };
 }
 
 impl Drop for Crew {
@@ -67,6 +68,7 @@ impl Drop for Crew {
             lost: _,
             notes: _,
             refuses: _,
+            abandoned: _,
         } = self;
     }
 }
@@ -77,8 +79,10 @@ pub struct Closed {
     pub host: Host,
     /// The actors whose ports came back, in the order in which they were joined.
     pub finished: Vec<u64>,
-    /// The actors whose ports were lost with their jobs, or given up, in that order.
+    /// The actors whose ports were lost with their jobs, given up, or left to threads that didn't end in time, in that order.
     pub lost: Vec<u64>,
+    /// How many of these were left to threads.
+    pub abandoned: usize,
 }
 
 /// A crew that wasn't closed for want of memory, with its control.
@@ -94,6 +98,7 @@ impl Drop for Closed {
             host: _,
             finished: _,
             lost: _,
+            abandoned: _,
         } = self;
     }
 }
@@ -108,41 +113,9 @@ impl Drop for StillOpen {
     }
 }
 
-// Runs a job on a port in a thread of its own. None where that is refused, or there is no thread.
-fn begin<R: Threads>(
-    rt: &R,
-    job: Job,
-    port: Port,
-    is_refused: bool,
-) -> Option<PromisedHandle<Finished, OfPort>>
-    requires { port ≡ job.port.value }
-    ensures { IfSome result (λ h. (h.promise.0.value ≡ port) × (is_refused ≡ false)) }
-{
-    if is_refused {
-        return None;
-    }
-    let Job { port: _, run } = job;
-    let promise = OfPort::of(&port);
-    Builder::new()
-        .stack_size(STACK_BYTES)
-        .spawn_with(
-            rt,
-            promise,
-            move ||
-                requires { pre run port }
-                ensures { post run port result }
-            { run(port) },
-        )
-        .ok()
-}
-
 // Waits for threads, the last first, and keeps what each gives.
 #[tactic(auto, using(crate::proofs::Joins::joins_none))]
-fn join_each<R: Threads>(
-    rt: &R,
-    mut waiting: Vec<PromisedHandle<Finished, OfPort>>,
-    joined: &mut Vec<Finished>,
-)
+fn join_each<R: Threads>(rt: &R, mut waiting: Vec<Running>, joined: &mut Vec<Finished>)
     requires { length waiting.items + vec_len joined.old ≤ vec_capacity joined.old }
     ensures { Joins joined.old.items (map owed (reverse waiting.items)) joined.new.items }
 {
@@ -199,6 +172,7 @@ impl Crew {
             lost: Vec::new(alloc),
             notes: Vec::new(alloc),
             refuses: 0,
+            abandoned: 0,
         }
     }
 
@@ -216,6 +190,7 @@ impl Crew {
             lost,
             notes: Vec::new(alloc),
             refuses: start,
+            abandoned: 0,
         })
     }
 
@@ -237,12 +212,15 @@ impl Crew {
         if self.joined.reserve(coming).is_err() {
             return Err(StartFault::NoMemory(job, port));
         }
+        let Ok(ended) = Ended::new(self.alloc) else {
+            return Err(StartFault::NoMemory(job, port));
+        };
         let mut port = port;
         let actor = port.actor();
         let note = port.note();
         let is_refused = self.refuses == 1;
         self.refuses = self.refuses.saturating_sub(1);
-        match begin(rt, job, port, is_refused) {
+        match Running::begin(rt, job, port, ended, is_refused) {
             Some(thread) => {
                 self.running.push_reserved(thread);
                 Ok(())
@@ -316,12 +294,14 @@ impl Crew {
             lost,
             notes,
             refuses,
+            abandoned,
         } = self;
         match control.close(rt, joined, notes) {
             Ok(host) => Ok(Closed {
                 host,
                 finished,
                 lost,
+                abandoned,
             }),
             Err(
                 Unclosed {
@@ -337,6 +317,7 @@ impl Crew {
                     lost,
                     notes,
                     refuses,
+                    abandoned,
                 },
                 control,
             }),

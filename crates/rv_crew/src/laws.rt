@@ -7,6 +7,7 @@ ghost use Rattle.rv_port.specs.Controls.{IsPorts};
 ghost use Rattle.rv_behind.specs.Events.{by, log_of};
 ghost use Rattle.rv_port.specs.Ports.{Porting, pass_of};
 ghost use Rattle.rv_port.specs.Traces.{Passing};
+ghost use Rattle.rv_crew.specs.Abandoning.{Abandons};
 ghost use Rattle.rv_crew.specs.Teams.{Team, IsOfTurn};
 ghost use Rattle.rv_crew.specs.Crews.{HasLost, IsClosedBy, Joins, with_started, given_up, with_lost, with_joined};
 ghost use Rattle.rv_crew.specs.declared.crew.Closed.{Closed};
@@ -31,6 +32,12 @@ pub fn losses_keep_the_turn()
 pub fn joins_keep_the_turn()
     ensures { (turn : TableId) → (crew : Team) → (after : Team) → IsOfTurn turn crew
         → Joins crew.joined crew.running after.joined → after ≡ with_joined crew after.joined → IsOfTurn turn after }
+{}
+
+/// So it does where threads are given up that don't end in time.
+#[tactic(auto, using(crate::proofs::Turns::abandoned_of_turn))]
+pub fn given_up_threads_keep_the_turn()
+    ensures { (turn : TableId) → (crew : Team) → (after : Team) → IsOfTurn turn crew → Abandons crew after → IsOfTurn turn after }
 {}
 
 /// The entries of a port that was lost stay: the journal's entries of its actor begin with those that the port had made.

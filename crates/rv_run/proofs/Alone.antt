@@ -4,6 +4,7 @@ use Rattle.std.specs.Prelude.{Result}
 use Rattle.rv_crew.specs.declared.crew.Closed.{Closed}
 use Rattle.rv_fault.specs.declared.failure.Failure.{Failure}
 use Rattle.rv_input.specs.Coming.{GivesLine}
+use Rattle.rv_staff.specs.Ending.{Ended as Ends}
 use Rattle.rv_staff.specs.Saying.{Known}
 use Rattle.rv_run.specs.declared.command.Goes.{Goes}
 use Rattle.rv_run.specs.declared.command.Goes.TheVariants.{On, Out}
@@ -173,7 +174,7 @@ finishes m chores written errors kept result served is (inl leaves) =
       counted.0,
       inl record {
         closed = leaves.closed;
-        ended = leaves.ended;
+        ended = subst (λ (b : Bool). Ends b m.stage.staff leaves.closed) leaves.hurries leaves.ended;
         lost = subst (λ (k : Known). TellsLost k errors leaves.closed.host.shapes leaves.closed.lost.items) takes.closes.0 takes.lost;
         counted = counted.1;
       },

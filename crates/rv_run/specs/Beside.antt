@@ -1,5 +1,5 @@
 -- What is done beside the commands of a run. (own)
-use Rattle.std.specs.Prelude.{◌≡◌, List, ℕ, Option, None, Result, Ok, Err}
+use Rattle.std.specs.Prelude.{◌≡◌, Bool, false, List, ℕ, Option, None, Result, Ok, Err}
 use Rattle.rv_crew.specs.declared.crew.Closed.{Closed}
 use Rattle.rv_fault.specs.declared.failure.Failure.{Failure}
 use Rattle.rv_input.specs.Coming.{Reading}
@@ -38,12 +38,13 @@ abbrev pub moment : {C : Type 0} → C → Staffed → Known → Reading → Kno
 moment chores staff written input left errors = record { chores = chores; stage = stage staff written input left; errors = errors }
 
 -- What is done until the next command comes, with a line that came, of what stands against a unit text, where no line comes any more,
--- and of the host that was closed.
+-- and of the host that was closed; and whether threads are given up that don't end in time.
 pub record Beside (C : Type 0) : Type 1 where
   pub tends : Moment C → Moment C → Result Goes KeptFailure → Type 0
   pub heeds : Moment C → List ℕ → Moment C → Option Outcome → Type 0
   pub hears : C → Known → Known → Type 0
   pub leaves : C → Known → Known → Outcome → Type 0
+  pub hurries : C → Bool → Type 0
   pub closes : C → Known → Closed → Ended → C → Known → Ended → Type 0
 
 -- what was written is handed on, and nothing else is done
@@ -60,5 +61,6 @@ no_chores = record {
   heeds = λ m line n answer. (n ≡ m) × (answer ≡ None);
   hears = λ chores old new. new ≡ old;
   leaves = λ chores old new result. (new ≡ old) × (result ≡ Ok Out);
+  hurries = λ chores hurried. hurried ≡ false;
   closes = λ chores errors closed served chores' errors' kept. (errors' ≡ errors) × (kept ≡ served);
 }

@@ -38,7 +38,7 @@ TellsLost old new shapes lost = (heard : Result (Unit {0}) (Unit {0})) × SaysLo
 -- the host is halted, its threads are joined, it is closed, and what it leaves is said
 pub record Leaves (staff : Staffed) (old new errors errors' : Known) (served result : Served) : Type 0 where
   pub closed : Closed
-  pub ended : Ended staff closed
+  pub ended : Ended false staff closed
   pub lost : TellsLost errors errors' closed.host.shapes closed.lost.items
   pub counted : Counts old new (length closed.host.past) served result
 

@@ -46,7 +46,9 @@ pub record TakesLeave {C : Type 0} (does : Beside C) (closed : Closed) (chores :
 -- the host is halted, its threads are joined, and it is closed
 pub record LeavesWith {C : Type 0} (does : Beside C) (m : Moment C) (chores : C) (written errors : Known) (served result : Ended) : Type 0 where
   pub closed : Closed
-  pub ended : ending.Ended m.stage.staff closed
+  pub hurried : Bool
+  pub hurries : does.hurries m.chores hurried
+  pub ended : ending.Ended hurried m.stage.staff closed
   pub takes : TakesLeave does closed m.chores m.stage.written m.errors chores written errors served result
 
 -- where memory was refused for that, nothing is said

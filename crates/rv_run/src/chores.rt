@@ -1,5 +1,6 @@
 //! What is done beside the commands of a run.
 
+ghost use Rattle.std.specs.Prelude.{is_some};
 ghost use Rattle.rv_input.specs.Coming.{Reading};
 ghost use Rattle.rv_run.specs.Beside.{Beside, moment, no_chores};
 ghost use Rattle.rv_staff.specs.Saying.{Known};
@@ -10,7 +11,7 @@ use rv_crew::crew::Closed;
 use rv_fault::{Failure, What};
 use rv_input::Input;
 use rv_shell::Order;
-use rv_staff::Session;
+use rv_staff::{Grace, Session};
 use rv_step::reading::StepError;
 use std::io::Write;
 
@@ -54,6 +55,10 @@ pub trait Chores<T, W: Write, E: Write> {
     /// Ends the run where no command comes any more.
     fn leave(&self, writer: &mut W) -> Result<Goes, Failure>
         ensures { does.leaves self.now (W.contents writer.old) (W.contents writer.new) result };
+
+    /// How long the end of the run waits for threads; none where it waits until each has ended.
+    fn grace(&self) -> Option<&Grace>
+        ensures { does.hurries self.now (is_some result) };
 
     /// Does what is left to do of a host that was closed, behind commands that were served so far.
     fn close(
@@ -102,6 +107,10 @@ impl<T, W: Write, E: Write> Chores<T, W, E> for NoChores {
 
     fn leave(&self, _writer: &mut W) -> Result<Goes, Failure> {
         Ok(Goes::Out)
+    }
+
+    fn grace(&self) -> Option<&Grace> {
+        None
     }
 
     fn close(

@@ -97,7 +97,8 @@ fn take_leave<T, W: Write, E: Write, C: Chores<T, W, E>>(
     count(alloc, closed.host.used(), kept, &mut outputs.writer)
 }
 
-/// Ends a session that was served: its channels are closed, its threads joined, and what it leaves is said.
+/// Ends a session that was served: its channels are closed, its threads joined, but for those that chores have given up, and what it
+/// leaves is said.
 pub(crate) fn finish<T: Threads + Wait, W: Write, E: Write, C: Chores<T, W, E>>(
     rt: &T,
     session: Session,
@@ -110,7 +111,8 @@ pub(crate) fn finish<T: Threads + Wait, W: Write, E: Write, C: Chores<T, W, E>>(
         chores.new (W.contents outputs.new.writer) (E.contents outputs.new.errors) served result }
 {
     let alloc = session.alloc;
-    match session.end(rt) {
+    let ended = session.end(rt, chores.grace());
+    match ended {
         Some(closed) => take_leave(rt, alloc, closed, served, chores, outputs),
         None => unclosed(served),
     }

@@ -1,5 +1,5 @@
 -- Threads stay of one turn.
-use Rattle.std.proofs.Common.{◌≡◌, List, Ok, Err, inl, inr, refl, sym, ap, ◌∙◌, subst, MatchResult, ℕ, zero, suc, Option, Some, None, IfSome}
+use Rattle.std.proofs.Common.{◌≡◌, Bool, List, [], Ok, Err, inl, inr, refl, sym, ap, ◌∙◌, subst, MatchResult, ℕ, zero, suc, Option, Some, None, IfSome}
 use Rattle.std.specs.Prelude.{IfErr, IfOk, Result}
 use Rattle.atomic_table.specs.Seated.{TableId}
 use Rattle.rv_code.specs.declared.body.UnitBodies.{UnitBodies}
@@ -24,12 +24,12 @@ use Rattle.rv_crew.specs.Teams.{Team, IsOfTurn}
 use Rattle.rv_behind.specs.declared.event.Ask.{Ask}
 use Rattle.rv_crew.specs.Crews.{Joins, IsClosedBy, with_joined}
 use Rattle.rv_crew.specs.declared.crew.Closed.{Closed}
-use Rattle.rv_crew.proofs.Turns.{none_of_turn, started_of_turn, given_up_of_turn, lost_of_turn}
+use Rattle.rv_crew.proofs.Turns.{abandoned_of_turn, none_of_turn, started_of_turn, given_up_of_turn, lost_of_turn}
 use Rattle.rv_crew.specs.declared.hiring.HireFault.{HireFault}
 use Rattle.rv_crew.specs.declared.hiring.HireFault.TheVariants.{NoThread, GivenUp, NoMemory}
 use Rattle.rv_crew.specs.Hiring.{hired}
 use Rattle.rv_staff.specs.Staffs.{AreOf, Staffed, no_crew}
-use Rattle.rv_staff.specs.Ending.{Closes, Ended, Halts}
+use Rattle.rv_staff.specs.Ending.{Closes, Ended, Halts, Waits}
 
 -- What the operator does.
 
@@ -98,13 +98,22 @@ hired_stay control crew port (Err NoMemory) same are = are
 
 -- What is joined.
 
-pub closes : (control : Passing) (crew after : Team) (result : Option Closed) → AreOf control crew → Joins crew.joined crew.running after.joined
-    → after ≡ with_joined crew after.joined → IfSome result (IsClosedBy after control) → IfSome result (Closes control crew)
-closes control crew after None are joins after_is left = left
-closes control crew after (Some closed) are joins after_is left = record {
+pub waits_stay : (hurries : Bool) (turn : TableId) (crew after : Team) → Waits hurries crew after → crew.joined ≡ [] → IsOfTurn turn crew
+    → (after.joined ≡ []) × IsOfTurn turn after
+waits_stay hurries turn crew after (inl same) none of = (ap (λ (t : Team). t.joined) same ∙ none, subst (IsOfTurn turn) (sym same) of)
+waits_stay hurries turn crew after (inr given_up) none of =
+    (ap (λ (t : Team). t.joined) given_up.1.is ∙ none, abandoned_of_turn turn crew after of given_up.1)
+
+pub closes : (hurries : Bool) (control : Passing) (crew left after : Team) (result : Option Closed) → AreOf control crew → Waits hurries crew left
+    → Joins left.joined left.running after.joined → after ≡ with_joined left after.joined → IfSome result (IsClosedBy after control)
+    → IfSome result (Closes hurries control crew)
+closes hurries control crew left after None are waits joins after_is closed = closed
+closes hurries control crew left after (Some closed) are waits joins after_is by = record {
+  left = left;
+  waits = waits;
   back = after.joined;
-  joined = subst (λ (l : List Porting). Joins l crew.running after.joined) are.none_joined joins;
-  left = subst (λ (t : Team). IsClosedBy t control closed) after_is left;
+  joined = subst (λ (l : List Porting). Joins l left.running after.joined) (waits_stay hurries control.turn crew left waits are.none_joined are.one_turn).0 joins;
+  closes = subst (λ (t : Team). IsClosedBy t control closed) after_is by;
 }
 
 -- The end.
@@ -113,6 +122,7 @@ pub halted : (v w : Passing) (r : Result Answer Spent) → MatchResult r (λ a. 
 halted v w (Ok a) told = inl (a, told)
 halted v w (Err x) worn = inr worn
 
-pub ended : (staff : Staffed) (w : Passing) (result : Option Closed) → Halts staff.control w → IfSome result (Closes w staff.crew) → IfSome result (Ended staff)
-ended staff w None halts closed = closed
-ended staff w (Some left) halts closed = record { control = w; halted = halts; closes = closed }
+pub ended : (hurries : Bool) (staff : Staffed) (w : Passing) (result : Option Closed) → Halts staff.control w → IfSome result (Closes hurries w staff.crew)
+    → IfSome result (Ended hurries staff)
+ended hurries staff w None halts closed = closed
+ended hurries staff w (Some left) halts closed = record { control = w; halted = halts; closes = closed }

@@ -1,6 +1,7 @@
 //! The threads of a host that runs: which actors get one, what each does, and how they end.
 #![tactic(auto)]
 
+mod grace;
 mod hands;
 mod hires;
 mod raising;
@@ -10,6 +11,7 @@ mod staff;
 mod staffing;
 mod work;
 
+pub use grace::{Grace, Timekeeper, grace};
 pub use hands::Hands;
 pub use hires::Hires;
 pub use raising::raise;

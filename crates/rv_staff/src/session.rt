@@ -1,9 +1,10 @@
 //! The session: a host that runs, and what the operator needs to reach its threads.
 
-ghost use Rattle.std.specs.Prelude.{◌≡◌, IfSome};
+ghost use Rattle.std.specs.Prelude.{◌≡◌, IfSome, is_some};
 ghost use Rattle.rv_staff.specs.Ending.{Ended};
 ghost use Rattle.rv_staff.specs.Staffs.{no_crew};
 
+use crate::grace::Grace;
 use crate::staff::Staff;
 use crossbeam_channel::Sender;
 use rv_crew::crew::Closed;
@@ -112,9 +113,10 @@ impl Session {
     }
 
     /// Halts the host, closes the channels of its lines, ends the requests of other processes and joins its threads, which have
-    /// to end then. Gives the host, and the actors whose ports were lost; none where memory was refused.
-    pub fn end<R: Threads + Wait>(self, rt: &R) -> Option<Closed>
-        ensures { IfSome result (Ended self.staff) }
+    /// to end then; those that don't within a grace are given up. Gives the host, and the actors whose ports were lost; none where
+    /// memory was refused.
+    pub fn end<R: Threads + Wait>(self, rt: &R, within: Option<&Grace>) -> Option<Closed>
+        ensures { IfSome result (Ended (is_some within) self.staff) }
     {
         let Session {
             alloc: _,
@@ -128,6 +130,6 @@ impl Session {
             notices: _,
         } = self;
         drop(channels);
-        staff.end(rt, enders.as_slice())
+        staff.end(rt, enders.as_slice(), within)
     }
 }

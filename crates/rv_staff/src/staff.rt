@@ -1,6 +1,6 @@
 //! A host that runs: its operator and the crew of its threads, which are of one turn.
 
-ghost use Rattle.std.specs.Prelude.{◌≡◌, ◌<◌, ◌^◌, [], Err, IfErr, IfOk, IfSome, List, MatchResult, length};
+ghost use Rattle.std.specs.Prelude.{◌≡◌, ◌<◌, ◌^◌, [], Err, IfErr, IfOk, IfSome, List, MatchResult, is_some, length};
 ghost use Rattle.rv_turn.specs.Passes.{Acted, IsWorn};
 ghost use Rattle.rv_behind.specs.Acting.{Does};
 ghost use Rattle.rv_behind.specs.Events.{by, catalogue_of};
@@ -23,6 +23,7 @@ ghost use Rattle.rv_staff.specs.Ending.{Closes, Ended};
 ghost use Rattle.rv_crew.specs.Hiring.{hired};
 ghost use Rattle.rv_staff.specs.Staffs.{AreOf, no_crew};
 
+use crate::grace::{Grace, wait};
 use crate::hires::Hires;
 use crate::work::Work;
 use rv_access::Line;
@@ -92,11 +93,17 @@ fn leave<R: Wait>(rt: &R, crew: Crew, control: Control) -> Option<Closed>
     }
 }
 
-// Joins a crew and closes its control.
-fn close<R: Threads + Wait>(rt: &R, mut crew: Crew, control: Control) -> Option<Closed>
+// Joins a crew, but for threads that don't end in time where the end is hurried, and closes its control.
+fn close<R: Threads + Wait>(
+    rt: &R,
+    mut crew: Crew,
+    control: Control,
+    within: Option<&Grace>,
+) -> Option<Closed>
     requires { AreOf control crew }
-    ensures { IfSome result (Closes control crew) }
+    ensures { IfSome result (Closes (is_some within) control crew) }
 {
+    wait(rt, &mut crew, within);
     match crew.join_all(rt) {
         Ok(()) => leave(rt, crew, control),
         Err(_) => None,
@@ -275,14 +282,20 @@ impl Staff {
         give_up(&mut self.crew, port)
     }
 
-    /// Halts the host, ends the requests of tasks that belong to other processes, and joins its threads, which have to end then.
-    /// Gives the host, and the actors whose ports were lost, without a thread or for want of memory.
-    pub fn end<R: Threads + Wait>(self, rt: &R, enders: &[Ender]) -> Option<Closed>
-        ensures { IfSome result (Ended self) }
+    /// Halts the host, ends the requests of tasks that belong to other processes, and joins its threads, which have to end then;
+    /// those that don't within a grace are given up. Gives the host, and the actors whose ports were lost, without a thread, for want
+    /// of memory or with a thread that was given up.
+    pub fn end<R: Threads + Wait>(
+        self,
+        rt: &R,
+        enders: &[Ender],
+        within: Option<&Grace>,
+    ) -> Option<Closed>
+        ensures { IfSome result (Ended (is_some within) self) }
     {
         let Staff { mut control, crew } = self;
         let _ = control.halt(rt);
         end_each(rt, enders);
-        close(rt, crew, control)
+        close(rt, crew, control, within)
     }
 }

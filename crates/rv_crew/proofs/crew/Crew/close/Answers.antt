@@ -15,8 +15,9 @@ returns-in-Ok-close-clause-ok g c =
       lost = c.self.inside.lost.items;
       noted = c.self.inside.notes.items;
       refuses = c.self.inside.refuses;
+      abandoned = c.self.inside.abandoned;
     } in
-    let closed : Closed = record { host = c.in-Ok-close.host; finished = c.in-Ok.finished; lost = c.self.inside.lost } in
+    let closed : Closed = record { host = c.in-Ok-close.host; finished = c.in-Ok.finished; lost = c.self.inside.lost; abandoned = c.self.inside.abandoned } in
     subst (λ (z : Team). IsClosedBy z c.args.control closed) c.self.view_is
     (closed_by crew c.args.control closed (subst (λ (l : List Porting). Each (λ p. Keeps p) l) c.as_slice.ensures.value c.keep_all.ensures) c.in-Ok-close.ensures.ok
-    (c.in-Ok.ensures ∙ ap (map actor_of) c.as_slice-2.ensures.value) refl)
+    (c.in-Ok.ensures ∙ ap (map actor_of) c.as_slice-2.ensures.value) refl refl)

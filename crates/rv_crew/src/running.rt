@@ -1,0 +1,122 @@
+//! A thread that runs a job on a port.
+
+ghost use Rattle.std.specs.Prelude.{◌≡◌, false, IfSome};
+ghost use Rattle.rv_crew.specs.Crews.{told_of};
+
+use crate::job::{Job, OfPort};
+use rv_port::port::{Finished, Port};
+use std::alloc::{AllocError, Global};
+use std::sync::Arc;
+use std::sync::atomic::{AtomicBool, Ordering};
+use std::thread::{Builder, PromisedHandle, Threads};
+
+/// The stack of a job's thread, in bytes. What the bodies of a port take stands in the port.
+pub const STACK_BYTES: usize = 256 * 1024;
+
+/// A mark that a job has ended.
+#[derive(Drop)]
+pub(crate) struct Mark {
+    is_set: AtomicBool,
+}
+
+/// The two holders of a mark: the thread, which sets it, and whoever waits for the thread and looks.
+#[derive(Drop)]
+pub(crate) struct Ended {
+    told: Arc<Mark>,
+    seen: Arc<Mark>,
+}
+
+impl Ended {
+    /// It hasn't.
+    pub fn new(alloc: Global) -> Result<Ended, AllocError> {
+        let mark = Mark {
+            is_set: AtomicBool::new(false),
+        };
+        let told = match Arc::new(alloc, mark) {
+            Ok(told) => told,
+            Err(_) => return Err(AllocError),
+        };
+        let seen = told.clone()?;
+        Ok(Ended { told, seen })
+    }
+}
+
+/// A thread that was started, and isn't joined yet.
+pub(crate) struct Running {
+    thread: PromisedHandle<Finished, OfPort>,
+    /// Whose port it has.
+    pub actor: u64,
+    // Whether its job has ended.
+    has_ended: Arc<Mark>,
+    ghost same: { actor ≡ thread.promise.0.value.actor },
+}
+
+impl Drop for Running {
+    // A function of its own: a derived one is written out wherever a crew is let go, and proved there. The thread runs on.
+    fn drop(self) {
+        let Running {
+            thread: _,
+            actor: _,
+            has_ended: _,
+        } = self;
+    }
+}
+
+impl Running {
+    /// Runs a job on a port in a thread of its own. None where that is refused, or there is no thread.
+    pub fn begin<R: Threads>(
+        rt: &R,
+        job: Job,
+        port: Port,
+        ended: Ended,
+        is_refused: bool,
+    ) -> Option<Running>
+        requires { port ≡ job.port.value }
+        ensures { IfSome result (λ r. (r.thread.promise.0.value ≡ port) × (is_refused ≡ false)) }
+    {
+        if is_refused {
+            return None;
+        }
+        let actor = port.actor();
+        let Ended { told, seen } = ended;
+        let Job { port: _, run } = job;
+        let promise = OfPort::of(&port);
+        let begun = Builder::new().stack_size(STACK_BYTES).spawn_with(
+            rt,
+            promise,
+            move ||
+                requires { pre run port }
+                ensures { post run port result }
+            {
+                let finished = run(port);
+                told.is_set.store(true, Ordering::Release);
+                finished
+            },
+        );
+        match begun {
+            Ok(thread) => Some(Running {
+                thread,
+                actor,
+                has_ended: seen,
+            }),
+            Err(_) => None,
+        }
+    }
+
+    /// Whether its job has ended, so that it can be joined without waiting. No clause says so: an answer either way is taken.
+    pub fn has_ended(&self) -> bool {
+        self.has_ended.is_set.load(Ordering::Acquire)
+    }
+
+    /// Waits until its job has ended, for the port that it gives back.
+    pub fn join<R: Threads>(self, rt: &R) -> Finished
+        ensures { told_of result ≡ told_of self.thread.promise.0.value }
+    {
+        let Running {
+            thread,
+            actor: _,
+            has_ended: _,
+        } = self;
+        thread.join(rt)
+    }
+}
