@@ -1,12 +1,12 @@
 -- An unsettled object is settled by its actor alone, one caller after another.
-use Rattle.std.proofs.Common.{◌≡◌, ◌⊎◌, inl, inr, ℕ, zero, suc, ◌<◌, ◌≤◌, List, [], ◌∷◌, length, Some, None, Option, Bool, true, false, cond, arith, ap, subst, sym, ◌∙◌, refl}
+use Rattle.std.proofs.Common.{◌≡◌, ◌⊎◌, inl, inr, ℕ, zero, suc, ◌+◌, ◌<◌, ◌≤◌, List, [], ◌∷◌, length, Some, None, Option, Bool, true, false, cond, arith, ap, subst, sym, ◌∙◌, refl}
 use Rattle.std.specs.Prelude.{nat_lt, ◌==◌, ◌&&◌, ◌||◌, if◌then◌else◌, slice_get}
 use Rattle.std.specs.List.{filter, list_any}
 use Rattle.rv_access.specs.Words.{Words}
 use Rattle.rv_shape.specs.Shape.{Shape}
 use Rattle.rv_shape.specs.Catalogue.{place, target, who}
 use Rattle.rv_event.specs.Recorded.{recorded}
-use Rattle.rv_event.specs.Past.{begun, first_by, halted, held, is_unsettled, left_by, mode_by, or_settling, queue, queued_by, scalars, stance, to_settle, under_way, unsettled, without}
+use Rattle.rv_event.specs.Past.{archived, begun, first_by, halted, held, is_unsettled, left_by, mode_by, or_settling, queue, queued_by, scalars, stance, to_settle, under_way, unsettled, without}
 use Rattle.rv_event.specs.declared.entry.Body.{Body}
 use Rattle.rv_event.specs.declared.entry.Entry.{Entry}
 use Rattle.rv_event.specs.declared.entry.Entry.TheVariants.{Asked, Load, ListChange}
