@@ -23,6 +23,7 @@ pub fn request_word(request: &Request) -> &'static str
         Request::Quit => "finish",
         Request::Tick(_) => "tick",
         Request::Halt => "halt",
+        Request::Archive(_) => "archive",
     }
 }
 
