@@ -33,6 +33,9 @@ use Rattle.rv_code.proofs.statement.Target.TheSendSync as target_crosses
 use Rattle.rv_code.proofs.body.ExceptionChoice.TheSendSync as choice_crosses
 use Rattle.rv_exec.specs.contracts.bodies.SharedUnit as shared
 use Rattle.rv_exec.specs.contracts.bodies.Bodies as bodies
+use Rattle.rv_machine.proofs.needs.Need.TheSendSync as need_crosses
+use Rattle.rv_runs.specs.contracts.ready.Ready as ready
+use Rattle.rv_runs.proofs.tabled.Table.TheSendSync as table_crosses
 use Rattle.rv_history.specs.contracts.limits.Limits as limits
 use Rattle.rv_host.specs.contracts.host.Host as host
 use Rattle.rv_host.proofs.host.Host.TheSendSync as host_crosses
@@ -44,6 +47,10 @@ use Rattle.rv_behind.specs.contracts.event.Letter as letter
 use Rattle.rv_behind.specs.contracts.event.Event as event
 use Rattle.rv_port.specs.contracts.bell.Bell as bell
 use Rattle.rv_port.proofs.bell.Bell.TheSendSync as bell_crosses
+use Rattle.rv_port.specs.contracts.stacks.Pool as pool
+use Rattle.rv_port.specs.contracts.stacks.Stacks as stacks
+use Rattle.rv_port.proofs.stacks.Pool.TheSendSync as pool_crosses
+use Rattle.rv_port.proofs.stacks.PortStack.TheSendSync as port_stack_crosses
 use Rattle.rv_port.specs.contracts.asker.Asker as asker
 use Rattle.rv_port.proofs.ended.Course.TheSendSync as course_crosses
 use Rattle.rv_port.specs.contracts.port.Port as port
@@ -124,23 +131,36 @@ shared_send = recorded_send (shared.the_field).row _ _ (shared.the_type).to_one 
 shared_sync : IsSync shared.the_row
 shared_sync = recorded_sync (shared.the_field).row _ _ (shared.the_type).to_one (struct_sync (shape shared.the_type) (unit_arc_sync, tt))
 
-bodies_send : IsSend bodies.the_row
-bodies_send = recorded_send (bodies.the_field).row _ _ (bodies.the_type).to_one (struct_send (shape bodies.the_type) (global_crosses.the_field_send, (list_send shared.the_row shared_send, tt)))
+bodies_field_send : IsSend (bodies.the_field).row
+bodies_field_send = struct_send (shape bodies.the_type) (global_crosses.the_field_send, (list_send shared.the_row shared_send, tt))
 
-bodies_sync : IsSync bodies.the_row
-bodies_sync = recorded_sync (bodies.the_field).row _ _ (bodies.the_type).to_one (struct_sync (shape bodies.the_type) (global_crosses.the_field_sync, (list_sync shared.the_row shared_sync, tt)))
+bodies_field_sync : IsSync (bodies.the_field).row
+bodies_field_sync = struct_sync (shape bodies.the_type) (global_crosses.the_field_sync, (list_sync shared.the_row shared_sync, tt))
 
-pub bodies_arc_send : IsSend (arc.the_row bodies.the_row global.the_row ghosts)
-bodies_arc_send = arc_crosses.the_send bodies.the_row global.the_row ghosts bodies_send global_crosses.the_send bodies_sync global_crosses.the_sync heap_crosses.the_frees
+ready_send : IsSend ready.the_row
+ready_send = recorded_send (ready.the_field).row _ _ (ready.the_type).to_one (struct_send (shape ready.the_type) (bodies_field_send, (table_crosses.the_field_send, tt)))
+
+ready_sync : IsSync ready.the_row
+ready_sync = recorded_sync (ready.the_field).row _ _ (ready.the_type).to_one (struct_sync (shape ready.the_type) (bodies_field_sync, (table_crosses.the_field_sync, tt)))
+
+ready_arc_send : IsSend (arc.the_row ready.the_row global.the_row ghosts)
+ready_arc_send = arc_crosses.the_send ready.the_row global.the_row ghosts ready_send global_crosses.the_send ready_sync global_crosses.the_sync heap_crosses.the_frees
 
 behind_send : IsSend behind.the_row
-behind_send = recorded_send (behind.the_field).row _ _ (behind.the_type).to_one (struct_send (shape behind.the_type) (global_crosses.the_field_send, (Box-send host.the_row host_crosses.the_send, (bodies_arc_send, tt))))
+behind_send = recorded_send (behind.the_field).row _ _ (behind.the_type).to_one (struct_send (shape behind.the_type) (global_crosses.the_field_send, (Box-send host.the_row host_crosses.the_send, (ready_arc_send, tt))))
+
+-- stacks
+pool_arc_send : IsSend (arc.the_row pool.the_row global.the_row ghosts)
+pool_arc_send = arc_crosses.the_send pool.the_row global.the_row ghosts pool_crosses.the_send global_crosses.the_send pool_crosses.the_sync global_crosses.the_sync heap_crosses.the_frees
+
+stacks_send : IsSend (stacks.the_field).row
+stacks_send = struct_send (shape stacks.the_type) (global_crosses.the_field_send, (pool_arc_send, (bodies_field_send, (need_crosses.the_field_send, tt))))
 
 bell_arc_send : IsSend (arc.the_row bell.the_row global.the_row ghosts)
 bell_arc_send = arc_crosses.the_send bell.the_row global.the_row ghosts bell_crosses.the_send global_crosses.the_send bell_crosses.the_sync global_crosses.the_sync heap_crosses.the_frees
 
 asker_send : IsSend (asker.the_field).row
-asker_send = struct_send (shape asker.the_type) (pass_crosses.the_send behind.the_row ask.the_row reply.the_row letter.the_row event.the_row limits.the_row counted behind_send, (bell_arc_send, (plain_send _ _ _ _ _, (plain_send _ _ _ _ _, (course_crosses.the_field_send, tt)))))
+asker_send = struct_send (shape asker.the_type) (pass_crosses.the_send behind.the_row ask.the_row reply.the_row letter.the_row event.the_row limits.the_row counted behind_send, (bell_arc_send, (plain_send _ _ _ _ _, (plain_send _ _ _ _ _, (course_crosses.the_field_send, (port_stack_crosses.the_field_send, tt))))))
 
 port_inside_send : IsSend port_inside.the_row
 port_inside_send = recorded_send (port_inside.the_field).row _ _ (port_inside.the_type).to_one (struct_send (shape port_inside.the_type) (asker_send, tt))
@@ -161,7 +181,7 @@ pub note_send : IsSend note.the_row
 note_send = search (note_inside_send, sendable)
 
 control_inside_send : IsSend control_inside.the_row
-control_inside_send = recorded_send (control_inside.the_field).row _ _ (control_inside.the_type).to_one (struct_send (shape control_inside.the_type) (global_crosses.the_field_send, (turn_crosses.the_send behind.the_row ask.the_row reply.the_row letter.the_row event.the_row limits.the_row counted behind_send, (pass_crosses.the_send behind.the_row ask.the_row reply.the_row letter.the_row event.the_row limits.the_row counted behind_send, (bell_arc_send, (list_send _ (plain_send _ _ _ _ _), (catalogue_crosses.the_send, (option_crosses.the_field_send lists.the_row lists_crosses.the_send, tt))))))))
+control_inside_send = recorded_send (control_inside.the_field).row _ _ (control_inside.the_type).to_one (struct_send (shape control_inside.the_type) (global_crosses.the_field_send, (turn_crosses.the_send behind.the_row ask.the_row reply.the_row letter.the_row event.the_row limits.the_row counted behind_send, (pass_crosses.the_send behind.the_row ask.the_row reply.the_row letter.the_row event.the_row limits.the_row counted behind_send, (bell_arc_send, (list_send _ (plain_send _ _ _ _ _), (catalogue_crosses.the_send, (option_crosses.the_field_send lists.the_row lists_crosses.the_send, (stacks_send, tt)))))))))
 
 pub control_send : IsSend control.the_row
 control_send = search (control_inside_send, sendable)

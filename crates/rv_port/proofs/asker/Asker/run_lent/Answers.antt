@@ -8,11 +8,11 @@ use Rattle.rv_port.specs.Endings.{LentGoes}
 use Rattle.rv_port.specs.Texts.{TextRuns}
 use Rattle.rv_port.proofs.asker.Asker.run_lent.Goals as goal
 
-pub returns-in-Ok : goal.returns-in-Ok
-returns-in-Ok g c =
+pub returns-in-Some-taken : goal.returns-in-Some-taken
+returns-in-Some-taken g c =
     let v = c.args.self.now in
     let t = c.run_text.ensures.runs in
-    let bodies : lent_view c.args.lent.now ≡ Some (bodies_view c.deref-ready.result.now.bodies) = ap lent_view c.in-Some.is ∙ ap (λ (r : Ready). Some (bodies_view r.bodies)) (sym c.deref-ready.ensures.value) in
+    let bodies : lent_view c.args.lent.now ≡ Some (bodies_view c.deref-ready.result.now.bodies) = ap lent_view c.in-Some.is ∙ ap (λ (r : Ready). Some (bodies_view r.bodies)) (sym c.deref-ready.ensures) in
     record {
       had = c.args.lent.now;
       had_is = inl refl;

@@ -22,6 +22,3 @@ invariant_of-self-2 g c = let is : is_some (recorded c.heard-answer.result) ≡ 
 pub returns : goal.returns
 returns g c =
     inl (c.args.unit, refl, subst (λ (v : Passing). Told v (Wants.Load c.args.shape c.args.unit) c.heard-answer.result c.act.new.self) c.self.view_is (c.in_ok-reply.reply, c.heard-answer.ensures, c.in_ok-reply.ensures))
-
-pub invariant_of-self : goal.invariant_of-self
-invariant_of-self g c = worn_kept _ _ _ _ _ _ c.self.invariant c.in_err-reply.ensures
