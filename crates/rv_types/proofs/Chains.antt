@@ -1,6 +1,6 @@
 -- Spans in their order hold each value of a range once exactly where each begins where it has to.
-use Rattle.std.proofs.Common.{◌≡◌, ℕ, zero, suc, ◌+◌, ◌<◌, ◌≤◌, ℤ, pos, negsuc, ◌+ℤ◌, ◌-ℤ◌, List, [], ◌∷◌, ◌++◌, Bool, true, false, Option, Some, None, true≢false, refl, sym, ap, ◌∙◌, subst, arith, length, drop}
-use Rattle.std.specs.Prelude.{⊤, ◌-◌, slice_index_or, int_le, int_lt, ◌==◌, ◌&&◌, ◌||◌, not, if◌then◌else◌, unsigned_abs, sum_by, IsPermutation}
+use Rattle.std.proofs.Common.{◌≡◌, ℕ, zero, suc, ◌+◌, ◌<◌, ◌≤◌, ℤ, pos, negsuc, ◌+ℤ◌, ◌-ℤ◌, List, [], ◌∷◌, Bool, true, false, Option, Some, None, true≢false, refl, sym, ap, ◌∙◌, subst, arith, length, drop}
+use Rattle.std.specs.Prelude.{◌-◌, slice_index_or, int_le, int_lt, ◌==◌, ◌&&◌, ◌||◌, if◌then◌else◌, unsigned_abs, sum_by, IsPermutation}
 use Rattle.std.specs.List.Sorted.{IsSortedBy}
 use Rattle.std.specs.Ordering.{is_lt, ordering_then, int_cmp}
 use Rattle.std.specs.declared.cmp.Ordering.{Ordering}

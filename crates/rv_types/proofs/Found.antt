@@ -3,8 +3,7 @@ use Rattle.std.proofs.Common.{◌≡◌, ◌∙◌, refl, sym, ap, subst, arith,
 use Rattle.std.proofs.lemmas.Bool.Decides.{nat_tests}
 use Rattle.std.proofs.lemmas.List.{take-append-drop, take_all, drop_all}
 use Rattle.std.proofs.Math.Seq.{drop-cons}
-use Rattle.std.specs.Prelude.{◌==◌, ◌-◌, if◌then◌else◌, nat_lt, slice_index_or, take, drop, length, ℤ, pos}
-use Rattle.rv_shape.specs.declared.kind.Range.{Range}
+use Rattle.std.specs.Prelude.{◌==◌, ◌-◌, if◌then◌else◌, nat_lt, slice_index_or, take, drop, length, pos}
 use Rattle.rv_shape.specs.declared.kind.ValueType.TheVariants.{Integer}
 use Rattle.rv_scope.specs.declared.known.Known.TheVariants as k
 use Rattle.rv_scope.specs.declared.known.Known.{Known}

@@ -1,6 +1,5 @@
 -- Bodies that the objects of a protected unit share, and those that each has of its own.
-use Rattle.std.proofs.Common.{◌≡◌, ℕ, ◌+◌, ◌<◌, Bool, true, false, List, ◌∷◌, length, drop, get_or, Option, Some, None, sym, ap, ◌∙◌}
-use Rattle.std.proofs.lemmas.List.{drop_more}
+use Rattle.std.proofs.Common.{◌≡◌, ℕ, ◌+◌, Bool, true, false, List, ◌∷◌, Option, Some, None, sym, ap, ◌∙◌}
 use Rattle.std.specs.Prelude.{if◌then◌else◌, nat_lt, slice_set}
 use Rattle.rv_static.specs.Static.{◌>>=◌}
 use Rattle.rv_tree.specs.Bodies.{OperationBody}
@@ -24,11 +23,6 @@ pub one_more : (of : ℕ → Option (List Body)) (number index : ℕ) (object : 
 one_more of number index object more u v small here =
     ap (λ (b : Bool). if b then (perhaps_compiled of number index object u >>= objects_compiled of number (index + 1) more) else None) small
     ∙ ap (λ (o : Option UnitBodies). o >>= objects_compiled of number (index + 1) more) here
-
--- the next object of a list
-pub next_object : (objects : List ObjectType) (i : ℕ) (object : ObjectType) → i < length objects → object ≡ get_or objects i object
-    → drop i objects ≡ object ∷ drop (i + 1) objects
-next_object objects i object lt at = drop_more objects i object lt ∙ ap (λ (one : ObjectType). one ∷ drop (i + 1) objects) (sym at)
 
 module _ (s : Setting) (scope : ScopeView) (number : ℕ) (bodies : List OperationBody) (same : List Body) (u w : UnitBodies) where
   compiled_once : object_bodies s scope 0 number bodies ≡ Some same → unit_bodies s scope number bodies u ≡ objects_compiled (objects_by s scope number bodies same) number 0 s.outline.objects u

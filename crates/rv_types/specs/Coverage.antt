@@ -1,5 +1,5 @@
 -- Which values the choices of a case statement cover (ISO/IEC 8652:2012, 3.8.1, 5.4).
-use Rattle.std.specs.Prelude.{ℕ, zero, suc, ◌+◌, ◌==◌, ℤ, pos, ◌+ℤ◌, ◌-ℤ◌, unsigned_abs, int_le, int_lt, Bool, true, false, ◌&&◌, ◌||◌, not, if◌then◌else◌, List, [], ◌∷◌, sum_by}
+use Rattle.std.specs.Prelude.{ℕ, zero, suc, ◌+◌, ◌==◌, ℤ, pos, ◌+ℤ◌, ◌-ℤ◌, unsigned_abs, int_le, int_lt, Bool, true, false, ◌&&◌, ◌||◌, if◌then◌else◌, List, [], ◌∷◌, sum_by}
 use Rattle.std.specs.List.{list_any, list_all}
 use Rattle.rv_shape.specs.declared.kind.Range.{Range}
 use Rattle.rv_code.specs.Statements.{Alternatives, no_alternatives, and_alternative}

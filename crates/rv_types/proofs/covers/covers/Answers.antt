@@ -1,10 +1,9 @@
-use Rattle.std.proofs.Common.{rules, tests, ◌≡◌, ◌∙◌, ap, sym, ℤ, Bool, true, to_z, of_z, w64, SFits}
-use Rattle.std.specs.Prelude.{int_lt, pos, ◌&&◌}
+use Rattle.std.proofs.Common.{rules, tests, ◌≡◌, true, w64, SFits}
+use Rattle.std.specs.Prelude.{int_lt, pos}
 use Rattle.std.proofs.lemmas.Int.{to_z-of_z}
 use Rattle.rv_code.specs.StatementView.{alternatives_view}
-use Rattle.rv_types.specs.Coverage.{others_last, with_others, lie_in, covers}
-use Rattle.rv_types.specs.Spans.{are_parts, each_once}
-use Rattle.rv_types.proofs.Covered.{parts_of, parts_in, covered_by}
+use Rattle.rv_types.specs.Coverage.{others_last, lie_in}
+use Rattle.rv_types.proofs.Covered.{parts_in, covered_by}
 use Rattle.rv_types.proofs.covers.covers.Goals as goal
 
 pub each_once-requires-clause-parts : goal.each_once-requires-clause-parts

@@ -1,4 +1,4 @@
-use Rattle.std.proofs.Common.{rules, tests, ◌≡◌, ◌∙◌, ap, Bool, ℤ, to_z, of_z, w64, SFits}
+use Rattle.std.proofs.Common.{rules, tests, ◌∙◌, ap, ℤ, to_z, of_z, w64, SFits}
 use Rattle.std.proofs.lemmas.Int.{to_z-of_z}
 use Rattle.rv_types.specs.Spans.{each_once}
 use Rattle.rv_types.proofs.Chains.{sorted_rising, still_parts, same_once}

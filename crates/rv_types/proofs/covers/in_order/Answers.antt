@@ -1,7 +1,6 @@
-use Rattle.std.proofs.Common.{rules, ◌≡◌, ◌∙◌, ap, sym, Bool, true, false, Some, ℤ, to_z, of_z, w64, SFits}
-use Rattle.std.specs.Prelude.{int_lt, ◌||◌}
+use Rattle.std.proofs.Common.{rules, ◌∙◌, ap, sym, false, Some, ℤ, w64, SFits}
 use Rattle.std.proofs.lemmas.Int.{to_z-of_z}
-use Rattle.rv_types.proofs.Chains.{is_chain, judged, stops, goes_behind, at_end, chain_of, is_gap, no_gaps}
+use Rattle.rv_types.proofs.Chains.{judged, stops, goes_behind, at_end, chain_of, is_gap, no_gaps}
 use Rattle.rv_types.proofs.covers.in_order.Goals as goal
 
 pub returns-in-None : goal.returns-in-None

@@ -1,4 +1,4 @@
-use Rattle.std.proofs.Common.{◌≡◌, ◌∙◌, ◌<◌, arith}
+use Rattle.std.proofs.Common.{◌∙◌, ◌<◌, arith}
 use Rattle.std.specs.Prelude.{slice_index_or}
 use Rattle.rv_types.proofs.Found.{none_known, cut, front_rises, back_rises, found_one, found_in_front, found_behind}
 use Rattle.rv_types.proofs.locals.found_rising.Goals as goal
