@@ -19,12 +19,12 @@ use Rattle.rv_behind.specs.declared.event.Reply.TheVariants as Gives
 use Rattle.rv_port.specs.declared.ended.Course.{Course}
 use Rattle.rv_port.specs.declared.ended.Ending.{Ending}
 use Rattle.rv_port.specs.declared.ended.Ending.TheVariants as Endings
-use Rattle.rv_port.specs.Bodies.{IsHad, marked}
+use Rattle.rv_port.specs.Bodies.{IsHad}
 use Rattle.rv_port.specs.Calls.{StopsBody, StoppedAt}
 use Rattle.rv_port.specs.Endings.{stop_of, stop_or, first_of, past, fresh, ending_of, TellsWhy, RunsCourse, EndsBy, OwnEnds, LentEnds, OwnGoes, LentGoes, TextEnded, TextGoes}
 use Rattle.rv_port.specs.Held.{held_by}
-use Rattle.rv_port.specs.Texts.{TextRuns, TextLent, TextRan, TextStops}
-use Rattle.rv_port.specs.Traces.{Passing, Trace, Went, WoreOut, Settled, SettlesBehind, told}
+use Rattle.rv_port.specs.Texts.{TextLent, TextRan, TextStops}
+use Rattle.rv_port.specs.Traces.{Passing, Trace, WoreOut, Settled, SettlesBehind, told}
 use Rattle.rv_port.proofs.Performing.{had_lent}
 use Rattle.rv_port.proofs.Texts.{lent_run}
 use Rattle.rv_port.proofs.Finals.{final_is}

@@ -1,4 +1,4 @@
-use Rattle.std.proofs.Common.{◌≡◌, ◌∙◌, Bool, Option, Some, refl, sym, ap, subst, inl}
+use Rattle.std.proofs.Common.{◌≡◌, ◌∙◌, Option, Some, refl, sym, ap, subst, inl}
 use Rattle.rv_code.specs.Bodies.{UnitBodies}
 use Rattle.rv_exec.specs.Bodies.{bodies_view}
 use Rattle.rv_runs.specs.declared.ready.Ready.{Ready}

@@ -1,4 +1,4 @@
-use Rattle.std.proofs.Common.{◌≡◌, ◌∙◌, ap, Bool, false, Some, rules, tests}
+use Rattle.std.proofs.Common.{◌≡◌, ap, false, Some, rules, tests}
 use Rattle.std.specs.Prelude.{is_some}
 use Rattle.rv_event.specs.declared.entry.Answer.{Answer}
 use Rattle.rv_port.specs.Reaching.{start_of}

@@ -4,7 +4,7 @@ use Rattle.rv_event.specs.Recorded.{recorded}
 use Rattle.rv_port.specs.Controls.{Told}
 use Rattle.rv_port.specs.Traces.{Passing}
 use Rattle.rv_behind.specs.declared.event.Ask.TheVariants as Wants
-use Rattle.rv_port.proofs.Controls.{load_more, load_same, worn_kept}
+use Rattle.rv_port.proofs.Controls.{load_more, load_same}
 use Rattle.rv_port.proofs.control.Control.load_shared.Goals as goal
 
 pub invariant_of-self-then-is_none : goal.invariant_of-self-then-is_none
