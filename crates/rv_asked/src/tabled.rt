@@ -96,7 +96,8 @@ impl Tabled {
         if list.len() > MOST_LINES {
             return Ok(None);
         }
-        Ok(Some(Table::build(self.alloc, list, host.catalogue())?))
+        let table = Table::build(self.alloc, list, host.catalogue())?;
+        Ok(Some(table))
     }
 
     /// Another list is in force, or more is loaded. Err where memory was refused.

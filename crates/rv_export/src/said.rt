@@ -106,11 +106,7 @@ fn call_of(
 }
 
 // The same of the operations of an object.
-fn calls_on(
-    alloc: Global,
-    catalogue: &Catalogue,
-    object: usize,
-) -> Result<Vec<String>, AllocError>
+fn calls_on(alloc: Global, catalogue: &Catalogue, object: usize) -> Result<Vec<String>, AllocError>
     ensures { IfOk result (λ calls. AreCallsOn calls.items catalogue.now object) }
 {
     let mut calls = Vec::new(alloc);

@@ -1,6 +1,6 @@
 -- What an entry asks is counted.
 use Rattle.std.proofs.Common.{◌≡◌, ◌≤◌, ◌<◌, ◌-◌, ℕ, zero, suc, Bool, true, false, List, [], ◌∷◌, Some, None, Option, length, sym, ap, ◌∙◌, subst, if◌then◌else◌, refl, arith}
-use Rattle.std.specs.Prelude.{◌==◌, slice_get, Vec}
+use Rattle.std.specs.Prelude.{◌==◌, slice_get}
 use Rattle.std.proofs.lemmas.Bool.Decides.{nat_tests}
 use Rattle.rv_access.specs.Lines.{line_at}
 use Rattle.rv_access.specs.Words.{Words}
@@ -41,13 +41,13 @@ counted_line old new h number asked call taken line is taken_is is_taken line_is
     let yes : takes old.filter h number call ≡ true = sym taken_is ∙ is_taken in
     let by : Option Words = line_by (force h) h call in
     some_call old new h number asked call is (λ keeps are tabled.
-    let counts : CountsLine old new (force h) by = subst (λ (n : ℕ). CountsLine old new (force h) (line_at (force h) n)) (line_is tabled keeps) (counts (force h) are) in
+    let one : CountsLine old new (force h) by = subst (λ (n : ℕ). CountsLine old new (force h) (line_at (force h) n)) (line_is tabled keeps) (counts (force h) are) in
     record {
-      rest = counts.rest;
-      counts = counts.counts;
-      tallies = λ words. counts.tallies words
+      rest = one.rest;
+      counts = one.counts;
+      tallies = λ words. one.tallies words
           ∙ sym (ap (λ (b : Bool). if b then tallied by words (counted_for old words) else counted_for old words) yes);
-      unmatched = counts.unmatched
+      unmatched = one.unmatched
           ∙ sym (ap (λ (b : Bool). if b then unmatched by old.unmatched else old.unmatched) yes);
     })
 
@@ -81,13 +81,18 @@ none_behind it list number are lt =
     let not : (number ≡ 0 → ⊥) = λ e. omega arith in
     at_place list number not ∙ none_there list (number - 1) (omega arith)
 
-pub line_decides : (it : Hits) (new : List Counted) (list : List Words) (number : ℕ) → (number ≡ 0 → ⊥) → (length it.counts.items < number → ⊥) → AreOf it.counts.items list →
-    ((line : Words) → AreOf it.counts.items list → slice_get list (number - 1) ≡ Some line → CountsAt it.counts.items new list line) →
-    (counts : Vec _ _) → counts.items ≡ new → CountsLine it (record it { counts = counts }) list (line_at list number)
-line_decides it new list number not few are at counts is =
+pub line_decides : (it new : Hits) (list : List Words) (number : ℕ) → (number ≡ 0 → ⊥) → (length it.counts.items < number → ⊥) → AreOf it.counts.items list →
+    ((line : Words) → AreOf it.counts.items list → slice_get list (number - 1) ≡ Some line → CountsAt it.counts.items new.counts.items list line) →
+    new ≡ record it { counts = new.counts } → CountsLine it new list (line_at list number)
+line_decides it new list number not few are at rest =
     let long : length it.counts.items ≡ length list = length_of list it.counts.items are in
     let found : (line : Words) × (slice_get list (number - 1) ≡ Some line) = some_there list (number - 1) (omega arith) in
     let line : Words = found.0 in
-    let c : CountsAt it.counts.items counts.items list line = subst (λ (cs : List Counted). CountsAt it.counts.items cs list line) (sym is) (at line are found.1) in
-    subst (λ (l : Option Words). CountsLine it (record it { counts = counts }) list l) (sym (at_place list number not ∙ found.1))
-    (record { rest = refl; counts = c.are; tallies = λ words. c.counted words (kept_for it.tallies words); unmatched = refl })
+    let c : CountsAt it.counts.items new.counts.items list line = at line are found.1 in
+    subst (λ (l : Option Words). CountsLine it new list l) (sym (at_place list number not ∙ found.1))
+    (record {
+      rest = rest ∙ ap (λ (n : ℕ). record it { counts = new.counts; unmatched = n }) (sym (ap (λ (x : Hits). x.unmatched) rest));
+      counts = c.are;
+      tallies = λ words. ap (λ (x : Hits). joined new.counts.items words (kept_for x.tallies words)) rest ∙ c.counted words (kept_for it.tallies words);
+      unmatched = ap (λ (x : Hits). x.unmatched) rest;
+    })

@@ -130,9 +130,10 @@ middle_holds : (old middle : Hits) (h : History) (number : ℕ) (asked : Option 
 middle_holds old middle h number None same keeps are tabled =
     (subst (λ (x : Hits). Keeps x.holding h.shapes h.past) (sym same) keeps, subst (λ (x : Hits). IsTabled x.tabled h) (sym same) tabled)
 middle_holds old middle h number (Some call) counts keeps are tabled =
-    let rest = (counts keeps are tabled).rest in
-    (subst (λ (x : Holding). Keeps x h.shapes h.past) (sym (ap (λ (x : Hits). x.holding) rest)) keeps,
-    subst (λ (x : Tabled). IsTabled x h) (sym (ap (λ (x : Hits). x.tabled) rest)) tabled)
+    let rest = (counts keeps are tabled).rest in (
+      subst (λ (x : Holding). Keeps x h.shapes h.past) (sym (ap (λ (x : Hits). x.holding) rest)) keeps,
+      subst (λ (x : Tabled). IsTabled x h) (sym (ap (λ (x : Hits). x.tabled) rest)) tabled,
+    )
 
 -- an entry is looked at: what it asks is counted, and it is noted
 pub looks : (old middle new : Hits) (h : History) (shapes : List Shape) (number a : ℕ) (r : Request) (w : Recorded) (asked : Option Body) → shapes ≡ h.shapes → ((past : List Entry) → Keeps old.holding shapes past → asked ≡ asked_at shapes past (Asked a r w)) → number < 2 ^ 64 →

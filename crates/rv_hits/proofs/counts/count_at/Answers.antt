@@ -11,6 +11,6 @@ returns c =
     let i = c.args.place in
     let d : Counted = c.index-counts-place-2.result in
     let times_is : c.one_more-times.result ≡ one_more (get_or cs i d).times =
-        c.one_more-times.ensures ∙ ap (λ (x : Counted). one_more x.times) (same_there cs i c.index-counts-place.result d c.requires) in
+    c.one_more-times.ensures ∙ ap (λ (x : Counted). one_more x.times) (same_there cs i c.index-counts-place.result d c.requires) in
     λ list line are is.
     subst (λ (n : ℕ). CountsAt cs (set cs i (record (get_or cs i d) { times = n })) list line) (sym times_is) (counted_at cs i d list line c.requires are is)
