@@ -91,6 +91,7 @@ impl<'f> Hits<'f> {
     }
 
     // Counts that no line decided.
+    #[tactic(auto, using(crate::proofs::Counting::none_decides))]
     fn count_none(&mut self)
         ensures { (list : List Words) (line : Option Words) → line ≡ None → AreOf self.old.counts.items list
             → CountsLine self.old self.new list line }
@@ -99,6 +100,7 @@ impl<'f> Hits<'f> {
     }
 
     // Counts that the line of a number of the list in force decided; none has the number 0.
+    #[tactic(auto, using(crate::proofs::Counting::none_behind, crate::proofs::Counting::line_decides))]
     fn count_line(&mut self, number: usize)
         ensures { (list : List Words) → AreOf self.old.counts.items list → CountsLine self.old self.new list (line_at list number) }
     {
@@ -114,6 +116,7 @@ impl<'f> Hits<'f> {
     }
 
     // Counts what is asked about a call at the entry of this number, if it is asked and the filter takes it.
+    #[tactic(auto, using(crate::proofs::Counting::uncounted, crate::proofs::Counting::untaken, crate::proofs::Counting::counted_line))]
     fn count(&mut self, host: &Host, number: usize, asked: Option<Body>) -> Result<(), AllocError>
         ensures { OnOk result (CountsCall self.old self.new host.now number asked) }
     {
@@ -153,6 +156,7 @@ impl<'f> Hits<'f> {
     }
 
     // A list of these lines comes in force.
+    #[tactic(auto, using(crate::proofs::Looking::lines_seen))]
     fn see_lines(&mut self, lines: &[Line]) -> Result<(), AllocError>
         ensures { OnOk result (SeesLines self.old self.new lines.now) }
     {
@@ -179,6 +183,7 @@ impl<'f> Hits<'f> {
     }
 
     // A list has come in force.
+    #[tactic(auto, using(crate::proofs::Looking::list_seen))]
     fn see(&mut self, host: &Host) -> Result<(), AllocError>
         ensures { OnOk result (Sees self.old self.new host.now) }
     {
