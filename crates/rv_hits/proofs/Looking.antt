@@ -265,14 +265,15 @@ lists_taken old new units k deed a text w answer result is sees =
 
 -- All that is said
 
-pub all_said : (filter : FilterText) (it : Hits) (kept : Tallies) (h : History) (middle all : List ℕ) → Gathers filter it h → ((words : List ℕ) → kept_for kept words ≡ counted_for it words) →
-    middle ≡ rows_text (codes "decided") (kept_for kept) (map string_bytes it.words.items) →
-    all ≡ middle ++ row_text (codes "decided") (codes "no line") (record { times = it.unmatched; granted = 0 }) → all ≡ hits_text filter h
-all_said filter it kept h middle all follows kept_is middle_is all_is =
-    all_is ∙ ap (λ (m : List ℕ). m ++ row_text (codes "decided") (codes "no line") (record { times = it.unmatched; granted = 0 })) middle_is
-    ∙ ap (λ (n : ℕ). rows_text (codes "decided") (kept_for kept) (map string_bytes it.words.items) ++ row_text (codes "decided") (codes "no line") (record { times = n; granted = 0 })) follows.unmatched
-    ∙ ap (λ (ws : List (List ℕ)). rows_text (codes "decided") (kept_for kept) ws ++ row_text (codes "decided") (codes "no line") (tally_of_none filter h)) follows.words
-    ∙ (λ i. rows_text (codes "decided") (λ words. (kept_is words ∙ follows.tallies words) i) (words_of h.lists) ++ row_text (codes "decided") (codes "no line") (tally_of_none filter h))
+pub all_said : (filter : FilterText) (it new : Hits) (h : History) (middle all : List ℕ) → Gathers filter it h → Joins it new → middle ≡ rows_text (codes "decided") (kept_for new.tallies) (map string_bytes new.words.items) →
+    all ≡ middle ++ row_text (codes "decided") (codes "no line") (record { times = new.unmatched; granted = 0 }) → all ≡ hits_text filter h
+all_said filter it new h middle all follows joins middle_is all_is =
+    let words_is : map string_bytes new.words.items ≡ words_of h.lists = ap (λ (x : Hits). map string_bytes x.words.items) joins.rest ∙ follows.words in
+    let unmatched_is : new.unmatched ≡ times_in (decides_none filter) h = ap (λ (x : Hits). x.unmatched) joins.rest ∙ follows.unmatched in
+    all_is ∙ ap (λ (m : List ℕ). m ++ row_text (codes "decided") (codes "no line") (record { times = new.unmatched; granted = 0 })) middle_is
+    ∙ ap (λ (n : ℕ). rows_text (codes "decided") (kept_for new.tallies) (map string_bytes new.words.items) ++ row_text (codes "decided") (codes "no line") (record { times = n; granted = 0 })) unmatched_is
+    ∙ ap (λ (ws : List (List ℕ)). rows_text (codes "decided") (kept_for new.tallies) ws ++ row_text (codes "decided") (codes "no line") (tally_of_none filter h)) words_is
+    ∙ (λ i. rows_text (codes "decided") (λ words. (joins.tallies words ∙ follows.tallies words) i) (words_of h.lists) ++ row_text (codes "decided") (codes "no line") (tally_of_none filter h))
 
 -- A list comes in force: what the lines of the one before decided is added to the tallies, and no line of it has decided yet
 

@@ -79,7 +79,7 @@ impl<'f> Hits<'f> {
     pub fn into_text(mut self) -> Result<String, AllocError>
         ensures { (filter : FilterText) (h : History) → Follows filter self.entry h → IfOk result (λ text. string_bytes text ≡ hits_text filter h) }
     {
-        join(self.alloc, &mut self.tallies, self.counts.as_slice())?;
+        self.join()?;
         let mut text = String::new(self.alloc);
         put_rows(&mut text, "decided", &self.tallies, self.words.as_slice())?;
         let unmatched = Tally {
@@ -126,7 +126,8 @@ impl<'f> Hits<'f> {
         if !takes(self.alloc, &self.filter, host, number, &call)? {
             return Ok(());
         }
-        self.count_line(self.tabled.decided(host, &self.holding, &call));
+        let line = self.tabled.decided(host, &self.holding, &call);
+        self.count_line(line);
         Ok(())
     }
 

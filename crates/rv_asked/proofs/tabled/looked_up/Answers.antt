@@ -1,4 +1,4 @@
-use Rattle.std.proofs.Common.{[], List, Option, Some, ℕ, sym, ap, ◌∙◌}
+use Rattle.std.proofs.Common.{List, Option, Some, ℕ, sym, ap, ◌∙◌}
 use Rattle.rv_history.specs.History.{force}
 use Rattle.rv_history.specs.Subject.{subject}
 use Rattle.rv_shape.specs.Catalogue.{target}

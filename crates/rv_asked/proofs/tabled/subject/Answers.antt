@@ -1,4 +1,4 @@
-use Rattle.std.proofs.Common.{List, Option, sym, subst}
+use Rattle.std.proofs.Common.{List, Option, subst}
 use Rattle.rv_event.specs.declared.entry.Body.{Body}
 use Rattle.rv_history.specs.Subject.{home, subject_of, unit_at}
 use Rattle.rv_host.specs.Numbered.{IsNumber}
