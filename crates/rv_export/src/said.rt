@@ -146,10 +146,20 @@ fn call_in(calls: &[Vec<String>], object: usize, operation: usize) -> Option<&st
     ensures { (shapes : List Shape) → AreCalls calls.now shapes →
         IfSome result (λ fields. fields.now ≡ target_fields (target shapes object operation)) }
 {
-    match calls.get(object)?.as_slice().get(operation) {
+    let Some(row) = calls.get(object) else {
+        return None;
+    };
+    match row.as_slice().get(operation) {
         Some(fields) => Some(fields.as_str()),
         None => None,
     }
+}
+
+// Puts what was found.
+fn put_found(text: &mut String, found: &str) -> Result<(), AllocError>
+    ensures { OnOk result (string_bytes text.new ≡ string_bytes text.old ++ found.now) }
+{
+    text.push_str(found)
 }
 
 impl Said {
@@ -222,7 +232,7 @@ impl Said {
             string_bytes text.new ≡ string_bytes text.old ++ target_fields (target h.shapes object operation)) }
     {
         match call_in(self.calls.as_slice(), object, operation) {
-            Some(fields) => text.push_str(fields),
+            Some(fields) => put_found(text, fields),
             None => put_target(text, &catalogue.callee(object, operation)),
         }
     }

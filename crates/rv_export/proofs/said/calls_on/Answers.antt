@@ -1,5 +1,6 @@
 use Rattle.std.proofs.Common.{◌≡◌, ℕ, List, sym, subst}
 use Rattle.std.specs.Prelude.{String, Vec, string_bytes}
+use Rattle.std.specs.Global.{Global}
 use Rattle.rv_shape.specs.Catalogue.{target, who}
 use Rattle.rv_shape.specs.Printed.{actor_text}
 use Rattle.rv_export.specs.Exports.{target_fields}
@@ -12,7 +13,7 @@ loop-operation-preserved c =
     let shapes = c.args.catalogue.now in
     let before = c.loop-operation.calls.items in
     record {
-      are = subst (λ (xs : List (String _)). AreCallsOn xs shapes c.args.object) (sym c.in_ok-push.ensures.items)
-          (each_more (λ (n : ℕ) (x : (String _)). string_bytes x ≡ target_fields (target shapes c.args.object n)) before c.in_ok-call_of.field-0 c.loop-operation.operation c.loop-operation.invariant.are c.loop-operation.invariant.long c.in_ok-call_of.ensures);
+      are = subst (λ (xs : List (String Global)). AreCallsOn xs shapes c.args.object) (sym c.in_ok-push.ensures.items)
+          (each_more (λ (n : ℕ) (x : (String Global)). string_bytes x ≡ target_fields (target shapes c.args.object n)) before c.in_ok-call_of.field-0 c.loop-operation.operation c.loop-operation.invariant.are c.loop-operation.invariant.long c.in_ok-call_of.ensures);
       long = long_more before c.push.new.self.items c.in_ok-call_of.field-0 c.loop-operation.operation c.in_ok-push.ensures.items c.loop-operation.invariant.long;
     }
