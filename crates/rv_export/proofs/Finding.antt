@@ -1,5 +1,5 @@
 -- What many lines say alike is found one by one.
-use Rattle.std.proofs.Common.{◌≡◌, ◌-◌, ◌<◌, ◌≤◌, ◌+◌, ℕ, zero, suc, Bool, true, false, List, [], ◌∷◌, ◌++◌, Some, None, Option, length, get_or, take, map, refl, sym, ap, ◌∙◌, subst, arith, if◌then◌else◌}
+use Rattle.std.proofs.Common.{◌≡◌, ◌-◌, ◌<◌, ◌≤◌, ◌+◌, ℕ, zero, suc, Bool, false, List, [], ◌∷◌, ◌++◌, Some, None, Option, length, get_or, take, map, refl, sym, ap, ◌∙◌, subst, arith, if◌then◌else◌}
 use Rattle.std.specs.Prelude.{◌==◌, IfSome, String, slice_get, string_bytes}
 use Rattle.std.specs.Option.{option_map}
 use Rattle.std.proofs.lemmas.Bool.Decides.{nat_tests}
@@ -27,6 +27,16 @@ pub long_more : {X : Type 0} (xs ys : List X) (x : X) (n : ℕ) → ys ≡ xs ++
 long_more xs ys x n is long =
     let e : length ys ≡ suc (length xs) = ap length is ∙ long_is xs x in
     omega arith
+
+pub get_some : {X : Type 0} (xs : List X) (i : ℕ) (x : X) → i < length xs → x ≡ get_or xs i x → Some x ≡ slice_get xs i
+get_some [] i x lt e = absurd (omega arith)
+get_some (y ∷ ys) zero x lt e = ap Some e
+get_some (y ∷ ys) (suc i) x lt e = get_some ys i x (omega arith) e
+
+pub get_none : {X : Type 0} (xs : List X) (i : ℕ) → length xs ≤ i → None ≡ slice_get xs i
+get_none [] i le = refl
+get_none (y ∷ ys) zero le = absurd (omega arith)
+get_none (y ∷ ys) (suc i) le = get_none ys i (omega arith)
 
 pub at_some : {X : Type 0} (P : X → Type 0) (o : Option X) (x : X) → Some x ≡ o → IfSome o P → P x
 at_some P o x e = subst (λ (p : Option _). IfSome p P → P x) e (λ h. h)

@@ -10,10 +10,8 @@ use Rattle.rv_asked.specs.Asked.{decided_by, line_by, takes}
 use Rattle.rv_asked.specs.Holding.{Keeps}
 use Rattle.rv_asked.specs.Tabled.{IsTabled}
 use Rattle.rv_tallied.specs.Tallies.{kept_for, one_more}
-use Rattle.rv_tallied.specs.declared.tallies.Tally.{Tally}
 use Rattle.rv_hits.specs.Counts.{AreOf, CountsAt, joined}
 use Rattle.rv_hits.specs.Following.{CountsCall, CountsLine, CountsTaken, counted_for, tallied, unmatched}
-use Rattle.rv_hits.specs.declared.counts.Counted.{Counted}
 use Rattle.rv_hits.proofs.Places.{length_of}
 use Rattle.rv_hits.specs.declared.hits.Hits.{Hits}
 

@@ -1,6 +1,6 @@
 -- What is kept follows a journal.
-use Rattle.std.proofs.Common.{◌≡◌, ◌≤◌, ◌<◌, ◌+◌, ◌^◌, ℕ, suc, Bool, true, false, List, [], ◌∷◌, ◌++◌, Some, None, Option, Result, Ok, Err, length, map, refl, sym, ap, ◌∙◌, subst, arith, Bor, codes, if◌then◌else◌}
-use Rattle.std.specs.Prelude.{OnOk, String, string_bytes, ◌&&◌, is_none}
+use Rattle.std.proofs.Common.{◌≡◌, ◌≤◌, ◌<◌, ◌+◌, ◌^◌, ℕ, suc, Bool, List, [], ◌∷◌, ◌++◌, Some, None, Option, Result, Ok, Err, length, map, refl, sym, ap, ◌∙◌, subst, arith, Bor, codes, if◌then◌else◌}
+use Rattle.std.specs.Prelude.{OnOk, string_bytes, ◌&&◌, is_none}
 use Rattle.std.specs.Option.{unwrap_or}
 use Rattle.rv_access.specs.Lines.{allows}
 use Rattle.rv_access.specs.Words.{Words}
@@ -19,7 +19,7 @@ use Rattle.rv_reading.specs.Reads.{told}
 use Rattle.rv_reading.specs.Told.{Told, Asks, Loads, Lists}
 use Rattle.rv_reading.specs.declared.deed.Deed.{Deed}
 use Rattle.rv_reading.specs.declared.deed.Deed.TheVariants as Deeds
-use Rattle.rv_audit.specs.Meant.{Meant, Means, OfList, OfLoad, OfRequest, answer_in, due, next}
+use Rattle.rv_audit.specs.Meant.{Meant, OfList, next}
 use Rattle.rv_audit.specs.Observing.{Notes, Takes}
 use Rattle.rv_refused.specs.Filters.{FilterText}
 use Rattle.rv_refused.specs.Looking.{WillHold}
@@ -33,11 +33,10 @@ use Rattle.rv_asked.proofs.Timing.{times_few, times_listed, times_loaded}
 use Rattle.rv_asked.specs.declared.holding.Holding.{Holding}
 use Rattle.rv_tallied.specs.Tallies.{kept_for, row_text, rows_text}
 use Rattle.rv_tallied.proofs.Steps.{one_if_is, tally_is}
-use Rattle.rv_tallied.specs.declared.tallies.Tallies.{Tallies}
 use Rattle.rv_tallied.specs.declared.tallies.Tally.{Tally}
-use Rattle.rv_hits.specs.Counts.{AreOf, IsFresh, joined}
-use Rattle.rv_hits.specs.Following.{Awaits, CountsCall, CountsLine, CountsTaken, Follows, Gathers, Joins, Looks, Renews, Sees, SeesLines, counted_for, tallied, unmatched}
-use Rattle.rv_hits.specs.Hits.{decides_by, decides_none, grants_by, has_words, hits_text, is_granted, tally_of, tally_of_none, with_lines, words_of}
+use Rattle.rv_hits.specs.Counts.{AreOf, IsFresh}
+use Rattle.rv_hits.specs.Following.{Awaits, CountsCall, Follows, Gathers, Joins, Looks, Renews, Sees, SeesLines, counted_for, tallied, unmatched}
+use Rattle.rv_hits.specs.Hits.{decides_by, decides_none, grants_by, has_words, hits_text, tally_of, tally_of_none, with_lines, words_of}
 use Rattle.rv_hits.specs.declared.hits.Hits.{Hits}
 use Rattle.rv_hits.proofs.Seeing.{lists_more}
 

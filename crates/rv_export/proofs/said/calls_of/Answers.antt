@@ -1,10 +1,7 @@
-use Rattle.std.proofs.Common.{◌≡◌, ℕ, List, sym, subst}
-use Rattle.std.specs.Prelude.{String, Vec, string_bytes}
+use Rattle.std.proofs.Common.{ℕ, List, sym, subst}
+use Rattle.std.specs.Prelude.{String, Vec}
 use Rattle.std.specs.Global.{Global}
-use Rattle.rv_shape.specs.Catalogue.{target, who}
-use Rattle.rv_shape.specs.Printed.{actor_text}
-use Rattle.rv_export.specs.Exports.{target_fields}
-use Rattle.rv_export.specs.Said.{AreActors, AreCalls, AreCallsOn}
+use Rattle.rv_export.specs.Said.{AreCalls, AreCallsOn}
 use Rattle.rv_export.proofs.Finding.{each_more, long_more}
 use Rattle.rv_export.proofs.said.calls_of.Goals as goal
 
