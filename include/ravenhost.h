@@ -24,6 +24,7 @@
  * What is only tested (bench/c_library.sh): the words of a fault; that memory is found wanting only where it is.
  *
  * What is trusted:
+ * - That what a call writes lies apart from what it reads: pass no components that lie in the answer.
  * - That a handle stays as the library left it: begin with rh_none(), and neither copy nor write it. One call at a time is made on it.
  * - That the caller keeps to the types. `script` points to `length` bytes, which nobody writes during the call; `told` points to a text
  *   of its own, and its `bytes` to `capacity` bytes of their own, which nobody else reads or writes during the call. No pointer

@@ -41,11 +41,12 @@ static int load(rh_host *host)
 /* Fills the tank: the body adds what it is given to the level. */
 static int fill(rh_host *host, size_t pilot, rh_target target, int64_t amount, rh_answer *answer)
 {
+    int64_t level;
     int32_t kind = rh_call(host, pilot, target, &amount, 1, answer);
     if (kind != RH_STARTED)
         return kind;
-    answer->scalars[0] += amount;
-    return rh_end(host, pilot, answer->scalars, answer->count, RH_RETURN, &amount, 0, answer);
+    level = answer->scalars[0] + amount;
+    return rh_end(host, pilot, &level, 1, RH_RETURN, &amount, 0, answer);
 }
 
 /* Prints the journal, page by page. */
