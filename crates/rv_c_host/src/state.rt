@@ -27,8 +27,12 @@ pub struct State {
 
 // The state of a host.
 fn told_state(host: &Host) -> State
-    ensures { result ≡ record { used = length host.now.past; room = room host.now; version = version host.now;
-        halted = if halted host.now.past then 1 else 0 } }
+    ensures { result ≡ record {
+      used = length host.now.past;
+      room = room host.now;
+      version = version host.now;
+      halted = if halted host.now.past then 1 else 0;
+    } }
 {
     let halted = if host.is_halted() { 1 } else { 0 };
     State {

@@ -1,1 +1,0 @@
-//! One call of each, which succeeds: a contract lets a call answer that there was no memory.
