@@ -9,7 +9,8 @@
 # - ada/tell.adb says the same of the rows, where gnatmake is;
 # - each row that is played without settings, unit texts and faults goes through a handle too, call by call, and its journal is the row's;
 # - each call of a handle gives what is due, with each allocation refused in turn; what is refused changes nothing;
-# - examples/c_host prints its journal.
+# - examples/c_host and examples/ada_host print their journal, and examples/c_plant runs 20 times, its journals legal;
+# - sizes and offsets of the Ada package are the header's.
 # Statuses: 0 as due, 1 something isn't, 2 the library can't be built, 127 a tool is missing. Needs rt, make, cc, ar, nm, pkg-config,
 # awk and cmp.
 set -u
@@ -411,11 +412,11 @@ cat >"$folder/hosts.c" <<'END'
 static const char plant[] = "unit Plant\nprotected Tank 35\nscalar 0 100 10\nscalar 0 1 0\nprocedure Fill in 0 100\nfunction Level 0 100\n"
                             "entry Take 2\nhandler Rise 3\nsuspension Ready\n";
 static const char nav[] = "unit Nav\ntask Pilot 15\ntask Aux 15\n";
-static const char list[] = "allow Nav * *\nallow Plant * *\n";
+static const char list[] = "allow Nav * *\nallow Interrupts * *\n";
 static const char due[] =
     "1 operator load Plant -> accepted 0\n"
     "2 operator load Nav -> accepted 0\n"
-    "3 operator list [allow Nav * *; allow Plant * *] -> accepted 0\n"
+    "3 operator list [allow Nav * *; allow Interrupts * *] -> accepted 0\n"
     "4 Nav.Pilot call Plant.Tank Fill 25 -> started\n"
     "5 Nav.Pilot end 35 0 : return -> done\n"
     "6 Nav.Pilot call Plant.Tank Level -> started\n"
@@ -432,10 +433,10 @@ static const char due[] =
     "17 Nav.Pilot delay 7 -> delayed\n"
     "18 operator tick 2 -> accepted 0\n"
     "19 Nav.Pilot resume -> woken\n"
-    "20 operator list [allow Nav * *; allow Plant * *; deny Nav Plant.Tank Fill] -> accepted 0\n"
+    "20 operator list [allow Nav * *; allow Interrupts * *; deny Nav Plant.Tank Fill] -> accepted 0\n"
     "21 Nav.Pilot call Plant.Tank Fill 5 -> refused 1 line 3 version 2\n"
-    "22 operator list [allow Nav * *; allow Plant * *; deny Nav Plant.Tank Level] -> accepted 0\n"
-    "23 operator list [allow Nav * *; allow Plant * *] -> accepted 0\n"
+    "22 operator list [allow Nav * *; allow Interrupts * *; deny Nav Plant.Tank Level] -> accepted 0\n"
+    "23 operator list [allow Nav * *; allow Interrupts * *] -> accepted 0\n"
     "24 Nav.Aux finish -> accepted 0\n"
     "25 operator halt -> accepted 0\n";
 static int faults = 0;
@@ -653,6 +654,100 @@ holds "examples/c_host builds by its own Makefile" make -C "$folder/c_host" CFLA
 sed -n 's/^    \([0-9].* -> .*\)/\1/p' "$top/examples/c_host/README.md" >"$folder/due_journal"
 : >"$folder/nothing"
 told "examples/c_host" 0 "$folder/due_journal" "$folder/nothing" "$folder/c_host/out/c_host"
+
+cp -r "$top/examples/c_plant" "$folder/c_plant"
+rm -rf "$folder/c_plant/out"
+holds "examples/c_plant builds by its own Makefile" make -C "$folder/c_plant" CFLAGS="-g $checks"
+printf 'the sensor filled 500 times, and the display was refused\nthe journal is legal\n' >"$folder/due_plant"
+for _ in $(seq 20); do
+    told "examples/c_plant" 0 "$folder/due_plant" "$folder/nothing" timeout 60 "$folder/c_plant/out/c_plant"
+done
+
+if [ -n "$tell" ]; then
+    cat >"$folder/ada/sizes.adb" <<'END'
+with Ada.Text_IO;
+with Ravenhost; use Ravenhost;
+
+procedure Sizes is
+   A : Answer;
+   T : Target;
+   S : State;
+   X : Text;
+   H : Host;
+
+   procedure Put (Name : String; Number : Integer) is
+   begin
+      Ada.Text_IO.Put_Line (Name & Number'Image);
+   end Put;
+begin
+   Put ("host", H'Size / 8);
+   Put ("text", X'Size / 8);
+   Put ("text.bytes", X.Bytes'Position);
+   Put ("text.capacity", X.Capacity'Position);
+   Put ("text.length", X.Length'Position);
+   Put ("text.fault", X.Before'Position);
+   Put ("answer", A'Size / 8);
+   Put ("answer.kind", A.Kind'Position);
+   Put ("answer.rule", A.Rule'Position);
+   Put ("answer.line", A.Line'Position);
+   Put ("answer.version", A.Version'Position);
+   Put ("answer.actor", A.Actor'Position);
+   Put ("answer.count", A.Count'Position);
+   Put ("answer.value", A.Value'Position);
+   Put ("answer.scalars", A.Scalars'Position);
+   Put ("target", T'Size / 8);
+   Put ("target.object", T.Object'Position);
+   Put ("target.operation", T.Operation'Position);
+   Put ("state", S'Size / 8);
+   Put ("state.used", S.Used'Position);
+   Put ("state.room", S.Room'Position);
+   Put ("state.version", S.Version'Position);
+   Put ("state.halted", S.Halted'Position);
+end Sizes;
+END
+    cat >"$folder/sizes.c" <<'END'
+#include <ravenhost.h>
+#include <stdio.h>
+
+#define SIZE(name) printf("%s %lu\n", #name, (unsigned long)sizeof(rh_##name))
+#define PLACE(name, field) printf("%s.%s %lu\n", #name, #field, (unsigned long)offsetof(rh_##name, field))
+
+int main(void)
+{
+    SIZE(host);
+    SIZE(text);
+    PLACE(text, bytes);
+    PLACE(text, capacity);
+    PLACE(text, length);
+    PLACE(text, fault);
+    SIZE(answer);
+    PLACE(answer, kind);
+    PLACE(answer, rule);
+    PLACE(answer, line);
+    PLACE(answer, version);
+    PLACE(answer, actor);
+    PLACE(answer, count);
+    PLACE(answer, value);
+    PLACE(answer, scalars);
+    SIZE(target);
+    PLACE(target, object);
+    PLACE(target, operation);
+    SIZE(state);
+    PLACE(state, used);
+    PLACE(state, room);
+    PLACE(state, version);
+    PLACE(state, halted);
+    return 0;
+}
+END
+    # shellcheck disable=SC2046,SC2086 # flags
+    holds "sizes.c builds" cc $strict "$folder/sizes.c" $(pkg-config --cflags ravenhost) -o "$folder/sizes"
+    "$folder/sizes" >"$folder/due_sizes"
+    holds "sizes.adb and examples/ada_host build" sh -c "cd '$folder/ada' && gnatmake -q -gnat12 -gnatwae -I'$top/ada' sizes.adb -largs '$library' \
+        && gnatmake -q -gnat12 -gnatwae -I'$top/ada' '$top/examples/ada_host/ada_host.adb' -largs '$library'"
+    told "sizes and offsets of the Ada package" 0 "$folder/due_sizes" "$folder/nothing" "$folder/ada/sizes"
+    told "examples/ada_host" 0 "$folder/due_journal" "$folder/nothing" "$folder/ada/ada_host"
+fi
 
 cat >"$folder/buffers.c" <<'END'
 /*

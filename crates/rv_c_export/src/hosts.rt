@@ -44,7 +44,12 @@ pub extern "C" fn rh_free(alloc: Global, host: &mut Handle)
 
 /// As `rv_c_host::load_shape`.
 #[unsafe(no_mangle)]
-pub extern "C" fn rh_load_shape(alloc: Global, host: &mut Handle, text: &[u8], told: &mut Text<'_>) -> i32
+pub extern "C" fn rh_load_shape(
+    alloc: Global,
+    host: &mut Handle,
+    text: &[u8],
+    told: &mut Text<'_>,
+) -> i32
     ensures carries { (read : Read) × ReadsShape text.now read × Carries read host.old.value host.new.value result }
     ensures words { TellsWords told.old told.new }
 {
@@ -53,7 +58,12 @@ pub extern "C" fn rh_load_shape(alloc: Global, host: &mut Handle, text: &[u8], t
 
 /// As `rv_c_host::set_list`.
 #[unsafe(no_mangle)]
-pub extern "C" fn rh_set_list(alloc: Global, host: &mut Handle, text: &[u8], told: &mut Text<'_>) -> i32
+pub extern "C" fn rh_set_list(
+    alloc: Global,
+    host: &mut Handle,
+    text: &[u8],
+    told: &mut Text<'_>,
+) -> i32
     ensures carries { (read : Read) × ReadsList text.now read × Carries read host.old.value host.new.value result }
     ensures words { TellsWords told.old told.new }
 {
@@ -62,7 +72,12 @@ pub extern "C" fn rh_set_list(alloc: Global, host: &mut Handle, text: &[u8], tol
 
 /// As `rv_c_host::append_line`.
 #[unsafe(no_mangle)]
-pub extern "C" fn rh_append_line(alloc: Global, host: &mut Handle, text: &[u8], told: &mut Text<'_>) -> i32
+pub extern "C" fn rh_append_line(
+    alloc: Global,
+    host: &mut Handle,
+    text: &[u8],
+    told: &mut Text<'_>,
+) -> i32
     ensures carries { (read : Read) × ReadsLine Changes.Append text.now read × Carries read host.old.value host.new.value result }
     ensures words { TellsWords told.old told.new }
 {
@@ -110,7 +125,12 @@ pub extern "C" fn rh_halt(alloc: Global, host: &mut Handle) -> i32
 
 /// As `rv_c_host::find_actor`.
 #[unsafe(no_mangle)]
-pub extern "C" fn rh_find_actor(alloc: Global, host: &mut Handle, name: &[u8], actor: &mut usize) -> i32
+pub extern "C" fn rh_find_actor(
+    alloc: Global,
+    host: &mut Handle,
+    name: &[u8],
+    actor: &mut usize,
+) -> i32
     ensures finds { FindsActor name.now host.old.value actor.old actor.new result }
     ensures same { host.new.value ≡ host.old.value }
 {
