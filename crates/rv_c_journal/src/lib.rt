@@ -1,6 +1,6 @@
 //! The lines of the journal of the host behind a handle, for a caller in C.
 #![tactic(auto)]
 
-mod journal;
+mod lines;
 
-pub use journal::journal;
+pub use lines::journal;
