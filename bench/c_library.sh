@@ -6,7 +6,11 @@
 # - it is called with a buffer of no byte, of one, of fewer than are told, of just as many and of more;
 # - each of its allocations is refused in turn, and four threads call it at the same time;
 # - sizes and offsets of the header are held against what the exports read and write;
-# - ada/tell.adb says the same of the rows, where gnatmake is.
+# - ada/tell.adb says the same of the rows, where gnatmake is;
+# - each row that is played without settings, unit texts and faults goes through a handle too, call by call, and its journal is the row's;
+# - each call of a handle gives what is due, with each allocation refused in turn; what is refused changes nothing;
+# - examples/c_host and examples/ada_host print their journal, and examples/c_plant runs 20 times, its journals legal;
+# - sizes and offsets of the Ada package are the header's.
 # Statuses: 0 as due, 1 something isn't, 2 the library can't be built, 127 a tool is missing. Needs rt, make, cc, ar, nm, pkg-config,
 # awk and cmp.
 set -u
@@ -63,7 +67,8 @@ if command -v c++ >/dev/null; then
     holds "the header is C++ too" c++ -Wall -Wextra -pedantic -Werror -x c++ -fsyntax-only "$folder/installed/include/ravenhost.h"
 fi
 holds "the library exports what the header declares, and no other name of its own" \
-    test "$(nm -g --defined-only "$library" | awk '$2 == "T" && $3 ~ /^rh_/ { print $3 }' | sort | tr '\n' ' ')" = "rh_audit rh_play "
+    test "$(nm -g --defined-only "$library" | awk '$2 == "T" && $3 ~ /^rh_/ { print $3 }' | sort | tr '\n' ' ')" = \
+    "$(sed -n 's/^\(int32_t\|void\) \(rh_[a-z_]*\)(.*/\2/p' "$top/include/ravenhost.h" | sort | tr '\n' ' ')"
 
 cp -r "$top/examples/c_audit" "$folder/c_audit"
 rm -rf "$folder/c_audit/out"
@@ -75,6 +80,235 @@ holds "the header's stack is that of the crates" grep -q '^pub const STACK_BYTES
 
 # The deepest bodies need more stack than a first thread mostly has; c_audit has a thread of its own for that, and Ada's program not.
 ulimit -s 1048576 2>/dev/null || ulimit -s "$(ulimit -H -s)" 2>/dev/null || echo "no larger stack is to be had: deep rows may fail"
+
+cat >"$folder/by_handle.c" <<'END'
+/*
+ * Plays a script without unit texts, settings and bodies through a handle, and prints the journal. A step that no call can ask, as a
+ * tick that a task asks for, is left out: its answer is misuse, which no journal has.
+ */
+#define _POSIX_C_SOURCE 200809L
+#include <ctype.h>
+#include <ravenhost.h>
+#include <stdio.h>
+#include <stdlib.h>
+#include <string.h>
+#include <strings.h>
+
+enum { MOST_WORDS = 64 };
+
+/* A line in words, which lie in a copy of it. */
+struct words {
+    char *at[MOST_WORDS];
+    size_t count;
+};
+
+static rh_host host;
+static char room[1 << 16];
+
+static void stop(const char *what, int32_t got)
+{
+    fprintf(stderr, "by_handle: %s: %ld\n", what, (long)got);
+    exit(1);
+}
+
+static void split(char *line, struct words *words)
+{
+    char *word = strtok(line, " \t\r");
+    for (words->count = 0; word != NULL && words->count < MOST_WORDS; word = strtok(NULL, " \t\r"))
+        words->at[words->count++] = word;
+}
+
+/* The text behind so many words of a line. */
+static const char *behind(const char *line, int words)
+{
+    while (words-- > 0) {
+        line += strspn(line, " \t");
+        line += strcspn(line, " \t");
+    }
+    return line;
+}
+
+/* The number of an actor; the line of an interrupt is told apart. Gives whether there is one. */
+static int actor_of(const char *name, size_t *actor, long *line)
+{
+    *line = -1;
+    *actor = 0;
+    if (strcasecmp(name, "operator") == 0)
+        return 1;
+    if (strncasecmp(name, "Int_", 4) == 0 && isdigit((unsigned char)name[4]) && name[5] == '\0') {
+        *line = name[4] - '0';
+        *actor = (size_t)*line + 1;
+        return 1;
+    }
+    return rh_find_actor(&host, name, strlen(name), actor) == RH_DONE;
+}
+
+/* The values from a word on, up to a colon. Gives how many. */
+static size_t values_of(const struct words *words, size_t from, int64_t *values)
+{
+    size_t count = 0;
+    for (; from < words->count && strcmp(words->at[from], ":") != 0; from++)
+        values[count++] = strtoll(words->at[from], NULL, 10);
+    return count;
+}
+
+static void call(size_t actor, const struct words *words, rh_answer *answer)
+{
+    int64_t values[MOST_WORDS] = {0};
+    size_t count = values_of(words, 4, values);
+    rh_target target;
+    if (rh_find_target(&host, words->at[2], strlen(words->at[2]), words->at[3], strlen(words->at[3]), &target) != RH_DONE)
+        stop("an unknown operation", RH_UNKNOWN_NAME);
+    rh_call(&host, actor, target, values, count, answer);
+}
+
+static uint32_t exit_of(const struct words *words, size_t at)
+{
+    if (strcmp(words->at[at], "return") == 0)
+        return RH_RETURN;
+    if (strcmp(words->at[at], "overrun") == 0)
+        return RH_OVERRUN;
+    if (strcmp(words->at[at], "stopped") == 0)
+        return RH_STOPPED;
+    if (strcasecmp(words->at[at + 1], "Constraint_Error") == 0)
+        return RH_CONSTRAINT_ERROR;
+    return strcasecmp(words->at[at + 1], "Program_Error") == 0 ? RH_PROGRAM_ERROR : RH_ACCESS_DENIED;
+}
+
+static void end(size_t actor, const struct words *words, rh_answer *answer)
+{
+    int64_t scalars[MOST_WORDS] = {0}, values[MOST_WORDS] = {0};
+    size_t count = values_of(words, 2, scalars), at = 2 + count + 1, value_count = 0;
+    uint32_t exit = exit_of(words, at);
+    if (exit == RH_RETURN)
+        value_count = values_of(words, at + 1, values);
+    rh_end(&host, actor, scalars, count, exit, values, value_count, answer);
+}
+
+/* What the operator alone asks. Gives whether it was that. */
+static int order(const char *line, const struct words *words)
+{
+    rh_text told = rh_text_over(room, sizeof room);
+    const char *deed = words->at[1];
+    long long number = words->count > 2 ? strtoll(words->at[2], NULL, 10) : 0;
+    if (strcmp(deed, "tick") == 0) {
+        if (number >= 0 && number <= 0xffffffffLL)
+            rh_tick(&host, (uint32_t)number);
+    } else if (strcmp(deed, "halt") == 0)
+        rh_halt(&host);
+    else if (strcmp(deed, "append") == 0)
+        rh_append_line(&host, behind(line, 2), strlen(behind(line, 2)), &told);
+    else if (strcmp(deed, "remove") == 0)
+        rh_remove_line(&host, number < 0 ? 0 : (size_t)number);
+    else if (strcmp(deed, "replace") == 0)
+        rh_replace_line(&host, number < 0 ? 0 : (size_t)number, behind(line, 3), strlen(behind(line, 3)), &told);
+    else
+        return 0;
+    return 1;
+}
+
+/* Makes a step. */
+static void step(const char *line)
+{
+    char copy[4096];
+    struct words words;
+    rh_answer answer = {0};
+    size_t actor;
+    long raised;
+    const char *deed;
+    if (strlen(line) >= sizeof copy)
+        stop("a long line", 0);
+    split(strcpy(copy, line), &words);
+    if (words.count < 2)
+        return;
+    if (!actor_of(words.at[0], &actor, &raised))
+        stop("an unknown actor", RH_UNKNOWN_NAME);
+    deed = words.at[1];
+    if (actor == 0 && order(line, &words))
+        return;
+    if (strcmp(deed, "call") == 0)
+        call(actor, &words, &answer);
+    else if (strcmp(deed, "end") == 0)
+        end(actor, &words, &answer);
+    else if (strcmp(deed, "settle") == 0)
+        rh_settle(&host, actor, &answer);
+    else if (strcmp(deed, "resume") == 0)
+        rh_resume(&host, actor, &answer);
+    else if (strcmp(deed, "delay") == 0)
+        rh_delay_until(&host, actor, strtoll(words.at[2], NULL, 10), &answer);
+    else if (strcmp(deed, "clock") == 0)
+        rh_clock(&host, actor, &answer);
+    else if (strcmp(deed, "finish") == 0)
+        rh_finish(&host, actor, &answer);
+    else if (strcmp(deed, "fire") == 0 && raised >= 0)
+        rh_fire(&host, (uint32_t)raised, &answer);
+}
+
+/* Carries out a section, whose text ends before the next. */
+static void section(const char *opening, char *text)
+{
+    rh_text told = rh_text_over(room, sizeof room);
+    if (strncmp(opening, "@shape", 6) == 0)
+        rh_load_shape(&host, text, strlen(text), &told);
+    else if (strncmp(opening, "@list", 5) == 0)
+        rh_set_list(&host, text, strlen(text), &told);
+    else
+        while (*text != '\0') {
+            char *end = strchr(text, '\n');
+            if (end != NULL)
+                *end = '\0';
+            step(text);
+            text = end == NULL ? text + strlen(text) : end + 1;
+        }
+}
+
+static void print_journal(void)
+{
+    size_t from, next = 1;
+    do {
+        rh_text told = rh_text_over(room, sizeof room);
+        from = next;
+        if (rh_journal(&host, from, &next, &told) != RH_DONE || told.length > told.capacity)
+            stop("the journal", 0);
+        fwrite(room, 1, told.length, stdout);
+    } while (next > from);
+}
+
+int main(int argc, char **argv)
+{
+    static char script[1 << 24];
+    FILE *file = argc == 2 ? fopen(argv[1], "rb") : NULL;
+    char *at = script, *text, *next, opening;
+    int32_t made;
+    if (file == NULL)
+        return 2;
+    script[fread(script, 1, sizeof script - 1, file)] = '\0';
+    fclose(file);
+    host = rh_none();
+    made = rh_create(CAPACITY, 1, &host);
+    if (made != RH_DONE)
+        stop("no host", made);
+    while (*at == '@') {
+        text = strchr(at, '\n');
+        text = text == NULL ? at + strlen(at) : text + 1;
+        for (next = text; *next != '\0' && !(*next == '@' && next[-1] == '\n'); next++)
+            ;
+        opening = *next;
+        *next = '\0';
+        section(at, text);
+        *next = opening;
+        at = next;
+    }
+    print_journal();
+    rh_free(&host);
+    return 0;
+}
+END
+# The capacity is that of a script without settings.
+capacity=$(sed -n 's/^default_capacity = //p' "$top/crates/rv_settings/specs/Settings.antt")
+# shellcheck disable=SC2046,SC2086 # flags
+holds "by_handle.c builds" cc $strict -g $checks "-DCAPACITY=$capacity" "$folder/by_handle.c" \
+    $(pkg-config --cflags --libs ravenhost) -o "$folder/by_handle"
 
 # A script of a row: as it is, or grown from lines `TIMES LINE`.
 script_of() {
@@ -136,7 +370,8 @@ else
     echo "gnatmake isn't here: ada/ravenhost.ads isn't tried"
 fi
 
-played=0 judged=0 texts=0
+played=0 judged=0 texts=0 handled=0
+: >"$folder/nothing"
 for path in "$rows"/*.raven "$rows"/*.grown; do
     name=${path##*/} name=${name%.*}
     if [ -e "$rows/$name.said" ] || [ -e "$rows/$name.whole" ] || [ -e "$rows/$name.file" ]; then
@@ -151,12 +386,367 @@ for path in "$rows"/*.raven "$rows"/*.grown; do
         play_row "$name"
         played=$((played + 1)) deed=play
         ! grep -q '^@unit' "$folder/script" || texts=$((texts + 1))
+        if ! grep -q -e '^@unit' -e '^@host' -e '^@[^sl]' -e '^@s[^ht]' "$folder/script" && [ ! -s "$folder/due_fault" ] \
+            && ! grep -q -E '^[A-Za-z0-9_.]+[[:blank:]]+go([[:blank:]]|$)' "$folder/script"; then
+            told "by a handle $name" 0 "$folder/due_journal" "$folder/nothing" "$folder/by_handle" "$folder/script"
+            handled=$((handled + 1))
+        fi
     fi
     [ -z "$tell" ] || ada_row "$name" $deed
 done
-echo "rows: $played played, of them $texts with texts, and $judged judged"
-if [ "$played" = 0 ] || [ "$judged" = 0 ]; then
-    fault "there are rows of both kinds"
+echo "rows: $played played, of them $texts with texts, $handled by a handle too, and $judged judged"
+if [ "$played" = 0 ] || [ "$judged" = 0 ] || [ "$handled" = 0 ]; then
+    fault "there are rows of all kinds"
+fi
+
+cat >"$folder/hosts.c" <<'END'
+/*
+ * Calls of a host behind a handle: each at its answer, with each allocation refused in turn, and without a host. Looks at what the
+ * exports write.
+ */
+#include <ravenhost.h>
+#include <stdio.h>
+#include <stdlib.h>
+#include <string.h>
+
+static const char plant[] = "unit Plant\nprotected Tank 35\nscalar 0 100 10\nscalar 0 1 0\nprocedure Fill in 0 100\nfunction Level 0 100\n"
+                            "entry Take 2\nhandler Rise 3\nsuspension Ready\n";
+static const char nav[] = "unit Nav\ntask Pilot 15\ntask Aux 15\n";
+static const char list[] = "allow Nav * *\nallow Interrupts * *\n";
+static const char due[] =
+    "1 operator load Plant -> accepted 0\n"
+    "2 operator load Nav -> accepted 0\n"
+    "3 operator list [allow Nav * *; allow Interrupts * *] -> accepted 0\n"
+    "4 Nav.Pilot call Plant.Tank Fill 25 -> started\n"
+    "5 Nav.Pilot end 35 0 : return -> done\n"
+    "6 Nav.Pilot call Plant.Tank Level -> started\n"
+    "7 Nav.Pilot end : return 35 -> done\n"
+    "8 Nav.Aux call Plant.Tank Take -> queued\n"
+    "9 Nav.Pilot call Plant.Tank Fill 5 -> started\n"
+    "10 Nav.Pilot end 40 1 : return -> done handed Nav.Aux\n"
+    "11 Nav.Aux resume -> woken\n"
+    "12 Nav.Aux end 40 0 : raise Constraint_Error -> done\n"
+    "13 Int_3 fire -> started\n"
+    "14 Int_3 end 41 0 : return -> done\n"
+    "15 operator tick 5 -> accepted 0\n"
+    "16 Nav.Pilot clock -> accepted 5\n"
+    "17 Nav.Pilot delay 7 -> delayed\n"
+    "18 operator tick 2 -> accepted 0\n"
+    "19 Nav.Pilot resume -> woken\n"
+    "20 operator list [allow Nav * *; allow Interrupts * *; deny Nav Plant.Tank Fill] -> accepted 0\n"
+    "21 Nav.Pilot call Plant.Tank Fill 5 -> refused 1 line 3 version 2\n"
+    "22 operator list [allow Nav * *; allow Interrupts * *; deny Nav Plant.Tank Level] -> accepted 0\n"
+    "23 operator list [allow Nav * *; allow Interrupts * *] -> accepted 0\n"
+    "24 Nav.Aux finish -> accepted 0\n"
+    "25 operator halt -> accepted 0\n";
+static int faults = 0;
+
+static void check(int holds, const char *name, long number)
+{
+    if (!holds) {
+        faults++;
+        printf("%s, at %ld\n", name, number);
+    }
+}
+
+/* The allocation that is refused, counted down; below 0 none is. */
+static long left = -1;
+
+void *__real_malloc(size_t size);
+void *__real_realloc(void *at, size_t size);
+void *__wrap_malloc(size_t size);
+void *__wrap_realloc(void *at, size_t size);
+
+static int is_refused(void) { return left >= 0 && left-- == 0; }
+void *__wrap_malloc(size_t size) { return is_refused() ? NULL : __real_malloc(size); }
+void *__wrap_realloc(void *at, size_t size) { return is_refused() ? NULL : __real_realloc(at, size); }
+
+/* A call, made once more where memory was refused to it; then it must be as it was. */
+static rh_host host;
+#define AGAIN(call) ((got = (call)) == RH_OUT_OF_MEMORY && is_as_before(&before) ? (call) : got)
+#define DUE(kind, call) \
+    do { \
+        rh_state before; \
+        int32_t got; \
+        memset(&before, 0, sizeof before); \
+        rh_state_of(&host, &before); \
+        got = AGAIN(call); \
+        check(got == (kind), #call, got); \
+    } while (0)
+
+static int is_as_before(const rh_state *before)
+{
+    rh_state now;
+    memset(&now, 0, sizeof now);
+    rh_state_of(&host, &now);
+    check(memcmp(before, &now, sizeof now) == 0, "memory that is refused changes nothing", 0);
+    return 1;
+}
+
+static void ends(size_t actor, int64_t first, int64_t second, uint32_t exit, rh_answer *answer)
+{
+    int64_t scalars[2];
+    scalars[0] = first;
+    scalars[1] = second;
+    DUE(RH_ENDED, rh_end(&host, actor, scalars, 2, exit, scalars, 0, answer));
+}
+
+/* What changes nothing. */
+static void unrecorded(size_t pilot, rh_target fill, rh_answer *answer)
+{
+    rh_state before, after;
+    rh_target none = {99, 1};
+    rh_text told;
+    char words[64];
+    int64_t values[5] = {1, 1, 1, 1, 1};
+    memset(&before, 0, sizeof before);
+    memset(&after, 0, sizeof after);
+    told = rh_text_over(words, sizeof words);
+    check(rh_state_of(&host, &before) == RH_DONE, "state", 0);
+    check(rh_call(&host, pilot, none, values, 0, answer) == RH_MISUSE, "no such object", answer->kind);
+    check(rh_call(&host, pilot, fill, values, 5, answer) == RH_BAD_REQUEST, "five values", 0);
+    check(rh_call(&host, 999, fill, values, 1, answer) == RH_MISUSE, "no such actor", answer->kind);
+    check(rh_end(&host, pilot, values, 1, 6, values, 0, answer) == RH_BAD_REQUEST, "no such end", 0);
+    check(rh_resume(&host, pilot, answer) == RH_MISUSE, "nothing to resume", answer->kind);
+    check(rh_settle(&host, pilot, answer) == RH_MISUSE, "nothing to settle", answer->kind);
+    check(rh_fire(&host, 4, answer) == RH_UNATTACHED, "no handler", answer->kind);
+    check(rh_tick(&host, 0) == RH_MISUSE, "no tick", 0);
+    check(rh_remove_line(&host, 9) == RH_BAD_LINE, "no such line", 0);
+    check(rh_set_list(&host, "allow all", 9, &told) == RH_BAD_TEXT && told.length == strlen("list BadWord at line 1")
+          && memcmp(words, "list BadWord at line 1", told.length) == 0, "no list", (long)told.length);
+    check(rh_load_shape(&host, "\xff", 1, &told) == RH_BAD_TEXT && told.length == 7, "no text", (long)told.length);
+    check(rh_load_shape(&host, nav, strlen(nav), &told) == RH_MISUSE && told.length == strlen("shape NameTaken")
+          && memcmp(words, "shape NameTaken", told.length) == 0, "a name that is taken", (long)told.length);
+    check(rh_state_of(&host, &after) == RH_DONE && memcmp(&before, &after, sizeof after) == 0, "nothing is changed", 0);
+}
+
+/* The whole run, in which at most one allocation is refused. */
+static void run(void)
+{
+    char words[64], lines[4096];
+    rh_text told = rh_text_over(words, sizeof words);
+    rh_answer answer;
+    rh_target fill, level, take;
+    size_t pilot = 0, aux = 0, at, next = 0, end = 0;
+    int64_t value = 25;
+    int32_t got;
+    rh_state state;
+    memset(&answer, 0x5a, sizeof answer);
+    host = rh_none();
+    check(rh_create(15, 1, &host) == RH_BAD_LIMIT && rh_create(100, 9, &host) == RH_BAD_LIMIT, "limits", 0);
+    got = rh_create(100, 1, &host);
+    if (got == RH_OUT_OF_MEMORY)
+        got = rh_create(100, 1, &host);
+    check(got == RH_DONE && rh_create(100, 1, &host) == RH_HAS_HOST, "a host", got);
+    DUE(RH_ACCEPTED, rh_load_shape(&host, plant, strlen(plant), &told));
+    DUE(RH_ACCEPTED, rh_load_shape(&host, nav, strlen(nav), &told));
+    DUE(RH_ACCEPTED, rh_set_list(&host, list, strlen(list), &told));
+    check(rh_find_actor(&host, "nav.PILOT", 9, &pilot) == RH_DONE && rh_find_actor(&host, "Nav.Aux", 7, &aux) == RH_DONE, "actors", 0);
+    check(rh_find_actor(&host, "Nav.None", 8, &at) == RH_UNKNOWN_NAME, "no actor", 0);
+    check(rh_find_target(&host, "Plant.Tank", 10, "Fill", 4, &fill) == RH_DONE
+          && rh_find_target(&host, "Plant.Tank", 10, "Level", 5, &level) == RH_DONE
+          && rh_find_target(&host, "Plant.Tank", 10, "Take", 4, &take) == RH_DONE
+          && rh_find_target(&host, "Plant.Tank", 10, "None", 4, &take) == RH_UNKNOWN_NAME, "operations", 0);
+    DUE(RH_STARTED, rh_call(&host, pilot, fill, &value, 1, &answer));
+    check(answer.kind == RH_STARTED && answer.count == 2 && answer.scalars[0] == 10 && answer.scalars[1] == 0, "the components", 0);
+    for (at = 2 * sizeof(int64_t); at < sizeof answer.scalars; at++)
+        check(((unsigned char *)answer.scalars)[at] == 0x5a, "a component that there isn't", (long)at);
+    DUE(RH_BUSY, rh_call(&host, aux, fill, &value, 1, &answer));
+    ends(pilot, 35, 0, RH_RETURN, &answer);
+    DUE(RH_STARTED, rh_call(&host, pilot, level, &value, 0, &answer));
+    value = 35;
+    DUE(RH_ENDED, rh_end(&host, pilot, &value, 0, RH_RETURN, &value, 1, &answer));
+    DUE(RH_QUEUED, rh_call(&host, aux, take, &value, 0, &answer));
+    DUE(RH_WAITING, rh_resume(&host, aux, &answer));
+    value = 5;
+    DUE(RH_STARTED, rh_call(&host, pilot, fill, &value, 1, &answer));
+    ends(pilot, 40, 1, RH_RETURN, &answer);
+    check(answer.actor == aux && answer.rule == 0, "handed over", (long)answer.actor);
+    DUE(RH_HANDED_OVER, rh_resume(&host, aux, &answer));
+    check(answer.count == 2 && answer.scalars[0] == 40 && answer.scalars[1] == 1, "the components that are handed over", 0);
+    ends(aux, 40, 0, RH_CONSTRAINT_ERROR, &answer);
+    DUE(RH_STARTED, rh_fire(&host, 3, &answer));
+    ends(4, 41, 0, RH_RETURN, &answer);
+    DUE(RH_ACCEPTED, rh_tick(&host, 5));
+    DUE(RH_ACCEPTED, rh_clock(&host, pilot, &answer));
+    check(answer.value == 5, "the clock", (long)answer.value);
+    DUE(RH_DELAYED, rh_delay_until(&host, pilot, 7, &answer));
+    DUE(RH_ACCEPTED, rh_tick(&host, 2));
+    DUE(RH_WOKEN, rh_resume(&host, pilot, &answer));
+    DUE(RH_ACCEPTED, rh_append_line(&host, "deny Nav Plant.Tank Fill", 24, &told));
+    DUE(RH_REFUSED, rh_call(&host, pilot, fill, &value, 1, &answer));
+    check(answer.rule == 1 && answer.line == 3 && answer.version == 2, "the refusal", answer.rule);
+    DUE(RH_ACCEPTED, rh_replace_line(&host, 3, "deny Nav Plant.Tank Level", 25, &told));
+    DUE(RH_ACCEPTED, rh_remove_line(&host, 3));
+    if (left < 0)
+        unrecorded(pilot, fill, &answer);
+    DUE(RH_ACCEPTED, rh_finish(&host, aux, &answer));
+    DUE(RH_ACCEPTED, rh_halt(&host));
+    check(rh_state_of(&host, &state) == RH_DONE && state.used == 25 && state.version == 4 && state.halted == 1, "the state", (long)state.used);
+    told = rh_text_over(lines, sizeof lines);
+    DUE(RH_DONE, rh_journal(&host, 1, &next, &told));
+    check(next == 26 && told.length == strlen(due) && memcmp(lines, due, told.length) == 0, "the journal", (long)next);
+    DUE(RH_DONE, rh_journal(&host, 26, &end, &told));
+    check(end == 26 && told.length == 0, "the end of the journal", (long)end);
+    rh_free(&host);
+    rh_free(&host);
+    check(host.at == NULL && rh_halt(&host) == RH_NO_HOST && rh_clock(&host, pilot, &answer) == RH_NO_HOST
+          && rh_journal(&host, 1, &next, &told) == RH_NO_HOST && rh_remove_line(&host, 1) == RH_NO_HOST, "no host", 0);
+}
+
+/* The exports write what the header says, and no more. */
+static void layout(void)
+{
+    union { unsigned char bytes[512]; rh_answer answer; } told;
+    union { unsigned char bytes[64]; rh_state state; } state;
+    union { unsigned char bytes[64]; rh_host host; } handle;
+    size_t at;
+    check(sizeof(rh_host) == sizeof(void *), "the size of rh_host", sizeof(rh_host));
+    check(sizeof(rh_answer) == 304 && offsetof(rh_answer, line) == 8 && offsetof(rh_answer, version) == 16 && offsetof(rh_answer, actor) == 24
+          && offsetof(rh_answer, count) == 32 && offsetof(rh_answer, value) == 40 && offsetof(rh_answer, scalars) == 48, "rh_answer",
+          sizeof(rh_answer));
+    check(sizeof(rh_target) == 16 && sizeof(rh_state) == 32, "rh_target and rh_state", 0);
+    memset(&handle, 0x5a, sizeof handle);
+    handle.host = rh_none();
+    check(rh_create(100, 1, &handle.host) == RH_DONE, "a host", 0);
+    for (at = sizeof(rh_host); at < sizeof handle; at++)
+        check(handle.bytes[at] == 0x5a, "a byte behind the handle", (long)at);
+    memset(&state, 0x5a, sizeof state);
+    check(rh_state_of(&handle.host, &state.state) == RH_DONE && state.state.used == 0 && state.state.version == 0 && state.state.halted == 0,
+          "the state", 0);
+    for (at = sizeof(rh_state); at < sizeof state; at++)
+        check(state.bytes[at] == 0x5a, "a byte behind the state", (long)at);
+    memset(&told, 0x5a, sizeof told);
+    check(rh_clock(&handle.host, 999, &told.answer) == RH_MISUSE && told.answer.kind == RH_MISUSE && told.answer.rule == 0
+          && told.answer.line == 0 && told.answer.version == 0 && told.answer.actor == 0 && told.answer.count == 0 && told.answer.value == 0,
+          "an answer", told.answer.kind);
+    for (at = offsetof(rh_answer, scalars); at < sizeof told; at++)
+        check(told.bytes[at] == 0x5a, "a byte behind the answer", (long)at);
+    rh_free(&handle.host);
+}
+
+int main(void)
+{
+    long number = 0;
+    int more = 1;
+    run();
+    layout();
+    while (more && faults == 0) {
+        left = number++;
+        run();
+        more = left < 0;
+        left = -1;
+    }
+    check(number > 10, "there are allocations", number);
+    printf("%ld allocations refused in turn\n", number - 1);
+    return faults > 0;
+}
+END
+# shellcheck disable=SC2046,SC2086 # flags
+holds "hosts.c builds" cc $strict -g $checks -Wl,--wrap=malloc -Wl,--wrap=realloc "$folder/hosts.c" \
+    $(pkg-config --cflags --libs ravenhost) -o "$folder/hosts"
+holds "the calls of a host; refused allocations; sizes and offsets" "$folder/hosts"
+tail -n 1 "$folder/said"
+
+cp -r "$top/examples/c_host" "$folder/c_host"
+rm -rf "$folder/c_host/out"
+holds "examples/c_host builds by its own Makefile" make -C "$folder/c_host" CFLAGS="-g $checks"
+sed -n 's/^    \([0-9].* -> .*\)/\1/p' "$top/examples/c_host/README.md" >"$folder/due_journal"
+: >"$folder/nothing"
+told "examples/c_host" 0 "$folder/due_journal" "$folder/nothing" "$folder/c_host/out/c_host"
+
+cp -r "$top/examples/c_plant" "$folder/c_plant"
+rm -rf "$folder/c_plant/out"
+holds "examples/c_plant builds by its own Makefile" make -C "$folder/c_plant" CFLAGS="-g $checks"
+printf 'the sensor filled 500 times, and the display was refused\nthe journal is legal\n' >"$folder/due_plant"
+for _ in $(seq 20); do
+    told "examples/c_plant" 0 "$folder/due_plant" "$folder/nothing" timeout 60 "$folder/c_plant/out/c_plant"
+done
+
+if [ -n "$tell" ]; then
+    cat >"$folder/ada/sizes.adb" <<'END'
+with Ada.Text_IO;
+with Ravenhost; use Ravenhost;
+
+procedure Sizes is
+   A : Answer;
+   T : Target;
+   S : State;
+   X : Text;
+   H : Host;
+
+   procedure Put (Name : String; Number : Integer) is
+   begin
+      Ada.Text_IO.Put_Line (Name & Number'Image);
+   end Put;
+begin
+   Put ("host", H'Size / 8);
+   Put ("text", X'Size / 8);
+   Put ("text.bytes", X.Bytes'Position);
+   Put ("text.capacity", X.Capacity'Position);
+   Put ("text.length", X.Length'Position);
+   Put ("text.fault", X.Before'Position);
+   Put ("answer", A'Size / 8);
+   Put ("answer.kind", A.Kind'Position);
+   Put ("answer.rule", A.Rule'Position);
+   Put ("answer.line", A.Line'Position);
+   Put ("answer.version", A.Version'Position);
+   Put ("answer.actor", A.Actor'Position);
+   Put ("answer.count", A.Count'Position);
+   Put ("answer.value", A.Value'Position);
+   Put ("answer.scalars", A.Scalars'Position);
+   Put ("target", T'Size / 8);
+   Put ("target.object", T.Object'Position);
+   Put ("target.operation", T.Operation'Position);
+   Put ("state", S'Size / 8);
+   Put ("state.used", S.Used'Position);
+   Put ("state.room", S.Room'Position);
+   Put ("state.version", S.Version'Position);
+   Put ("state.halted", S.Halted'Position);
+end Sizes;
+END
+    cat >"$folder/sizes.c" <<'END'
+#include <ravenhost.h>
+#include <stdio.h>
+
+#define SIZE(name) printf("%s %lu\n", #name, (unsigned long)sizeof(rh_##name))
+#define PLACE(name, field) printf("%s.%s %lu\n", #name, #field, (unsigned long)offsetof(rh_##name, field))
+
+int main(void)
+{
+    SIZE(host);
+    SIZE(text);
+    PLACE(text, bytes);
+    PLACE(text, capacity);
+    PLACE(text, length);
+    PLACE(text, fault);
+    SIZE(answer);
+    PLACE(answer, kind);
+    PLACE(answer, rule);
+    PLACE(answer, line);
+    PLACE(answer, version);
+    PLACE(answer, actor);
+    PLACE(answer, count);
+    PLACE(answer, value);
+    PLACE(answer, scalars);
+    SIZE(target);
+    PLACE(target, object);
+    PLACE(target, operation);
+    SIZE(state);
+    PLACE(state, used);
+    PLACE(state, room);
+    PLACE(state, version);
+    PLACE(state, halted);
+    return 0;
+}
+END
+    # shellcheck disable=SC2046,SC2086 # flags
+    holds "sizes.c builds" cc $strict "$folder/sizes.c" $(pkg-config --cflags ravenhost) -o "$folder/sizes"
+    "$folder/sizes" >"$folder/due_sizes"
+    holds "sizes.adb and examples/ada_host build" sh -c "cd '$folder/ada' && gnatmake -q -gnat12 -gnatwae -I'$top/ada' sizes.adb -largs '$library' \
+        && gnatmake -q -gnat12 -gnatwae -I'$top/ada' '$top/examples/ada_host/ada_host.adb' -largs '$library'"
+    told "sizes and offsets of the Ada package" 0 "$folder/due_sizes" "$folder/nothing" "$folder/ada/sizes"
+    told "examples/ada_host" 0 "$folder/due_journal" "$folder/nothing" "$folder/ada/ada_host"
 fi
 
 cat >"$folder/buffers.c" <<'END'

@@ -1,5 +1,7 @@
-//! The exports of rv_c to C, as include/ravenhost.h declares them.
+//! The exports to C, as include/ravenhost.h declares them: here those of rv_c, on scripts; in `hosts` those of a host behind its handle.
 #![tactic(auto)]
+
+pub mod hosts;
 
 ghost use Rattle.std.specs.Prelude.{◌≡◌, ◌≢◌, pos, true, false};
 ghost use Rattle.rv_c.specs.Calls.{Audits, Plays};

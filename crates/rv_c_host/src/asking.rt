@@ -1,0 +1,149 @@
+//! Asking a request of the host behind a handle.
+
+ghost use Rattle.std.specs.Prelude.{◌≡◌};
+ghost use Rattle.rv_event.specs.declared.entry.Request.TheVariants.{DelayUntil};
+ghost use Rattle.rv_c_host.specs.Asked as asked;
+ghost use Rattle.rv_c_host.specs.Asked.{Asks, AsksIf, Orders};
+
+use crate::numbers::{BAD_REQUEST, NO_HOST, kind_of};
+use crate::target::Target;
+use crate::telling::tell;
+use crate::told::Told;
+use rv_event::entry::{Answer, Exception, Exit, Request};
+use rv_handle::Handle;
+use rv_value::{Args, MOST_ARGS, MOST_SCALARS, Scalars};
+use std::alloc::Global;
+
+// The number of the operator.
+const OPERATOR: usize = 0;
+
+/// Asks a request of an actor, and tells the caller the answer.
+pub fn plain(
+    alloc: Global,
+    handle: &mut Handle,
+    actor: usize,
+    request: &Request,
+    told: &mut Told,
+) -> i32
+    ensures { Asks actor request.now handle.old.value handle.new.value told.old told.new result }
+{
+    let Some(mut host) = handle.take(alloc) else {
+        return NO_HOST;
+    };
+    let mut answer = Answer::Started(Scalars::new());
+    host.put_answer(actor, request, &mut answer);
+    handle.put(host);
+    tell(&answer, told)
+}
+
+/// Asks a request of the operator. Gives the kind of the answer.
+pub fn command(alloc: Global, handle: &mut Handle, request: &Request) -> i32
+    ensures { Orders request.now handle.old.value handle.new.value result }
+{
+    let Some(mut host) = handle.take(alloc) else {
+        return NO_HOST;
+    };
+    let mut answer = Answer::Started(Scalars::new());
+    host.put_answer(OPERATOR, request, &mut answer);
+    handle.put(host);
+    kind_of(&answer)
+}
+
+// Asks what may be no request.
+fn ask_if(
+    alloc: Global,
+    handle: &mut Handle,
+    actor: usize,
+    request: Option<Request>,
+    told: &mut Told,
+) -> i32
+    ensures { AsksIf actor request handle.old.value handle.new.value told.old told.new result }
+{
+    match request {
+        Some(request) => plain(alloc, handle, actor, &request, told),
+        None => BAD_REQUEST,
+    }
+}
+
+// The call of an operation of an object, with as many values as a call may have.
+fn call_of(target: Target, values: &[i64]) -> Option<Request>
+    ensures { result ≡ asked.call_of target.object target.operation values.now }
+{
+    if values.len() <= MOST_ARGS {
+        let values = Args::from_slice(values);
+        Some(Request::Call(target.object, target.operation, values))
+    } else {
+        None
+    }
+}
+
+// How a body ends, by a number from 0.
+fn exit_of(number: u32, values: Args) -> Option<Exit>
+    ensures { result ≡ asked.exit_of number values }
+{
+    let exits = [
+        Exit::Return(values),
+        Exit::Raise(Exception::ConstraintError),
+        Exit::Raise(Exception::ProgramError),
+        Exit::Raise(Exception::AccessDenied),
+        Exit::Overrun,
+        Exit::Stopped,
+    ];
+    exits.get(number as usize).copied()
+}
+
+// The end of a body that leaves these components.
+fn end_of(scalars: &[i64], number: u32, values: &[i64]) -> Option<Request>
+    ensures { result ≡ asked.end_of scalars.now number values.now }
+{
+    if scalars.len() <= MOST_SCALARS && values.len() <= MOST_ARGS {
+        match exit_of(number, Args::from_slice(values)) {
+            Some(exit) => Some(Request::Complete(Scalars::from_slice(scalars), exit)),
+            None => None,
+        }
+    } else {
+        None
+    }
+}
+
+/// Calls an operation of an object.
+pub fn call(
+    alloc: Global,
+    handle: &mut Handle,
+    actor: usize,
+    target: Target,
+    values: &[i64],
+    told: &mut Told,
+) -> i32
+    ensures { AsksIf actor (asked.call_of target.object target.operation values.now) handle.old.value handle.new.value told.old told.new result }
+{
+    ask_if(alloc, handle, actor, call_of(target, values), told)
+}
+
+/// Ends the innermost body of an actor.
+pub fn end(
+    alloc: Global,
+    handle: &mut Handle,
+    actor: usize,
+    scalars: &[i64],
+    number: u32,
+    values: &[i64],
+    told: &mut Told,
+) -> i32
+    ensures { AsksIf actor (asked.end_of scalars.now number values.now) handle.old.value handle.new.value told.old told.new result }
+{
+    ask_if(alloc, handle, actor, end_of(scalars, number, values), told)
+}
+
+/// Delays an actor until a time in ticks.
+pub fn delay_until(
+    alloc: Global,
+    handle: &mut Handle,
+    actor: usize,
+    time: i64,
+    told: &mut Told,
+) -> i32
+    ensures { Asks actor (DelayUntil time) handle.old.value handle.new.value told.old told.new result }
+{
+    plain(alloc, handle, actor, &Request::DelayUntil(time), told)
+}
