@@ -1,6 +1,6 @@
 -- Why a run goes on or ends, behind what was done before.
-use Rattle.std.proofs.Common.{◌≡◌, ◌∙◌, ◌≤◌, ◌+◌, ◌-◌, ℕ, Bool, true, false, List, [], ◌∷◌, ◌++◌, Option, Some, None, Ok, Err, inl, inr, refl, sym, ap, subst, arith, length, length-append}
-use Rattle.std.specs.Prelude.{◌⊎◌, IfErr, IfOk, IfSome, Result, nat_lt}
+use Rattle.std.proofs.Common.{◌≡◌, ◌∙◌, ◌≤◌, ◌+◌, ◌-◌, ℕ, Bool, true, List, Option, Some, None, Ok, Err, inl, inr, refl, sym, ap, subst, arith, length, length-append}
+use Rattle.std.specs.Prelude.{◌⊎◌, IfErr, IfOk, IfSome, Result}
 use Rattle.std.proofs.lemmas.Bool.Decides.{nat_tests}
 use Rattle.rv_behind.specs.Events.{history_at}
 use Rattle.rv_event.specs.declared.entry.Answer.{Answer}
@@ -26,7 +26,7 @@ use Rattle.rv_tally.specs.Denying.{ends_run}
 use Rattle.rv_tally.specs.Guarding.{is_below}
 use Rattle.rv_attend.specs.Attending.{Grows}
 use Rattle.rv_attend.specs.Chores.{Chores}
-use Rattle.rv_attend.specs.Going.{CannotDeny, ClosesAs, CommandComes, FailsToKeep, HaltIsDue, IsLow, Terms, UnlessStopped, entries_seen, terms}
+use Rattle.rv_attend.specs.Going.{CannotDeny, ClosesAs, CommandComes, FailsToKeep, HaltIsDue, Terms, UnlessStopped, entries_seen, terms}
 use Rattle.rv_attend.specs.Lasting.{GoesFor, Halts, State}
 use Rattle.rv_attend.specs.Rooming.{DeniesUnit, DoesDue}
 use Rattle.rv_tally.specs.declared.guard.Due.TheVariants.{Deny}

@@ -1,5 +1,5 @@
 -- Without a console the lines of what came are served as commands, each behind what was due.
-use Rattle.std.proofs.Common.{◌≡◌, ◌∙◌, ◌++◌, ℕ, arith, zero, suc, Bool, true, false, List, [], Option, Some, None, Ok, Err, inl, inr, refl, sym, ap, subst, le_of_lt}
+use Rattle.std.proofs.Common.{◌≡◌, ◌∙◌, ℕ, arith, zero, suc, Bool, true, false, List, [], Option, Some, None, Ok, Err, inl, inr, refl, sym, ap, subst, le_of_lt}
 use Rattle.std.specs.Prelude.{◌⊎◌, IfNone, IfOk, Result}
 use Rattle.rv_crew.specs.Teams.{Team}
 use Rattle.rv_feed.specs.Hearing.{HearsOn, IsStopped}

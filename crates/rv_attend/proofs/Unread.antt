@@ -1,13 +1,12 @@
 -- Where nothing but what came can be read, nothing else is left behind a command either.
-use Rattle.std.proofs.Common.{◌≡◌, ◌∙◌, List, ℕ, [], ◌∷◌, ◌++◌, Some, None, Ok, Err, inl, inr, refl, sym, ap, subst}
+use Rattle.std.proofs.Common.{◌≡◌, ◌∙◌, List, ℕ, [], ◌∷◌, ◌++◌, Some, None, Ok, Err, inl, inr, sym, ap, subst}
 use Rattle.std.specs.Prelude.{Result}
 use Rattle.std.specs.Io.KnownBytes.{Consumes}
 use Rattle.rv_input.specs.Coming.{Shortens}
 use Rattle.rv_run.specs.Commanding.{Commands, Follows, LoadsNext}
 use Rattle.rv_run.specs.ServingLines.{ServesNext}
 use Rattle.rv_run.specs.Staging.{Outcome, Stage}
-use Rattle.rv_run.specs.declared.command.Goes.{Goes}
-use Rattle.rv_run.specs.declared.command.Goes.TheVariants.{On, Out}
+use Rattle.rv_run.specs.declared.command.Goes.TheVariants.{On}
 use Rattle.rv_shell.specs.declared.shell.LineFault.{LineFault}
 use Rattle.rv_shell.specs.declared.shell.Next.{Next}
 use Rattle.rv_shell.specs.declared.shell.Next.TheVariants as Nexts

@@ -1,5 +1,5 @@
 -- Why an attended run goes on, and why it ends. (own)
-use Rattle.std.specs.Prelude.{◌≡◌, ◌⊎◌, ℕ, ◌-◌, Bool, true, false, List, Option, Some, None, length, Result, Ok, Err}
+use Rattle.std.specs.Prelude.{◌≡◌, ◌⊎◌, ℕ, ◌-◌, Bool, true, false, List, Option, Some, None, length, Ok, Err}
 use Rattle.rv_behind.specs.Events.{history_at}
 use Rattle.rv_event.specs.declared.entry.Answer.{Answer}
 use Rattle.rv_fault.specs.declared.failure.Failure.TheVariants.{Memory}

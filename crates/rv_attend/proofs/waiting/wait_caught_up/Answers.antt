@@ -1,4 +1,4 @@
-use Rattle.std.proofs.Common.{◌∙◌, refl, sym, ap, subst}
+use Rattle.std.proofs.Common.{◌∙◌, sym, ap, subst}
 use Rattle.rv_feed.specs.Hearing.{HearsOn, heard, told}
 use Rattle.rv_feed.specs.declared.pair.Feed.{Feed}
 use Rattle.rv_attend.specs.Lasting.{standing}
