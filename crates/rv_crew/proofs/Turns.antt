@@ -10,8 +10,8 @@ use Rattle.rv_port.specs.Ports.{Porting, pass_of}
 use Rattle.rv_port.specs.Traces.{Passing}
 use Rattle.rv_behind.specs.declared.event.Event.{Event}
 use Rattle.rv_port.proofs.Closings.{mine_later}
-use Rattle.rv_crew.specs.Teams.{Owed, Team, IsOfTurn, no_threads}
-use Rattle.rv_crew.specs.Crews.{HasLost, IsClosedBy, Joins, told_of, note_of, with_started, given_up, with_lost, with_joined}
+use Rattle.rv_crew.specs.Teams.{Owed, Team, IsOfTurn, no_threads, told_of}
+use Rattle.rv_crew.specs.Crews.{HasLost, IsClosedBy, Joins, note_of, with_started, given_up, with_lost, with_joined}
 use Rattle.rv_crew.specs.Abandoning.{Abandons, Parts, actors_out}
 use Rattle.rv_crew.specs.Hiring.{hired}
 use Rattle.rv_crew.specs.declared.crew.Closed.{Closed}

@@ -10,7 +10,7 @@ use Rattle.rv_port.specs.Ports.{Porting, pass_of, IsExplained}
 use Rattle.rv_port.specs.Closing.{IsClosed}
 use Rattle.rv_behind.specs.Events.{log_of}
 use Rattle.rv_behind.specs.declared.event.Event.{Event}
-use Rattle.rv_crew.specs.Teams.{Owed, Team}
+use Rattle.rv_crew.specs.Teams.{Owed, Team, told_of}
 use Rattle.rv_crew.specs.declared.job.Job.{Job}
 use Rattle.rv_crew.specs.declared.job.OfPort.{OfPort}
 use Rattle.rv_crew.specs.declared.crew.Closed.{Closed}
@@ -20,10 +20,6 @@ use denote.Param.Members.{Mut}
 use Rattle.rv_port.specs.declared.port.Port.{Port}
 use Rattle.rv_port.specs.declared.port.Finished.{Finished}
 use Rattle.rv_crew.specs.declared.running.Running.{Running}
-
--- what is owed for a port
-abbrev pub told_of : Porting → Owed
-told_of p = record { turn = p.turn; actor = p.actor }
 
 -- what a thread owes
 abbrev pub owed : Running → Owed

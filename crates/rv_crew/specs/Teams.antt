@@ -11,6 +11,10 @@ pub record Owed : Type 0 where
   pub turn : TableId
   pub actor : ℕ
 
+-- what is owed for a port (own)
+abbrev pub told_of : Porting → Owed
+told_of p = record { turn = p.turn; actor = p.actor }
+
 pub record Team : Type 0 where
   -- of each thread that was started and isn't joined yet, in order, what it owes
   pub running : List Owed

@@ -35,7 +35,6 @@ pub fn joins_keep_the_turn()
 {}
 
 /// So it does where threads are given up that don't end in time.
-#[tactic(auto, using(crate::proofs::Turns::abandoned_of_turn))]
 pub fn given_up_threads_keep_the_turn()
     ensures { (turn : TableId) → (crew : Team) → (after : Team) → IsOfTurn turn crew → Abandons crew after → IsOfTurn turn after }
 {}

@@ -1,7 +1,7 @@
 //! A thread that runs a job on a port.
 
 ghost use Rattle.std.specs.Prelude.{◌≡◌, false, IfSome};
-ghost use Rattle.rv_crew.specs.Crews.{told_of};
+ghost use Rattle.rv_crew.specs.Teams.{told_of};
 
 use crate::job::{Job, OfPort};
 use rv_port::port::{Finished, Port};

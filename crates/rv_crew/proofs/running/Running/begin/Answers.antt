@@ -17,8 +17,8 @@ mark_send : IsSend (arc.the_row mark.the_row global.the_row ghosts)
 mark_send = arc_crosses.the_send mark.the_row global.the_row ghosts mark_crosses.the_send global_crosses.the_send mark_crosses.the_sync global_crosses.the_sync heap_crosses.the_frees
 
 -- the boxed job, the port and the mark go to the thread
-pub spawn_with-requires-send-F : goal.spawn_with-requires-send-F
-spawn_with-requires-send-F g c κs within =
+pub spawn_with-begun-requires-send-F : goal.spawn_with-begun-requires-send-F
+spawn_with-begun-requires-send-F g c κs within =
     search (
       dyn_box_send (object.Vt (boxed.slots g.row.R) g.dyn-1.0) (object.ghosts_of (boxed.slots g.row.R) g.dyn-1.0 g.dyn-1.1) g.dyn-1.2,
       port_send,
@@ -28,5 +28,5 @@ spawn_with-requires-send-F g c κs within =
     ) depth 60 fits 20000
 
 -- what it gives comes back
-pub spawn_with-requires-send-T : goal.spawn_with-requires-send-T
-spawn_with-requires-send-T g c κs within = search (finished_send, sendable) depth 60 fits 20000
+pub spawn_with-begun-requires-send-T : goal.spawn_with-begun-requires-send-T
+spawn_with-begun-requires-send-T g c κs within = search (finished_send, sendable) depth 60 fits 20000
