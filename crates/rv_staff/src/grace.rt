@@ -87,7 +87,7 @@ impl Grace {
 /// Waits for the threads of a crew as long as a grace lasts, and gives up those that didn't end by then; without a grace none.
 /// Where memory for the names of their actors is refused none is given up.
 pub(crate) fn wait<R: Wait>(rt: &R, crew: &mut Crew, grace: Option<&Grace>)
-    ensures { Waits (is_some grace) crew.old crew.new }
+    ensures { Waits (is_some grace.entry) crew.old crew.new }
 {
     if let Some(grace) = grace {
         if grace.is_over(rt, &*crew) {

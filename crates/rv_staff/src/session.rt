@@ -116,7 +116,7 @@ impl Session {
     /// to end then; those that don't within a grace are given up. Gives the host, and the actors whose ports were lost; none where
     /// memory was refused.
     pub fn end<R: Threads + Wait>(self, rt: &R, within: Option<&Grace>) -> Option<Closed>
-        ensures { IfSome result (Ended (is_some within) self.staff) }
+        ensures { IfSome result (Ended (is_some within.entry) self.staff) }
     {
         let Session {
             alloc: _,

@@ -101,7 +101,7 @@ fn close<R: Threads + Wait>(
     within: Option<&Grace>,
 ) -> Option<Closed>
     requires { AreOf control crew }
-    ensures { IfSome result (Closes (is_some within) control crew) }
+    ensures { IfSome result (Closes (is_some within.entry) control crew) }
 {
     wait(rt, &mut crew, within);
     match crew.join_all(rt) {
@@ -291,7 +291,7 @@ impl Staff {
         enders: &[Ender],
         within: Option<&Grace>,
     ) -> Option<Closed>
-        ensures { IfSome result (Ended (is_some within) self) }
+        ensures { IfSome result (Ended (is_some within.entry) self) }
     {
         let Staff { mut control, crew } = self;
         let _ = control.halt(rt);
