@@ -141,6 +141,13 @@ class Drawer(SectionDrawer):
         ticks = dice.choice(left) - dice.choice((0, 0, 1)) if left and chance(dice, .7) else dice.choice((1, 2, 5, 1000))
         return [cased(dice, "operator"), "tick", self.number(ticks if chance(dice, .9) else dice.choice(ODD_TICKS))]
 
+    def draw_archive(self) -> list[str]:
+        """An archive, often of all entries, or of one too many or too few."""
+        dice, host = self.dice, self.host
+        near = dice.choice((host.entries, host.entries, host.archived + 1, host.archived, host.entries + 1, 0))
+        number = dice.randint(host.archived, host.entries) if chance(dice, .5) else near
+        return [cased(dice, "operator"), "archive", self.number(number if chance(dice, .95) else dice.choice(ODD_TICKS))]
+
     def draw_clock(self) -> list[str]:
         return self.named(self.callers(), "clock")
 
@@ -191,7 +198,7 @@ class Drawer(SectionDrawer):
     def weights(self) -> dict[Callable[[], list[str]], float]:
         return {self.draw_resume: 15, self.draw_settle: 20, self.draw_end: 20, self.draw_call: 30, self.draw_service: 30,
                 self.draw_suspension: 14, self.draw_delay: 6, self.draw_tick: 6, self.draw_clock: 2, self.draw_fire: 12, self.draw_finish: 6 if self.host.is_halted else 1,
-                self.draw_halt: 3, self.draw_change: 6, self.draw_revocation: 10, self.draw_stray: 8}
+                self.draw_halt: 3, self.draw_archive: 3 if self.host.room() > 3 else 12, self.draw_change: 6, self.draw_revocation: 10, self.draw_stray: 8}
 
     def step_words(self) -> list[str]:
         draws = self.weights()

@@ -26,7 +26,7 @@ class Plain(NamedTuple):
 
 
 class Timed(NamedTuple):
-    word: str  # delay or tick
+    word: str  # delay, tick or archive
     ticks: int
 
 
@@ -73,6 +73,7 @@ def read_plain(word: str, words: list[str]) -> Plain:
 
 def read_timed(word: str, words: list[str]) -> Timed:
     ensure(len(words) == 1)
+    ensure(word != "archive" or number(words[0]) >= 0)
     return Timed(word, number(words[0]))
 
 
@@ -109,7 +110,7 @@ def read_step(words: list[str]) -> tuple[str, Request]:
         return actor, read_change(word, rest)
     if word in PLAIN_REQUESTS:
         return actor, read_plain(word, rest)
-    if word in ("delay", "tick"):
+    if word in ("delay", "tick", "archive"):
         return actor, read_timed(word, rest)
     forms = {"call": read_call, "end": read_end, "go": read_go}
     ensure(word in forms)

@@ -8,7 +8,7 @@ use crate::status::Stop;
 use rv_fault::Failure;
 use rv_feed::{Feed, Speaker};
 use rv_outlet::{Drain, Outlet};
-use rv_staff::{Grace, Timekeeper, grace};
+use rv_staff::{Grace, Timekeeper, grace_ends};
 use std::alloc::Global;
 use std::rt::Files;
 use std::sync::Wait;
@@ -128,7 +128,7 @@ pub fn grace_of<R: Eprint>(
     let Some(millis) = millis else {
         return Ok(None);
     };
-    let Ok((grace, keeper)) = grace(alloc, millis as u64) else {
+    let Ok((grace, keeper)) = grace_ends(alloc, millis as u64) else {
         return Err(Stop::Failed(Failure::Memory));
     };
     begun(rt, aides, Errand::Time(keeper))?;

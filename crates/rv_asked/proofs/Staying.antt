@@ -1,5 +1,5 @@
 -- What is kept stays where a unit more is loaded.
-use Rattle.std.proofs.Common.{List, [], ◌∷◌, ◌++◌, sym, ◌∙◌}
+use Rattle.std.proofs.Common.{[], ◌∷◌, ◌++◌, sym, ◌∙◌}
 use Rattle.rv_shape.specs.Shape.{Shape}
 use Rattle.rv_event.specs.declared.entry.Entry.TheVariants.{Load}
 use Rattle.rv_history.specs.History.{History}

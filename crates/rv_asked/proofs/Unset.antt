@@ -1,14 +1,11 @@
 -- A list, where none was set.
-use Rattle.std.proofs.Common.{◌≡◌, ◌-◌, ◌≤◌, ℕ, Bool, true, false, List, [], Some, None, Option, length, refl, sym, ap, ◌∙◌, arith, if◌then◌else◌}
-use Rattle.std.specs.Prelude.{◌==◌, slice_get}
+use Rattle.std.proofs.Common.{◌≡◌, ◌-◌, ℕ, List, [], None, Option, length, refl, sym, ap, ◌∙◌}
+use Rattle.std.specs.Prelude.{slice_get}
 use Rattle.std.specs.Option.{unwrap_or}
 use Rattle.rv_access.specs.Words.{Words}
-use Rattle.rv_shape.specs.Catalogue.{Target, Nowhere, OnProtected, OnSuspension, UnitObject, Who, by_names, place, target, who}
-use Rattle.rv_shape.specs.Shape.{Shape}
-use Rattle.rv_event.specs.Past.{innermost}
+use Rattle.rv_shape.specs.Catalogue.{Target, Nowhere, OnProtected, OnSuspension, by_names, target}
 use Rattle.rv_event.specs.declared.entry.Body.{Body}
 use Rattle.rv_history.specs.History.{History, force}
-use Rattle.rv_history.specs.Subject.{home, subject, subject_of, unit_at}
 use Rattle.rv_asked.specs.Asked.{decided_by}
 
 no_line : (t : Target) → (let none : ℕ = 0 in by_names none (λ (object operation : List ℕ). none) t ≡ none)

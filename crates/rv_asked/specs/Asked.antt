@@ -1,10 +1,9 @@
 -- What the access list is asked, entry by entry (own): about the call of a caller and of a fired line, and where a queue is served
 -- (9.5.3) about the call of its first caller. A delay and a resume ask it nothing.
-use Rattle.std.specs.Prelude.{ℕ, ◌-◌, Bool, ◌&&◌, List, [], ◌++◌, codes, Option, Some, None}
+use Rattle.std.specs.Prelude.{ℕ, ◌-◌, Bool, ◌&&◌, List, codes, Option, Some, None}
 use Rattle.rv_access.specs.Lines.{decides, line_at}
 use Rattle.rv_access.specs.Words.{Words}
 use Rattle.rv_shape.specs.Catalogue.{by_names, handler, target, who}
-use Rattle.rv_shape.specs.Printed.{target_text}
 use Rattle.rv_shape.specs.Shape.{Shape}
 use Rattle.rv_event.specs.Past.{clock, fired, last_queued, named_in, next_of}
 use Rattle.rv_event.specs.declared.entry.Body.{Body}

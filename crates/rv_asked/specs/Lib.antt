@@ -1,3 +1,4 @@
 pub mod Asked
 pub mod Holding
+pub mod Tabled
 pub mod Times

@@ -88,8 +88,8 @@ impl Holding {
         self.calls.of(actor)
     }
 
-    // The body that an actor is in.
-    fn innermost(&self, actor: usize) -> Option<Body>
+    /// The body that an actor is in.
+    pub(crate) fn innermost(&self, actor: usize) -> Option<Body>
         ensures { (shapes : List Shape) (past : List Entry) → Keeps self.now shapes past → result ≡ innermost shapes actor past }
     {
         first_of(self.bodies.as_slice(), actor)

@@ -8,3 +8,4 @@
 pub mod asking;
 pub mod deciding;
 pub mod holding;
+pub mod tabled;

@@ -13,7 +13,7 @@ const EXCEPTIONS: [&str; 3] = ["Constraint_Error", "Program_Error", "Host.Access
 const NUMBERED: &str = "{0} takes one number";
 
 // What is said of a request that takes something else than it has, by its word.
-const REQUESTS: [Form; 6] = [
+const REQUESTS: [Form; 7] = [
     Form {
         word: "delay",
         said: NUMBERED,
@@ -21,6 +21,10 @@ const REQUESTS: [Form; 6] = [
     Form {
         word: "tick",
         said: NUMBERED,
+    },
+    Form {
+        word: "archive",
+        said: "archive takes one number, 0 or more",
     },
     Form {
         word: "remove",
@@ -144,7 +148,7 @@ fn request<'a>(line: &Line<'a>) -> Cause<'a> {
     }
     line.cause(
         1,
-        "{0} is no request; there are call, end, settle, resume, delay, clock, fire, finish, tick, halt, append, remove, replace, go",
+        "{0} is no request; there are call, end, settle, resume, delay, clock, fire, finish, tick, halt, archive, append, remove, replace, go",
     )
 }
 

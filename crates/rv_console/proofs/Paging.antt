@@ -24,6 +24,7 @@ one (Asks.Plain Requests.Fire) = refl
 one (Asks.Plain Requests.Quit) = refl
 one (Asks.Plain (Requests.Tick ticks)) = refl
 one (Asks.Plain Requests.Halt) = refl
+one (Asks.Plain (Requests.Archive number)) = refl
 one (Asks.Go count) = refl
 one (Asks.Change change number) = refl
 

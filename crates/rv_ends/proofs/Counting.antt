@@ -11,6 +11,7 @@ use Rattle.rv_event.specs.declared.entry.Entry.TheVariants.{Asked, Load, ListCha
 use Rattle.rv_event.specs.declared.entry.Recorded.{Recorded}
 use Rattle.rv_event.specs.declared.entry.Request.{Request}
 use Rattle.rv_exec.specs.Bodies.{with_unit}
+use Rattle.rv_history.proofs.Room.{few_solvent}
 use Rattle.rv_history.specs.History.{History}
 use Rattle.rv_history.specs.Legal.{Legal, after, after_list, after_load, entered, out_load}
 use Rattle.rv_history.specs.Owed.{IsSolvent}
@@ -147,13 +148,13 @@ notes_nothing t h number actor request some = λ loads follows number_is. by_cas
     by_case loads (Some other) some follows =
         λ word. record { shapes = follows.shapes; first = behind_request h loads follows.shapes other.0 other.1 actor request word follows.first; words = follows.words }
 
-kept_small : (h : History) → h.limits.capacity ≤ 2 ^ 20 → IsSolvent h → suc (length h.past) < 2 ^ 64
-kept_small h most s = omega (arith, most, s)
+kept_small : (h : History) → Legal h → h.limits.capacity ≤ 2 ^ 20 → IsSolvent h → suc (length h.past) < 2 ^ 64
+kept_small h l most s = omega (arith, few_solvent h most l s)
 
 -- one that ends a body, where it is explained or has no text
-noted_settled : (o n : Tally) (h : History) (loads : List Loaded) (number actor : ℕ) (request : Request) → h.limits.capacity ≤ 2 ^ 20 → IsSolvent h → is_end request ≡ true → GoesOn o h loads → (it : IsNoted o n h number actor request) → is_settled it.meaning ≡ true →
+noted_settled : (o n : Tally) (h : History) (loads : List Loaded) (number actor : ℕ) (request : Request) → Legal h → h.limits.capacity ≤ 2 ^ 20 → IsSolvent h → is_end request ≡ true → GoesOn o h loads → (it : IsNoted o n h number actor request) → is_settled it.meaning ≡ true →
     Awaits n h loads actor request
-noted_settled o n h loads number actor request most solvent end g it is =
+noted_settled o n h loads number actor request legal most solvent end g it is =
     let means : IsMeaning (texts_by loads) h (afoot_of o.ends) actor request it.meaning = subst (λ (t : UnitBodies). IsMeaning t h (afoot_of o.ends) actor request it.meaning) g.texts it.means in
     awaiting n h loads actor request
     (record {
@@ -163,7 +164,7 @@ noted_settled o n h loads number actor request most solvent end g it is =
       texts = it.texts ∙ g.texts;
       counts = λ word.
           same_counts (asked h actor request word) loads (noted o.found number it.meaning) n.found it.found
-          (settled_counts h number actor request word loads o.found (afoot_of o.ends) it.meaning g.whole.afoot end means is g.counts (kept_small h most solvent));
+          (settled_counts h number actor request word loads o.found (afoot_of o.ends) it.meaning g.whole.afoot end means is g.counts (kept_small h legal most solvent));
     })
 
 -- one whose text means another
@@ -203,7 +204,7 @@ notes_end o n h number actor request none legal most solvent end noted_so = λ l
     by_test loads number_is g it = split (is_settled it.meaning) refl
       where
         split : (b : Bool) → is_settled it.meaning ≡ b → Awaits n h loads actor request
-        split true is = noted_settled o n h loads number actor request most solvent end g it is
+        split true is = noted_settled o n h loads number actor request legal most solvent end g it is
         split false is = noted_other o n h loads number actor request legal number_is end g it is
 
 -- Requests that were answered

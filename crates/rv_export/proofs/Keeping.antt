@@ -1,5 +1,5 @@
 -- What is kept follows a journal.
-use Rattle.std.proofs.Common.{◌≡◌, ℕ, suc, List, [], ◌∷◌, ◌++◌, Option, length, refl, sym, ap, ◌∙◌, subst}
+use Rattle.std.proofs.Common.{◌≡◌, ℕ, suc, List, [], ◌∷◌, ◌++◌, length, refl, sym, ap, ◌∙◌, subst}
 use Rattle.std.specs.Option.{option_map}
 use Rattle.rv_access.specs.Words.{Words}
 use Rattle.rv_shape.specs.Shape.{Shape}
@@ -21,7 +21,7 @@ use Rattle.rv_lasting.specs.Tracks.{closed, opened}
 use Rattle.rv_lasting.specs.declared.calls.Calls.{Calls}
 use Rattle.rv_lasting.specs.declared.track.Begun.{Begun}
 use Rattle.rv_waits.specs.Lasting.{Bodies, lasting}
-use Rattle.rv_export.specs.Kept.{Keeps, KeepsBut, KeepsDrops, KeepsLeft, Notes, NotesBody, NotesRest}
+use Rattle.rv_export.specs.Kept.{Keeps, KeepsDrops, KeepsLeft, Notes, NotesBody, NotesRest}
 use Rattle.rv_export.specs.declared.drops.Drops.{Drops}
 use Rattle.rv_export.specs.declared.kept.Kept.{Kept}
 use Rattle.rv_export.specs.declared.left.Left.{Left}

@@ -1,4 +1,5 @@
 pub mod Appending
+pub mod Finding
 pub mod Keeping
 pub mod Putting
 pub mod ReadingBack

@@ -8,9 +8,8 @@ use Rattle.rv_event.specs.Text.{entry_words}
 use Rattle.rv_event.specs.declared.entry.Entry.{Entry}
 use Rattle.rv_event.specs.declared.entry.Entry.TheVariants.{Asked, Load, ListChange}
 use Rattle.rv_history.specs.declared.limits.Limits.{Limits}
-use Rattle.rv_history.specs.History.{History, last_list}
-use Rattle.rv_history.specs.Journal.{journal_text, last_unit, lists_before, shapes_before}
-use Rattle.rv_history.specs.Legal.{Legal}
+use Rattle.rv_history.specs.History.{last_list}
+use Rattle.rv_history.specs.Journal.{last_unit, lists_before, shapes_before}
 use Rattle.rv_history.proofs.Growing.{grown_lines, named}
 use Rattle.rv_export.specs.Exports.{TextsAreJournal, rows, text_lines, words}
 

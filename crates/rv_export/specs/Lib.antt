@@ -1,3 +1,4 @@
 pub mod Exports
 pub mod Following
 pub mod Kept
+pub mod Said

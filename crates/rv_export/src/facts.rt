@@ -11,14 +11,15 @@ ghost use Rattle.rv_asked.specs.Holding.{Keeps};
 ghost use Rattle.rv_waits.specs.Lasting.{Bodies, end_of};
 ghost use Rattle.rv_export.specs.Exports.{about, answer_fields, answered, answered_fields, decided_fields, decision_fields, derived, drop_fields, dropped_fields, is_call, next_fields, object_fields, outcome, refused_fields, rule_fields};
 ghost use Rattle.rv_export.specs.Kept.{KeepsBut, KeepsDrops, KeepsLeft};
+ghost use Rattle.rv_export.specs.Said.{IsSaid};
 
 use crate::drops::Drops;
-use crate::fields::{put_count, put_number, put_quoted, put_target, put_text, put_who};
+use crate::fields::{put_count, put_number, put_quoted, put_text, put_who};
 use crate::kept::Kept;
 use crate::left::Left;
-use crate::words::{line_words, why};
+use crate::said::Said;
+use crate::words::why;
 use rv_asked::asking::asked_at;
-use rv_asked::deciding::{decided_in_force, line_in_force};
 use rv_asked::holding::Holding;
 use rv_event::entry::{Body, EntryRef, Recorded, Request, Rule};
 use rv_event::one_entry::named;
@@ -26,18 +27,20 @@ use rv_host::host::Host;
 use rv_lasting::track::Begun;
 use rv_shape::actor::Actor;
 use rv_shape::catalogue::Catalogue;
-use std::alloc::{AllocError, Global};
+use std::alloc::AllocError;
 
 // Puts what is called, if anything is.
 fn put_object(
     text: &mut String,
+    said: &Said,
     catalogue: &Catalogue,
     call: Option<Body>,
 ) -> Result<(), AllocError>
-    ensures { OnOk result (string_bytes text.new ≡ string_bytes text.old ++ object_fields catalogue.now call) }
+    ensures { OnOk result ((h : History) → catalogue.now ≡ h.shapes → IsSaid said.now h →
+        string_bytes text.new ≡ string_bytes text.old ++ object_fields h.shapes call) }
 {
     match call {
-        Some(call) => put_target(text, &catalogue.callee(call.object, call.operation)),
+        Some(call) => said.put_call(text, catalogue, call.object, call.operation),
         None => Ok(()),
     }
 }
@@ -59,34 +62,33 @@ fn put_decision(
 
 // The same of a call about which the list in force is asked.
 fn put_decision_of(
-    alloc: Global,
     text: &mut String,
+    said: &Said,
     host: &Host,
     holding: &Holding,
     call: &Body,
 ) -> Result<(), AllocError>
-    ensures { OnOk result (Keeps holding.now host.now.shapes host.now.past →
+    ensures { OnOk result (IsSaid said.now host.now → Keeps holding.now host.now.shapes host.now.past →
         string_bytes text.new ≡ string_bytes text.old ++ decision_fields host.now call.now) }
 {
-    let number = decided_in_force(host, holding, call);
-    let line = line_words(alloc, line_in_force(host, number))?;
+    let number = said.decided(host, holding, call);
     let subject = holding.subject(host.catalogue(), call.actor);
-    put_decision(text, subject, number, line.as_str())
+    put_decision(text, subject, number, said.line(number))
 }
 
 // The same, if it is asked about one.
 fn put_decided(
-    alloc: Global,
     text: &mut String,
+    said: &Said,
     host: &Host,
     holding: &Holding,
     call: Option<Body>,
 ) -> Result<(), AllocError>
-    ensures { OnOk result (Keeps holding.now host.now.shapes host.now.past →
+    ensures { OnOk result (IsSaid said.now host.now → Keeps holding.now host.now.shapes host.now.past →
         string_bytes text.new ≡ string_bytes text.old ++ decided_fields host.now call) }
 {
     match call {
-        Some(call) => put_decision_of(alloc, text, host, holding, &call),
+        Some(call) => put_decision_of(text, said, host, holding, &call),
         None => Ok(()),
     }
 }
@@ -268,18 +270,18 @@ fn about(request: &Request, asked: Option<Body>, it: Option<Begun>) -> Option<Bo
 
 // Puts what is called, and what the list decides.
 fn put_called(
-    alloc: Global,
     text: &mut String,
+    said: &Said,
     host: &Host,
     holding: &Holding,
     call: Option<Body>,
     asked: Option<Body>,
 ) -> Result<(), AllocError>
-    ensures { OnOk result (Keeps holding.now host.now.shapes host.now.past → string_bytes text.new ≡ string_bytes text.old
+    ensures { OnOk result (IsSaid said.now host.now → Keeps holding.now host.now.shapes host.now.past → string_bytes text.new ≡ string_bytes text.old
         ++ (object_fields host.now.shapes call ++ decided_fields host.now asked)) }
 {
-    put_object(text, host.catalogue(), call)?;
-    put_decided(alloc, text, host, holding, asked)
+    put_object(text, said, host.catalogue(), call)?;
+    put_decided(text, said, host, holding, asked)
 }
 
 // Puts whom the object is handed to, why a request was refused, and which entry is answered.
@@ -304,17 +306,17 @@ fn put_outcome(
 
 /// Puts what follows of a request with its answer, the entry of this number, which ends this body.
 pub fn put_derived(
-    alloc: Global,
     text: &mut String,
     host: &Host,
     kept: &Kept,
+    said: &Said,
     number: usize,
     actor: usize,
     request: &Request,
     word: Recorded,
     ended: Option<Begun>,
 ) -> Result<(), AllocError>
-    ensures { OnOk result (KeepsBut kept.now host.now (Asked actor request.now word) → number ≡ suc (length host.now.past)
+    ensures { OnOk result (KeepsBut kept.now host.now (Asked actor request.now word) → IsSaid said.now host.now → number ≡ suc (length host.now.past)
         → ended ≡ end_of Bodies host.now.shapes host.now.past (Asked actor request.now word)
         → string_bytes text.new ≡ string_bytes text.old ++ derived host.now actor request.now word) }
 {
@@ -322,6 +324,6 @@ pub fn put_derived(
     let entry = EntryRef::Asked(actor, request, word);
     let asked = asked_at(host.catalogue(), holding, &entry);
     let it = answered(kept.left(), actor, request, ended);
-    put_called(alloc, text, host, holding, about(request, asked, it), asked)?;
+    put_called(text, said, host, holding, about(request, asked, it), asked)?;
     put_outcome(text, host, kept.drops(), number, actor, request, word, it)
 }

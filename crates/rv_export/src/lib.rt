@@ -10,4 +10,5 @@ mod facts;
 mod fields;
 mod kept;
 mod left;
+mod said;
 mod words;

@@ -2,27 +2,28 @@
 
 ghost use Rattle.std.specs.Prelude.{◌≡◌, IfOk, codes, option_copied, string_bytes};
 ghost use Rattle.rv_refused.specs.Refusals.{line_words};
-ghost use Rattle.rv_export.specs.Exports.{answer_word, next_word, request_word, why};
+ghost use Rattle.rv_export.specs.Exports.{answer_word, asking, next_word, request_word, why};
 
 use rv_access::Line;
 use rv_event::entry::{Next, Recorded, Request, Rule};
 use std::alloc::{AllocError, Global};
 
-/// What was asked, in the word that the journal has.
-pub fn request_word(request: &Request) -> &'static str
-    ensures { result.now ≡ request_word request.now }
+/// What was asked, in the word that the journal has, as it stands between a caller and an answer.
+pub fn asking(request: &Request) -> &'static str
+    ensures { result.now ≡ asking (request_word request.now) }
 {
     match *request {
-        Request::Call(_, _, _) => "call",
-        Request::Complete(_, _) => "end",
-        Request::Settle => "settle",
-        Request::Resume => "resume",
-        Request::DelayUntil(_) => "delay",
-        Request::Clock => "clock",
-        Request::Fire => "fire",
-        Request::Quit => "finish",
-        Request::Tick(_) => "tick",
-        Request::Halt => "halt",
+        Request::Call(_, _, _) => "\",\"request\":\"call\",\"answer\":\"",
+        Request::Complete(_, _) => "\",\"request\":\"end\",\"answer\":\"",
+        Request::Settle => "\",\"request\":\"settle\",\"answer\":\"",
+        Request::Resume => "\",\"request\":\"resume\",\"answer\":\"",
+        Request::DelayUntil(_) => "\",\"request\":\"delay\",\"answer\":\"",
+        Request::Clock => "\",\"request\":\"clock\",\"answer\":\"",
+        Request::Fire => "\",\"request\":\"fire\",\"answer\":\"",
+        Request::Quit => "\",\"request\":\"finish\",\"answer\":\"",
+        Request::Tick(_) => "\",\"request\":\"tick\",\"answer\":\"",
+        Request::Halt => "\",\"request\":\"halt\",\"answer\":\"",
+        Request::Archive(_) => "\",\"request\":\"archive\",\"answer\":\"",
     }
 }
 

@@ -5,22 +5,22 @@ use Rattle.std.proofs.lemmas.Bool.Decides.{nat_tests}
 use Rattle.std.proofs.lemmas.List.{length-map}
 use Rattle.rv_shape.specs.Shape.{Shape}
 use Rattle.rv_shape.specs.Catalogue.{UnitTask, Operator, Line, all_tasks, task_of, tasks_of, who}
-use Rattle.rv_event.specs.Past.{halted, stance, under_way, unsettled}
+use Rattle.rv_event.specs.Past.{archived, halted, stance, under_way, unsettled}
 use Rattle.rv_event.specs.declared.entry.Answer.TheVariants.{Full}
 use Rattle.rv_event.specs.declared.entry.Entry.TheVariants.{Load, ListChange}
 use Rattle.rv_event.specs.declared.entry.Request.{Request}
-use Rattle.rv_event.specs.declared.entry.Request.TheVariants.{Complete, Settle, Resume, Quit, Halt}
+use Rattle.rv_event.specs.declared.entry.Request.TheVariants.{Archive, Complete, Settle, Resume, Quit, Halt}
 use Rattle.rv_event.specs.declared.entry.Stance.TheVariants.{Free}
 use Rattle.rv_history.specs.Due.{due, nothing_more, out}
-use Rattle.rv_history.specs.Fitting.{is_operator}
+use Rattle.rv_history.specs.Fitting.{is_archive, is_operator}
 use Rattle.rv_history.specs.History.{History}
 use Rattle.rv_history.specs.Legal.{Legal}
 use Rattle.rv_history.specs.Owed.{IsSolvent, actors, dues, each, halt_due, has_room, is_paid, owed, room, surcharge, unfinished}
-use Rattle.rv_history.proofs.Answered.{off, and_true}
+use Rattle.rv_history.proofs.Answered.{off, both, and_true}
 use Rattle.rv_history.proofs.Ends.{end_never_full, settle_never_full}
 use Rattle.rv_history.proofs.Loaded.{left_stays, tasks_append, way_stays}
 use Rattle.rv_history.proofs.NeverFull.{never_due}
-use Rattle.rv_history.proofs.Pays.{Pays, fit_parts, out_due, pays_halt, quit_never_full, resume_never_full}
+use Rattle.rv_history.proofs.Pays.{Pays, fit_parts, out_due, pays_archive, pays_halt, quit_never_full, resume_never_full}
 use Rattle.rv_history.proofs.Room.{from_room, to_room}
 use Rattle.rv_history.proofs.Silent.{beyond_free}
 
@@ -63,15 +63,15 @@ load_owed h s l =
 pub load_costs : (h : History) (s : Shape) → Legal h → IsSolvent h → (has_room h.limits.capacity (h.shapes ++ s ∷ []) (Load ∷ h.past) ≡ true) ↔ (1 + length s.tasks ≤ room h)
 load_costs h s l solvent =
     let more = load_owed h s l in (
-      λ enough. let n = from_room _ h.limits.capacity enough in omega (arith, n, more, solvent),
-      λ cost. to_room _ h.limits.capacity (omega (arith, cost, more, solvent)),
+      λ enough. let n = from_room _ (h.limits.capacity + archived h.past) enough in omega (arith, n, more, solvent),
+      λ cost. to_room _ (h.limits.capacity + archived h.past) (omega (arith, cost, more, solvent)),
     )
 
 pub list_costs : (h : History) → IsSolvent h → (has_room h.limits.capacity h.shapes (ListChange ∷ h.past) ≡ true) ↔ (1 ≤ room h)
 list_costs h solvent =
     let same : owed h.shapes (ListChange ∷ h.past) ≡ owed h.shapes h.past = refl in (
-      λ enough. let n = from_room _ h.limits.capacity enough in omega (arith, n, same, solvent),
-      λ cost. to_room _ h.limits.capacity (omega (arith, cost, same, solvent)),
+      λ enough. let n = from_room _ (h.limits.capacity + archived h.past) enough in omega (arith, n, same, solvent),
+      λ cost. to_room _ (h.limits.capacity + archived h.past) (omega (arith, cost, same, solvent)),
     )
 
 -- What is owed has its room
@@ -90,12 +90,19 @@ halt_paid h a solvent = out_due h a Halt (λ f c.
     let zero_is : a ≡ 0 = operator_is h.shapes a (fit_parts h a Halt f).1 in
     subst (λ n. Pays h n Halt nothing_more) (sym zero_is) (pays_halt h (sym (and_true (halted h.past)) ∙ c) solvent))
 
+pub archive_paid : (h : History) (a n : ℕ) → IsSolvent h → out h a (Archive n) ≡ due h a (Archive n)
+archive_paid h a n solvent = out_due h a (Archive n) (λ f c.
+    let parts = both (is_operator (who h.shapes a)) (is_archive h n) (fit_parts h a (Archive n) f).1 in
+    let zero_is : a ≡ 0 = operator_is h.shapes a parts.0 in
+    subst (λ k. Pays h k (Archive n) nothing_more) (sym zero_is) (pays_archive h n parts.1 solvent))
+
 paid : (h : History) (a : ℕ) (r : Request) → Legal h → IsSolvent h → is_paid r ≡ true → out h a r ≡ due h a r
 paid h a (Complete vs x) l solvent e = end_never_full h a vs x l solvent
 paid h a Settle l solvent e = settle_never_full h a l solvent
 paid h a Resume l solvent e = resume_never_full h a solvent
 paid h a Quit l solvent e = quit_never_full h a solvent
 paid h a Halt l solvent e = halt_paid h a solvent
+paid h a (Archive n) l solvent e = archive_paid h a n solvent
 paid h a r l solvent e = absurd (off e)
 
 pub paid_never_full : (h : History) (a : ℕ) (r : Request) → Legal h → IsSolvent h → is_paid r ≡ true → out h a r ≢ Full

@@ -3,16 +3,17 @@ use Rattle.std.proofs.Common.{◌≡◌, ℕ, ◌+◌, ◌<◌, ◌≤◌, List,
 use Rattle.std.specs.Prelude.{ℤ, nat_lt, not, ◌==◌, if◌then◌else◌, slice_get}
 use Rattle.std.specs.List.{filter}
 use Rattle.rv_shape.specs.Catalogue.{first_of, target, Target, Nowhere, OnProtected, OnSuspension, is_function}
-use Rattle.rv_event.specs.Past.{under_way, unsettled, innermost, to_settle, handed, left_by, without, begun, or_else, stance, stance_of, scalars, halted, held, mode, mode_by, waiting, named_in}
+use Rattle.rv_event.specs.Past.{under_way, unsettled, innermost, to_settle, handed, left_by, without, archived, begun, or_else, stance, stance_of, scalars, halted, held, mode, mode_by, waiting, named_in}
 use Rattle.rv_event.specs.declared.entry.Stance.{Stance}
 use Rattle.rv_event.specs.declared.entry.Stance.TheVariants.{Free, InQueue, HandedOver, DroppedBy}
 use Rattle.rv_event.specs.declared.entry.Body.{Body}
 use Rattle.rv_event.specs.declared.entry.Exit.{Exit}
 use Rattle.rv_event.specs.declared.entry.Next.{Next}
 use Rattle.rv_event.specs.declared.entry.Next.TheVariants.{Nothing, HandedTo, Dropped}
+use Rattle.rv_event.specs.declared.entry.Entry.{Entry}
 use Rattle.rv_event.specs.declared.entry.Entry.TheVariants.{Asked}
 use Rattle.rv_event.specs.declared.entry.Request.{Request}
-use Rattle.rv_event.specs.declared.entry.Request.TheVariants.{Complete, Settle}
+use Rattle.rv_event.specs.declared.entry.Request.TheVariants.{Archive, Complete, Settle}
 use Rattle.rv_event.specs.declared.entry.Recorded.TheVariants.{Done}
 use Rattle.rv_event.specs.declared.entry.Answer.TheVariants as Answers
 use Rattle.rv_event.proofs.Matching.{by}
@@ -96,11 +97,16 @@ dues_fall h a r (Dropped n line) own free q = named_less h a r (Dropped n line) 
     by_low true = refl
     by_low false = refl
 
+-- it gives nothing up
+none_given : (a : ℕ) (r : Request) (next : Next) (past : List Entry) → archived (Asked a r (Done next) ∷ past) ≡ archived past
+none_given a (Archive n) next past = refl
+none_given a r next past = refl
+
 paid_done : (h : History) (a : ℕ) (r : Request) (next : Next) → Counted h a r next → stance a h.past ≡ Free → Queues h next → IsSolvent h → IsSolvent (with_entry h a r (Done next))
 paid_done h a r next t free q solvent =
     let going : halt_due (halted (Asked a r (Done next) ∷ h.past)) ≡ halt_due (halted h.past) = ap halt_due t.going in
     let bodies = t.bodies in
-    omega (arith, solvent, going, bodies, dues_fall h a r next t.own free q)
+    omega (arith, solvent, going, bodies, none_given a r next h.past, dues_fall h a r next t.own free q)
 
 none_queues : (h : History) → Queues h Nothing
 none_queues h = record { named = λ n e. absurd (cc) }

@@ -9,7 +9,7 @@ use Rattle.rv_shape.specs.declared.suspension.SuspensionOperation.TheVariants.{S
 use Rattle.rv_event.specs.declared.entry.Answer.{Answer}
 use Rattle.rv_event.specs.declared.entry.Answer.TheVariants as Answers
 use Rattle.rv_event.specs.declared.entry.Request.{Request}
-use Rattle.rv_event.specs.declared.entry.Request.TheVariants.{Call, DelayUntil, Clock, Fire, Tick, Halt}
+use Rattle.rv_event.specs.declared.entry.Request.TheVariants.{Call, DelayUntil, Clock, Fire, Tick, Halt, Archive}
 use Rattle.rv_event.specs.declared.entry.Rule.{Rule}
 use Rattle.rv_event.specs.declared.entry.Rule.TheVariants.{Grant}
 use Rattle.rv_event.specs.declared.entry.Recorded.{Recorded}
@@ -114,4 +114,5 @@ names_first h a r rule line number calls e = by_request r calls (answered h a r 
     by_request Clock calls f = absurd (cc)
     by_request (Tick n) calls f = absurd (cc)
     by_request Halt calls f = absurd (cc)
+    by_request (Archive n) calls f = absurd (cc)
     by_request r calls f = absurd (off (sym calls))

@@ -37,6 +37,7 @@ pub mod Settling
 pub mod During
 pub mod Frame
 -- Room
+pub mod Archived
 pub mod Room
 pub mod Pays
 pub mod Ends

@@ -9,10 +9,10 @@ use Rattle.rv_event.specs.declared.entry.Mode.{Mode}
 use Rattle.rv_event.specs.declared.entry.Mode.TheVariants as Modes
 use Rattle.rv_event.specs.declared.entry.Recorded.{Recorded}
 use Rattle.rv_event.specs.declared.entry.Request.{Request}
-use Rattle.rv_event.specs.declared.entry.Request.TheVariants.{Call, Complete, Settle, Resume, DelayUntil, Clock, Fire, Quit, Tick, Halt}
+use Rattle.rv_event.specs.declared.entry.Request.TheVariants.{Call, Complete, Settle, Resume, DelayUntil, Clock, Fire, Quit, Tick, Halt, Archive}
 use Rattle.rv_event.specs.declared.entry.Stance.{Stance}
 use Rattle.rv_event.specs.declared.entry.Stance.TheVariants.{Free, InQueue, HandedOver, DroppedBy, WaitsOn, WaitsUntil, Gone}
-use Rattle.rv_history.specs.Fitting.{awaits, call_fits, fits_actor, idle_line, idle_task, in_body, is_operator, is_settling, is_tick, is_time, may_call}
+use Rattle.rv_history.specs.Fitting.{awaits, call_fits, fits_actor, idle_line, idle_task, in_body, is_archive, is_operator, is_settling, is_tick, is_time, may_call}
 use Rattle.rv_history.specs.History.{History}
 use Rattle.rv_history.proofs.Answered.{off, both, Answered}
 
@@ -97,6 +97,7 @@ shut_fits h a Fire shut other f = absurd (unfit _ (fires_none (who h.shapes a) (
 shut_fits h a Quit shut other f = absurd (unfit _ (quits_none (who h.shapes a) (mode h.shapes a h.past) shut) f)
 shut_fits h a (Tick n) shut other f = absurd (other (both (is_operator (who h.shapes a)) (is_tick n) f).0)
 shut_fits h a Halt shut other f = absurd (other f)
+shut_fits h a (Archive n) shut other f = absurd (other (both (is_operator (who h.shapes a)) (is_archive h n) f).0)
 
 -- What one asks that has an object to settle.
 

@@ -17,7 +17,7 @@ use Rattle.rv_event.specs.declared.entry.Exit.{Exit}
 use Rattle.rv_event.specs.declared.entry.Next.{Next}
 use Rattle.rv_event.specs.declared.entry.Next.TheVariants.{Nothing, HandedTo, Dropped}
 use Rattle.rv_event.specs.declared.entry.Request.{Request}
-use Rattle.rv_event.specs.declared.entry.Request.TheVariants.{Call, Complete, Settle, Resume, DelayUntil, Clock, Fire, Quit, Tick, Halt}
+use Rattle.rv_event.specs.declared.entry.Request.TheVariants.{Call, Complete, Settle, Resume, DelayUntil, Clock, Fire, Quit, Tick, Halt, Archive}
 use Rattle.rv_event.specs.declared.entry.Recorded.{Recorded}
 use Rattle.rv_event.specs.declared.entry.Recorded.TheVariants.{Started, Queued, Done}
 use Rattle.rv_event.proofs.Matching.{by}
@@ -199,6 +199,7 @@ bodies_step h a Clock w e all calls apart k = k
 bodies_step h a Quit w e all calls apart k = k
 bodies_step h a (Tick n) w e all calls apart k = k
 bodies_step h a Halt w e all calls apart k = k
+bodies_step h a (Archive n) w e all calls apart k = k
 
 -- Bodies that left their objects unsettled
 
@@ -288,6 +289,7 @@ apart_step h a Clock w e all calls apart k o = apart o
 apart_step h a Quit w e all calls apart k o = apart o
 apart_step h a (Tick n) w e all calls apart k o = apart o
 apart_step h a Halt w e all calls apart k o = apart o
+apart_step h a (Archive n) w e all calls apart k o = apart o
 
 -- Calls
 

@@ -1,11 +1,11 @@
--- Resume, Quit and Halt pay for themselves.
+-- Resume, Quit, Halt and Archive pay for themselves.
 use Rattle.std.proofs.Common.{◌≡◌, ◌≢◌, ℕ, ◌+◌, ◌-◌, ◌<◌, ◌≤◌, List, ◌∷◌, Some, None, Option, Bool, true, false, arith, ap, subst, sym, ◌∙◌, refl}
 use Rattle.std.specs.Prelude.{nat_lt, ◌==◌, ◌&&◌, not, if◌then◌else◌, int_le, pos, slice_get}
 use Rattle.std.proofs.lemmas.Bool.Decides.{nat_tests}
 use Rattle.rv_shape.specs.Shape.{Shape}
 use Rattle.rv_event.specs.Recorded.{recorded}
 use Rattle.rv_shape.specs.Catalogue.{Who, Operator, Line, Task, Nobody, who, task_of, all_tasks}
-use Rattle.rv_event.specs.Past.{held, innermost, to_settle, next_of, stance, stance_of, halted, mode, mode_by, clock, released, until_then}
+use Rattle.rv_event.specs.Past.{archived, held, innermost, to_settle, next_of, stance, stance_of, halted, mode, mode_by, clock, released, until_then}
 use Rattle.rv_event.specs.declared.entry.Stance.{Stance}
 use Rattle.rv_event.specs.declared.entry.Stance.TheVariants.{Free, InQueue, HandedOver, DroppedBy, WaitsOn, WaitsUntil, Gone}
 use Rattle.rv_event.specs.declared.entry.Body.{Body}
@@ -15,16 +15,17 @@ use Rattle.rv_event.specs.declared.entry.Next.TheVariants.{Nothing}
 use Rattle.rv_event.specs.declared.entry.Entry.{Entry}
 use Rattle.rv_event.specs.declared.entry.Entry.TheVariants.{Asked}
 use Rattle.rv_event.specs.declared.entry.Request.{Request}
-use Rattle.rv_event.specs.declared.entry.Request.TheVariants.{Resume, Quit, Halt}
+use Rattle.rv_event.specs.declared.entry.Request.TheVariants.{Archive, Resume, Quit, Halt}
 use Rattle.rv_event.specs.declared.entry.Recorded.{Recorded}
 use Rattle.rv_event.specs.declared.entry.Recorded.TheVariants.{Refused, Woken, Accepted}
 use Rattle.rv_event.specs.declared.entry.Answer.{Answer}
 use Rattle.rv_event.specs.declared.entry.Answer.TheVariants as Answers
 use Rattle.rv_history.specs.History.{History, changes}
 use Rattle.rv_history.specs.Owed.{surcharge, unfinished, dues, each, actors, halt_due, IsSolvent}
-use Rattle.rv_history.specs.Fitting.{fits, fits_actor, idle_task}
+use Rattle.rv_history.specs.Fitting.{fits, fits_actor, idle_task, is_archive}
 use Rattle.rv_history.specs.Due.{due, out, gate, within, enough, table, due_resume, or_waiting, scalars_held, nothing_more, goes_on}
 use Rattle.rv_history.proofs.Answered.{off, both, and_true, word_is}
+use Rattle.rv_history.proofs.Archived.{archive_parts}
 use Rattle.rv_history.proofs.Modes.{quits_at}
 use Rattle.rv_history.proofs.Stances.{below, own_stance, other_stance}
 use Rattle.rv_history.proofs.Sums.{each_change, each_less}
@@ -125,26 +126,36 @@ pays_quit h a idle some solvent =
     let now : dues_by Gone (nat_lt a 11) ≡ 0 = λ i. dues_by Gone (high i) in
     paid_as h a Quit nothing_more (Accepted (pos 0)) refl (omega (arith, solvent, before, now, each_own (actors h.shapes) a Quit (Accepted (pos 0)) h.past refl some))
 
--- a halt
-fewer_dues : (past : List Entry) (j : ℕ) (w : Recorded) → next_of (Asked 0 Halt w) ≡ Nothing → dues (Asked 0 Halt w ∷ past) j ≤ dues past j
-fewer_dues past j w e = by_test (j == 0) refl
+-- what the operator asks that leaves it free
+fewer_dues : (past : List Entry) (j : ℕ) (r : Request) (w : Recorded) → next_of (Asked 0 r w) ≡ Nothing → stance_of (Asked 0 r w) ≡ Free → dues (Asked 0 r w ∷ past) j ≤ dues past j
+fewer_dues past j r w e free = by_test (j == 0) refl
   where
-    by_test : (t : Bool) → (j == 0) ≡ t → dues (Asked 0 Halt w ∷ past) j ≤ dues past j
+    by_test : (t : Bool) → (j == 0) ≡ t → dues (Asked 0 r w ∷ past) j ≤ dues past j
     by_test true is =
         let zero : j ≡ 0 = grind (arith, nat_tests) in
-        let P : ℕ → Type 0 = λ k. dues (Asked 0 Halt w ∷ past) k ≤ dues past k in
-        let now : dues (Asked 0 Halt w ∷ past) 0 ≡ 0 = ap (λ s. dues_by s true) (own_stance 0 Halt w past e) in
+        let P : ℕ → Type 0 = λ k. dues (Asked 0 r w ∷ past) k ≤ dues past k in
+        let now : dues (Asked 0 r w ∷ past) 0 ≡ 0 = ap (λ s. dues_by s true) (own_stance 0 r w past e ∙ free) in
         subst P (sym zero) (omega (arith, now))
     by_test false is =
         let other : j ≢ 0 = grind (arith, nat_tests) in
-        let same : dues (Asked 0 Halt w ∷ past) j ≡ dues past j = ap (λ s. dues_by s (nat_lt j 11)) (other_stance 0 j Halt w past e other) in
+        let same : dues (Asked 0 r w ∷ past) j ≡ dues past j = ap (λ s. dues_by s (nat_lt j 11)) (other_stance 0 j r w past e other) in
         omega (arith, same)
+
+-- a halt
 
 pub pays_halt : (h : History) → halted h.past ≡ false → IsSolvent h → Pays h 0 Halt nothing_more
 pays_halt h going solvent =
     let owes : halt_due (halted h.past) ≡ 1 = ap halt_due going in
     paid_as h 0 Halt nothing_more (Accepted (pos 0)) refl
-    (omega (arith, solvent, owes, each_less (actors h.shapes) (dues (Asked 0 Halt (Accepted (pos 0)) ∷ h.past)) (dues h.past) (λ j. fewer_dues h.past j (Accepted (pos 0)) refl)))
+    (omega (arith, solvent, owes, each_less (actors h.shapes) (dues (Asked 0 Halt (Accepted (pos 0)) ∷ h.past)) (dues h.past) (λ j. fewer_dues h.past j Halt (Accepted (pos 0)) refl refl)))
+
+-- an archive: it gives up one more entry at least, whose place it takes
+pub pays_archive : (h : History) (n : ℕ) → is_archive h n ≡ true → IsSolvent h → Pays h 0 (Archive n) nothing_more
+pays_archive h n fitting solvent =
+    let parts = archive_parts h n fitting in
+    let more : archived h.past + 1 ≤ n = omega (arith, parts.more) in
+    paid_as h 0 (Archive n) nothing_more (Accepted (pos 0)) refl
+    (omega (arith, solvent, more, each_less (actors h.shapes) (dues (Asked 0 (Archive n) (Accepted (pos 0)) ∷ h.past)) (dues h.past) (λ j. fewer_dues h.past j (Archive n) (Accepted (pos 0)) refl refl)))
 
 -- the answer from its gate
 pub pays_gate : (h : History) (a : ℕ) (r : Request) (b c : Bool) (x : Answer) → (b ≡ true → c ≡ false → Pays h a r x) → Pays h a r (gate b c x)
@@ -157,7 +168,7 @@ within_paid h a r x p = by_word (recorded x) refl
   where
     by_word : (o : Option Recorded) → recorded x ≡ o → within (enough h a r o) x ≡ x
     by_word None is = refl
-    by_word (Some w) is = ap (λ b. within b x) (to_room _ h.limits.capacity (p.pays w is))
+    by_word (Some w) is = ap (λ b. within b x) (to_room _ (h.limits.capacity + archived (Asked a r w ∷ h.past)) (p.pays w is))
 
 pub out_due : (h : History) (a : ℕ) (r : Request) → (fits h a r ≡ true → (halted h.past && not (goes_on r)) ≡ false → Pays h a r (table h a r)) → out h a r ≡ due h a r
 out_due h a r p = within_paid h a r (due h a r) (pays_gate h a r (fits h a r) (halted h.past && not (goes_on r)) (table h a r) p)

@@ -20,7 +20,7 @@ use Rattle.rv_event.specs.declared.entry.Next.TheVariants.{Nothing, HandedTo, Dr
 use Rattle.rv_event.specs.declared.entry.Recorded.{Recorded}
 use Rattle.rv_event.specs.declared.entry.Recorded.TheVariants.{Suspended, Delayed, Accepted}
 use Rattle.rv_event.specs.declared.entry.Request.{Request}
-use Rattle.rv_event.specs.declared.entry.Request.TheVariants.{Call, Complete, Settle, Resume, DelayUntil, Clock, Fire, Quit, Tick, Halt}
+use Rattle.rv_event.specs.declared.entry.Request.TheVariants.{Call, Complete, Settle, Resume, DelayUntil, Clock, Fire, Quit, Tick, Halt, Archive}
 use Rattle.rv_event.specs.declared.entry.Stance.{Stance}
 use Rattle.rv_event.specs.declared.entry.Stance.TheVariants.{HandedOver, DroppedBy, WaitsOn}
 use Rattle.rv_history.specs.declared.limits.Limits.{Limits}
@@ -135,6 +135,7 @@ suspends_by b Quit (Accepted v) o e = absurd (cc)
 suspends_by b Quit w o e = absurd (cc)
 suspends_by b (Tick n) w o e = absurd (cc)
 suspends_by b Halt w o e = absurd (cc)
+suspends_by b (Archive n) w o e = absurd (cc)
 
 named_not : (next : Next) (a o : ℕ) (s : Option Stance) (t : Stance) → is_named a (named_in next) ≡ true → or_else (first_of (if_named a next) s) t ≡ WaitsOn o → ⊥
 named_not Nothing a o s t is e = off is

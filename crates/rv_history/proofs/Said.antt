@@ -28,12 +28,13 @@ use Rattle.rv_event.specs.declared.entry.Exit.{Exit}
 use Rattle.rv_event.specs.declared.entry.Exit.TheVariants.{Return, Raise, Overrun, Stopped}
 use Rattle.rv_event.specs.declared.entry.Recorded.{Recorded}
 use Rattle.rv_event.specs.declared.entry.Request.{Request}
-use Rattle.rv_event.specs.declared.entry.Request.TheVariants.{Call, Complete, Settle, Resume, DelayUntil, Clock, Fire, Quit, Tick, Halt}
+use Rattle.rv_event.specs.declared.entry.Request.TheVariants.{Call, Complete, Settle, Resume, DelayUntil, Clock, Fire, Quit, Tick, Halt, Archive}
 use Rattle.rv_event.proofs.ReadingBack.{request_back}
 use Rattle.rv_history.specs.Due.{out}
-use Rattle.rv_history.specs.Fitting.{all_fit, call_fits, end_at, end_fits, exit_fits, fits_actor, in_body, is_operator, is_tick, is_time, may_call, no_values, ranges_in, ranges_out, results}
+use Rattle.rv_history.specs.Fitting.{all_fit, call_fits, end_at, end_fits, exit_fits, fits_actor, in_body, is_archive, is_operator, is_tick, is_time, may_call, no_values, ranges_in, ranges_out, results}
 use Rattle.rv_history.specs.History.{History}
 use Rattle.rv_history.specs.Legal.{Legal}
+use Rattle.rv_history.proofs.Archived.{Fits, archive_parts}
 use Rattle.rv_history.proofs.Answered.{off, answered, both}
 use Rattle.rv_history.proofs.Found.{Stands, legal_found, none_numbered, or_none, stands}
 
@@ -220,6 +221,10 @@ tick_short : (n : ℤ) → is_tick n ≡ true → IsShort n
 tick_short (pos n) e = omega (arith, le_of n 1000000 (both (nat_le 1 n) (nat_le n 1000000) e).1)
 tick_short (negsuc n) e = absurd (off e)
 
+-- an archive's number is below 10^12
+short_number : (h : History) (n : ℕ) → Fits h n → IsShort (pos n)
+short_number h n fits = omega (arith, fits.last)
+
 pub is_said : (h : History) (a : ℕ) (r : Request) → Legal h → fits_actor h a r ≡ true → IsSaid h.shapes r
 is_said h a (Call o p vs) l e = said_call h a o p vs l (both (may_call (who h.shapes a) (mode h.shapes a h.past)) _ e).1
 is_said h a (Complete vs x) l e = said_end h vs x (innermost h.shapes a h.past) l (both (in_body (mode h.shapes a h.past)) _ e).1
@@ -234,6 +239,7 @@ is_said h a Fire l e = tt
 is_said h a Quit l e = tt
 is_said h a (Tick n) l e = tick_short n (both (is_operator (who h.shapes a)) (is_tick n) e).1
 is_said h a Halt l e = tt
+is_said h a (Archive n) l e = short_number h n (archive_parts h n (both (is_operator (who h.shapes a)) (is_archive h n) e).1)
 
 pub read_back : (h : History) (a : ℕ) (r : Request) (w : Recorded) → Legal h → recorded (out h a r) ≡ Some w → request_of h.shapes (words (request_text h.shapes r)) ≡ Some r
 read_back h a r w l e = request_back h.shapes (legal_found h l) r (is_said h a r l (answered h a r w e).fits_in)

@@ -16,7 +16,7 @@ use Rattle.rv_event.specs.declared.entry.Next.{Next}
 use Rattle.rv_event.specs.declared.entry.Recorded.{Recorded}
 use Rattle.rv_event.specs.declared.entry.Recorded.TheVariants.{Done}
 use Rattle.rv_event.specs.declared.entry.Request.{Request}
-use Rattle.rv_event.specs.declared.entry.Request.TheVariants.{Call, Complete, Settle, Resume, DelayUntil, Clock, Fire, Quit, Tick, Halt}
+use Rattle.rv_event.specs.declared.entry.Request.TheVariants.{Call, Complete, Settle, Resume, DelayUntil, Clock, Fire, Quit, Tick, Halt, Archive}
 use Rattle.rv_event.proofs.Matching.{by}
 use Rattle.rv_history.specs.declared.limits.Limits.{Limits}
 use Rattle.rv_history.specs.Due.{out}
@@ -87,6 +87,7 @@ ended_step h a Fire w e k = k
 ended_step h a Quit w e k = k
 ended_step h a (Tick n) w e k = k
 ended_step h a Halt w e k = k
+ended_step h a (Archive n) w e k = k
 
 -- Units that are loaded later change none of it.
 
@@ -107,6 +108,7 @@ ended_stays c (Asked b r w ∷ past) shapes more lists a l =
     by_request Quit inner rest = rest
     by_request (Tick n) inner rest = rest
     by_request Halt inner rest = rest
+    by_request (Archive n) inner rest = rest
 ended_stays c (Load ∷ past) shapes more lists a l =
     ap (λ (ss : List Shape). ended_last (ss ++ more) a past) l.2
     ∙ ap (λ (ss : List Shape). ended_last ss a past) (append_assoc l.0 (l.1 ∷ []) more)
@@ -201,6 +203,7 @@ request_step h a Fire w o l e k rest = rest
 request_step h a Quit w o l e k rest = rest
 request_step h a (Tick n) w o l e k rest = rest
 request_step h a Halt w o l e k rest = rest
+request_step h a (Archive n) w o l e k rest = rest
 
 record Said (shapes : List Shape) (past : List Entry) (o : ℕ) : Type 0 where
   ended : Each (EndedLast shapes past) (unsettled shapes past)

@@ -17,7 +17,7 @@ use Rattle.rv_event.specs.declared.entry.Exit.{Exit}
 use Rattle.rv_event.specs.declared.entry.Next.{Next}
 use Rattle.rv_event.specs.declared.entry.Next.TheVariants.{Nothing, HandedTo, Dropped}
 use Rattle.rv_event.specs.declared.entry.Request.{Request}
-use Rattle.rv_event.specs.declared.entry.Request.TheVariants.{Call, Complete, Settle, Resume, DelayUntil, Clock, Fire, Quit, Tick, Halt}
+use Rattle.rv_event.specs.declared.entry.Request.TheVariants.{Call, Complete, Settle, Resume, DelayUntil, Clock, Fire, Quit, Tick, Halt, Archive}
 use Rattle.rv_event.specs.declared.entry.Recorded.{Recorded}
 use Rattle.rv_event.specs.declared.entry.Recorded.TheVariants.{Started, Queued, Done}
 use Rattle.rv_event.proofs.Unnamed.{filter_append}
@@ -254,6 +254,7 @@ settled_step h a Clock w o e k s was = quiet h.shapes h.past (Asked a Clock w) o
 settled_step h a Quit w o e k s was = quiet h.shapes h.past (Asked a Quit w) o (λ x. x) (λ x. x) refl refl was
 settled_step h a (Tick n) w o e k s was = quiet h.shapes h.past (Asked a (Tick n) w) o (λ x. x) (λ x. x) refl refl was
 settled_step h a Halt w o e k s was = quiet h.shapes h.past (Asked a Halt w) o (λ x. x) (λ x. x) refl refl was
+settled_step h a (Archive n) w o e k s was = quiet h.shapes h.past (Asked a (Archive n) w) o (λ x. x) (λ x. x) refl refl was
 
 -- a load leaves the barrier as it was where somebody waits
 pub open_stays : (h : History) (more : List Shape) (o : ℕ) (c : Body) (cs : List Body) → Legal h → queue o h.past ≡ c ∷ cs → open_at (h.shapes ++ more) o h.past ≡ open_at h.shapes o h.past

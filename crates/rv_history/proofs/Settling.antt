@@ -1,19 +1,19 @@
 -- An unsettled object is settled by its actor alone, one caller after another.
-use Rattle.std.proofs.Common.{◌≡◌, ◌⊎◌, inl, inr, ℕ, zero, suc, ◌<◌, ◌≤◌, List, [], ◌∷◌, length, Some, None, Option, Bool, true, false, cond, arith, ap, subst, sym, ◌∙◌, refl}
+use Rattle.std.proofs.Common.{◌≡◌, ◌⊎◌, inl, inr, ℕ, zero, suc, ◌+◌, ◌<◌, ◌≤◌, List, [], ◌∷◌, length, Some, None, Option, Bool, true, false, cond, arith, ap, subst, sym, ◌∙◌, refl}
 use Rattle.std.specs.Prelude.{nat_lt, ◌==◌, ◌&&◌, ◌||◌, if◌then◌else◌, slice_get}
 use Rattle.std.specs.List.{filter, list_any}
 use Rattle.rv_access.specs.Words.{Words}
 use Rattle.rv_shape.specs.Shape.{Shape}
 use Rattle.rv_shape.specs.Catalogue.{place, target, who}
 use Rattle.rv_event.specs.Recorded.{recorded}
-use Rattle.rv_event.specs.Past.{begun, first_by, halted, held, is_unsettled, left_by, mode_by, or_settling, queue, queued_by, scalars, stance, to_settle, under_way, unsettled, without}
+use Rattle.rv_event.specs.Past.{archived, begun, first_by, halted, held, is_unsettled, left_by, mode_by, or_settling, queue, queued_by, scalars, stance, to_settle, under_way, unsettled, without}
 use Rattle.rv_event.specs.declared.entry.Body.{Body}
 use Rattle.rv_event.specs.declared.entry.Entry.{Entry}
 use Rattle.rv_event.specs.declared.entry.Entry.TheVariants.{Asked, Load, ListChange}
 use Rattle.rv_event.specs.declared.entry.Next.{Next}
 use Rattle.rv_event.specs.declared.entry.Next.TheVariants.{Nothing, HandedTo, Dropped}
 use Rattle.rv_event.specs.declared.entry.Request.{Request}
-use Rattle.rv_event.specs.declared.entry.Request.TheVariants.{Call, Complete, Settle, Resume, DelayUntil, Clock, Fire, Quit, Tick, Halt}
+use Rattle.rv_event.specs.declared.entry.Request.TheVariants.{Call, Complete, Settle, Resume, DelayUntil, Clock, Fire, Quit, Tick, Halt, Archive}
 use Rattle.rv_event.specs.declared.entry.Recorded.{Recorded}
 use Rattle.rv_event.specs.declared.entry.Recorded.TheVariants.{Done}
 use Rattle.rv_event.specs.declared.entry.Answer.TheVariants as Answers
@@ -190,7 +190,7 @@ record Goes (h : History) (a : ℕ) (next : Next) : Type 0 where
 goes : (h : History) (a : ℕ) (next : Next) → Legal h → out h a Settle ≡ Answers.Done next → Goes h a next
 goes h a next l e =
     let said : recorded (out h a Settle) ≡ Some (Done next) = ap recorded e in
-    record { is = ap (after h a Settle) e; legal = (l, said); solvent = from_room _ h.limits.capacity (answered h a Settle (Done next) said).paid }
+    record { is = ap (after h a Settle) e; legal = (l, said); solvent = from_room _ (h.limits.capacity + archived h.past) (answered h a Settle (Done next) said).paid }
 
 -- the body is to be settled on where others wait
 still_to_settle : (h : History) (a line : ℕ) (b first : Body) (behind : List Body) → Legal h → HasToSettle h a b first behind → is_any behind ≡ true →
@@ -303,6 +303,7 @@ one_step h a Fire w l one e none = none
 one_step h a Quit w l one e none = none
 one_step h a (Tick n) w l one e none = none
 one_step h a Halt w l one e none = none
+one_step h a (Archive n) w l one e none = none
 
 one_none : (c : Limits) (past : List Entry) (shapes : List Shape) (lists : List (List Words)) → c.queue ≡ 1 → IsLegal c past shapes lists → unsettled shapes past ≡ []
 one_none c [] shapes lists one l = refl

@@ -15,7 +15,7 @@ use Rattle.rv_event.specs.declared.entry.Entry.TheVariants.{Asked}
 use Rattle.rv_event.specs.declared.entry.Next.{Next}
 use Rattle.rv_event.specs.declared.entry.Next.TheVariants.{Nothing, HandedTo, Dropped}
 use Rattle.rv_event.specs.declared.entry.Request.{Request}
-use Rattle.rv_event.specs.declared.entry.Request.TheVariants.{Call, Complete, Settle, Resume, DelayUntil, Clock, Fire, Quit, Tick, Halt}
+use Rattle.rv_event.specs.declared.entry.Request.TheVariants.{Call, Complete, Settle, Resume, DelayUntil, Clock, Fire, Quit, Tick, Halt, Archive}
 use Rattle.rv_event.specs.declared.entry.Recorded.{Recorded}
 use Rattle.rv_event.specs.declared.entry.Recorded.TheVariants.{Started, Queued, Done, Suspended, Delayed, Accepted}
 use Rattle.rv_history.proofs.Answered.{off}
@@ -134,6 +134,7 @@ held_other shapes past a Clock w j h e = refl
 held_other shapes past a Quit w j h e = refl
 held_other shapes past a (Tick n) w j h e = refl
 held_other shapes past a Halt w j h e = refl
+held_other shapes past a (Archive n) w j h e = refl
 
 -- the first body of an actor is its own
 pub first_actor : (a : ℕ) (c : Body) (bs : List Body) → slice_get (filter (by a) bs) 0 ≡ Some c → c.actor ≡ a

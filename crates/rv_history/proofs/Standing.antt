@@ -15,7 +15,7 @@ use Rattle.rv_event.specs.declared.entry.Exit.{Exit}
 use Rattle.rv_event.specs.declared.entry.Next.{Next}
 use Rattle.rv_event.specs.declared.entry.Next.TheVariants.{Nothing, HandedTo, Dropped}
 use Rattle.rv_event.specs.declared.entry.Request.{Request}
-use Rattle.rv_event.specs.declared.entry.Request.TheVariants.{Call, Complete, Settle, Resume, DelayUntil, Clock, Fire, Quit, Tick, Halt}
+use Rattle.rv_event.specs.declared.entry.Request.TheVariants.{Call, Complete, Settle, Resume, DelayUntil, Clock, Fire, Quit, Tick, Halt, Archive}
 use Rattle.rv_event.specs.declared.entry.Recorded.{Recorded}
 use Rattle.rv_event.specs.declared.entry.Recorded.TheVariants.{Started, Done}
 use Rattle.rv_event.specs.declared.entry.Stance.{Stance}
@@ -177,6 +177,7 @@ left_step h a Fire w k e = still_left h a Fire w k e
 left_step h a Quit w k e = still_left h a Quit w k e
 left_step h a (Tick n) w k e = still_left h a (Tick n) w k e
 left_step h a Halt w k e = still_left h a Halt w k e
+left_step h a (Archive n) w k e = still_left h a (Archive n) w k e
 
 -- The calls that wait
 

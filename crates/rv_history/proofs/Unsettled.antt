@@ -14,7 +14,7 @@ use Rattle.rv_event.specs.declared.entry.Exit.{Exit}
 use Rattle.rv_event.specs.declared.entry.Next.{Next}
 use Rattle.rv_event.specs.declared.entry.Next.TheVariants.{Nothing, HandedTo, Dropped}
 use Rattle.rv_event.specs.declared.entry.Request.{Request}
-use Rattle.rv_event.specs.declared.entry.Request.TheVariants.{Call, Complete, Settle, Resume, DelayUntil, Clock, Fire, Quit, Tick, Halt}
+use Rattle.rv_event.specs.declared.entry.Request.TheVariants.{Call, Complete, Settle, Resume, DelayUntil, Clock, Fire, Quit, Tick, Halt, Archive}
 use Rattle.rv_event.specs.declared.entry.Recorded.{Recorded}
 use Rattle.rv_event.specs.declared.entry.Recorded.TheVariants.{Queued, Done}
 use Rattle.rv_event.proofs.Unnamed.{filter_append}
@@ -267,6 +267,7 @@ ready_step h a Fire w o l e was = calm_ready h a Fire w o l e refl refl refl was
 ready_step h a Quit w o l e was = calm_ready h a Quit w o l e refl refl refl was
 ready_step h a (Tick n) w o l e was = calm_ready h a (Tick n) w o l e refl refl refl was
 ready_step h a Halt w o l e was = calm_ready h a Halt w o l e refl refl refl was
+ready_step h a (Archive n) w o l e was = calm_ready h a (Archive n) w o l e refl refl refl was
 
 -- a load
 ready_load : (h : History) (more : List Shape) (o : ℕ) → Legal h → IsReady h.shapes h.past o → IsReady (h.shapes ++ more) (Load ∷ h.past) o

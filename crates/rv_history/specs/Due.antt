@@ -15,7 +15,7 @@ use Rattle.rv_shape.specs.declared.suspension.SuspensionOperation.TheVariants.{S
 use Rattle.rv_event.specs.declared.entry.Entry.TheVariants.{Asked}
 use Rattle.rv_event.specs.declared.entry.Request.{Request}
 use Rattle.rv_event.specs.declared.entry.Request.TheVariants.{Call, Complete, Settle, Resume, DelayUntil, Clock, Fire, Quit}
-use Rattle.rv_event.specs.declared.entry.Request.TheVariants.{Tick, Halt}
+use Rattle.rv_event.specs.declared.entry.Request.TheVariants.{Tick, Halt, Archive}
 use Rattle.rv_event.specs.declared.entry.Rule.{Rule}
 use Rattle.rv_event.specs.declared.entry.Rule.TheVariants as Rules
 use Rattle.rv_event.specs.declared.entry.Next.{Next}
@@ -153,10 +153,12 @@ table h actor Fire = due_fire h actor (handler h.shapes (actor - 1))
 table h actor Quit = nothing_more
 table h actor (Tick n) = nothing_more
 table h actor Halt = nothing_more
+table h actor (Archive number) = nothing_more
 
 -- answered on a halted host too: an end, a settle, a resume and a quit, which pay for themselves
 abbrev pub goes_on : Request → Bool
 goes_on Halt = false
+goes_on (Archive number) = false
 goes_on request = is_paid request
 
 -- Misuse where it does not fit, Halted where the host is shut for it

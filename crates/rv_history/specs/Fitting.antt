@@ -1,12 +1,12 @@
 -- Which requests fit the actor that makes them: one that doesn't is Misuse (own).
-use Rattle.std.specs.Prelude.{ℕ, ◌-◌, Bool, true, false, nat_lt, ◌&&◌, if◌then◌else◌, List, [], ◌∷◌, map, length}
+use Rattle.std.specs.Prelude.{ℕ, ◌+◌, ◌-◌, ◌^◌, Bool, true, false, nat_lt, nat_le, ◌&&◌, if◌then◌else◌, List, [], ◌∷◌, map, length}
 use Rattle.std.specs.Prelude.{Some, None, Option, ℤ, pos, negsuc, int_le}
 use Rattle.std.specs.List.{filter}
 use Rattle.rv_shape.specs.Shape.{Shape}
 use Rattle.rv_shape.specs.Kinds.{holds}
 use Rattle.rv_shape.specs.Catalogue.{Who, Operator, Line, Task, who, Target, Nowhere, OnProtected, OnSuspension}
 use Rattle.rv_shape.specs.Catalogue.{target, is_function, goes_in, goes_out}
-use Rattle.rv_event.specs.Past.{held, innermost, mode}
+use Rattle.rv_event.specs.Past.{archived, held, innermost, mode}
 use Rattle.rv_shape.specs.declared.kind.Range.{Range}
 use Rattle.rv_shape.specs.declared.kind.Parameter.{Parameter}
 use Rattle.rv_shape.specs.declared.kind.Kind.{Kind}
@@ -14,7 +14,7 @@ use Rattle.rv_shape.specs.declared.kind.Kind.TheVariants.{Function, Procedure, E
 use Rattle.rv_event.specs.declared.entry.Body.{Body}
 use Rattle.rv_event.specs.declared.entry.Request.{Request}
 use Rattle.rv_event.specs.declared.entry.Request.TheVariants.{Call, Complete, Settle, Resume, DelayUntil, Clock, Fire, Quit}
-use Rattle.rv_event.specs.declared.entry.Request.TheVariants.{Tick, Halt}
+use Rattle.rv_event.specs.declared.entry.Request.TheVariants.{Tick, Halt, Archive}
 use Rattle.rv_event.specs.declared.entry.Exit.{Exit}
 use Rattle.rv_event.specs.declared.entry.Exit.TheVariants.{Return}
 use Rattle.rv_event.specs.declared.entry.Mode.{Mode}
@@ -128,6 +128,16 @@ tick_limit = 1000000
 abbrev pub is_tick : ℤ → Bool
 is_tick n = int_le (pos 1) n && int_le n (pos tick_limit)
 
+-- how many entries a journal may have at most (own)
+abbrev pub most_entries : ℕ
+most_entries = 10 ^ 12
+
+-- entries that the operator may give up: more than were given up so far, no more than there are, and so few that numbers
+-- last for those that fill the room
+abbrev pub is_archive : History → ℕ → Bool
+is_archive h number =
+    nat_lt (archived h.past) number && nat_le number (length h.past) && nat_lt (h.limits.capacity + number) most_entries
+
 -- the second column of the table of requests: who may ask, and with what
 abbrev pub fits_actor : History → ℕ → Request → Bool
 fits_actor h actor (Call object operation values) =
@@ -143,6 +153,7 @@ fits_actor h actor Fire = idle_line (who h.shapes actor) (mode h.shapes actor h.
 fits_actor h actor Quit = idle_task (who h.shapes actor) (mode h.shapes actor h.past)
 fits_actor h actor (Tick n) = is_operator (who h.shapes actor) && is_tick n
 fits_actor h actor Halt = is_operator (who h.shapes actor)
+fits_actor h actor (Archive number) = is_operator (who h.shapes actor) && is_archive h number
 
 -- the actor is one that there is, and the request fits it
 abbrev pub fits : History → ℕ → Request → Bool

@@ -2,14 +2,14 @@
 use Rattle.std.specs.Prelude.{ℕ, zero, suc, ◌+◌, ◌-◌, ◌≤◌, Bool, true, false, nat_lt, nat_le, if◌then◌else◌, List, length}
 use Rattle.rv_shape.specs.Shape.{Shape}
 use Rattle.rv_shape.specs.Catalogue.{all_tasks, first_task}
-use Rattle.rv_event.specs.Past.{stance, under_way, unsettled, halted}
+use Rattle.rv_event.specs.Past.{archived, stance, under_way, unsettled, halted}
 use Rattle.rv_event.specs.declared.entry.Stance.{Stance}
 use Rattle.rv_event.specs.declared.entry.Stance.TheVariants.{Free, InQueue, HandedOver, DroppedBy, WaitsOn}
 use Rattle.rv_event.specs.declared.entry.Stance.TheVariants.{WaitsUntil, Gone}
 use Rattle.rv_event.specs.declared.entry.Entry.{Entry}
 use Rattle.rv_event.specs.declared.entry.Request.{Request}
 use Rattle.rv_event.specs.declared.entry.Request.TheVariants.{Call, Complete, Settle, Resume, DelayUntil, Clock, Fire, Quit}
-use Rattle.rv_event.specs.declared.entry.Request.TheVariants.{Tick, Halt}
+use Rattle.rv_event.specs.declared.entry.Request.TheVariants.{Tick, Halt, Archive}
 use Rattle.rv_history.specs.History.{History}
 
 -- 2 for a queued call; 2 for a handed one, of which its open start is one; 1 for an actor that is dropped, suspended
@@ -52,19 +52,19 @@ owed shapes past =
     length (under_way shapes past) + length (unsettled shapes past) + each (actors shapes) (dues past)
     + halt_due (halted past)
 
--- the room for the entries, with what is then owed
+-- the room for the entries, with what is then owed; that of the first entries that were given up is free again
 abbrev pub has_room : ℕ → List Shape → List Entry → Bool
-has_room capacity shapes past = nat_le (length past + owed shapes past) capacity
+has_room capacity shapes past = nat_le (length past + owed shapes past) (capacity + archived past)
 
 -- what is left beside the entries and what is owed
 abbrev pub room : History → ℕ
-room h = h.limits.capacity - (length h.past + owed h.shapes h.past)
+room h = h.limits.capacity + archived h.past - (length h.past + owed h.shapes h.past)
 
--- the entries and what is owed are within the capacity
+-- the entries that weren't given up and what is owed are within the capacity
 abbrev pub IsSolvent : History → Type 0
-IsSolvent h = length h.past + owed h.shapes h.past ≤ h.limits.capacity
+IsSolvent h = length h.past + owed h.shapes h.past ≤ h.limits.capacity + archived h.past
 
--- the requests that pay for themselves: an end, a settle, a resume, a quit and the halt
+-- the requests that pay for themselves: an end, a settle, a resume, a quit, the halt and an archive
 abbrev pub is_paid : Request → Bool
 is_paid (Call object operation values) = false
 is_paid (Complete values exit) = true
@@ -76,3 +76,4 @@ is_paid Fire = false
 is_paid Quit = true
 is_paid (Tick n) = false
 is_paid Halt = true
+is_paid (Archive number) = true

@@ -12,6 +12,10 @@ pub struct Limits {
     pub queue: usize,
 }
 
+/// How many entries a journal may have at most, with those that were given up. A text has numbers of more digits, and as many ticks
+/// of a million are a number of 63 bits.
+pub const MOST_ENTRIES: usize = 1_000_000_000_000;
+
 /// How many callers may wait in a queue under the profile (D.7, D.13).
 const QUEUE_LIMIT: usize = 1;
 

@@ -1,3 +1,4 @@
 mod Counting
 mod Looking
+mod Places
 mod Seeing

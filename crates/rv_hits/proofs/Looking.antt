@@ -1,6 +1,6 @@
 -- What is kept follows a journal.
-use Rattle.std.proofs.Common.{◌≡◌, ◌≤◌, ◌<◌, ◌+◌, ◌^◌, ℕ, suc, Bool, true, false, List, [], ◌∷◌, ◌++◌, Some, None, Option, Result, Ok, Err, length, map, refl, sym, ap, ◌∙◌, subst, arith, Bor, codes, if◌then◌else◌}
-use Rattle.std.specs.Prelude.{OnOk, String, string_bytes, ◌&&◌, is_none}
+use Rattle.std.proofs.Common.{◌≡◌, ◌≤◌, ◌<◌, ◌+◌, ◌^◌, ℕ, suc, Bool, List, [], ◌∷◌, ◌++◌, Some, None, Option, Result, Ok, Err, length, map, refl, sym, ap, ◌∙◌, subst, arith, Bor, codes, if◌then◌else◌}
+use Rattle.std.specs.Prelude.{OnOk, string_bytes, ◌&&◌, is_none}
 use Rattle.std.specs.Option.{unwrap_or}
 use Rattle.rv_access.specs.Lines.{allows}
 use Rattle.rv_access.specs.Words.{Words}
@@ -19,22 +19,24 @@ use Rattle.rv_reading.specs.Reads.{told}
 use Rattle.rv_reading.specs.Told.{Told, Asks, Loads, Lists}
 use Rattle.rv_reading.specs.declared.deed.Deed.{Deed}
 use Rattle.rv_reading.specs.declared.deed.Deed.TheVariants as Deeds
-use Rattle.rv_audit.specs.Meant.{Meant, Means, OfList, OfLoad, OfRequest, answer_in, due, next}
+use Rattle.rv_audit.specs.Meant.{Meant, OfList, next}
 use Rattle.rv_audit.specs.Observing.{Notes, Takes}
 use Rattle.rv_refused.specs.Filters.{FilterText}
 use Rattle.rv_refused.specs.Looking.{WillHold}
 use Rattle.rv_asked.specs.Asked.{asked_at, line_by, takes}
 use Rattle.rv_asked.specs.Holding.{Keeps}
+use Rattle.rv_asked.specs.Tabled.{IsTabled}
+use Rattle.rv_asked.specs.declared.tabled.Tabled.{Tabled}
 use Rattle.rv_asked.specs.Times.{Test, one_if, times_in}
 use Rattle.rv_asked.proofs.Staying.{stays}
 use Rattle.rv_asked.proofs.Timing.{times_few, times_listed, times_loaded}
 use Rattle.rv_asked.specs.declared.holding.Holding.{Holding}
 use Rattle.rv_tallied.specs.Tallies.{kept_for, row_text, rows_text}
 use Rattle.rv_tallied.proofs.Steps.{one_if_is, tally_is}
-use Rattle.rv_tallied.specs.declared.tallies.Tallies.{Tallies}
 use Rattle.rv_tallied.specs.declared.tallies.Tally.{Tally}
-use Rattle.rv_hits.specs.Following.{Awaits, CountsCall, CountsLine, CountsTaken, Follows, Looks, Sees, tallied, unmatched}
-use Rattle.rv_hits.specs.Hits.{decides_by, decides_none, grants_by, has_words, hits_text, is_granted, tally_of, tally_of_none, with_lines, words_of}
+use Rattle.rv_hits.specs.Counts.{AreOf, IsFresh}
+use Rattle.rv_hits.specs.Following.{Awaits, CountsCall, Follows, Gathers, Joins, Looks, Renews, Sees, SeesLines, counted_for, tallied, unmatched}
+use Rattle.rv_hits.specs.Hits.{decides_by, decides_none, grants_by, has_words, hits_text, tally_of, tally_of_none, with_lines, words_of}
 use Rattle.rv_hits.specs.declared.hits.Hits.{Hits}
 use Rattle.rv_hits.proofs.Seeing.{lists_more}
 
@@ -98,68 +100,99 @@ taken_is : (f filter : FilterText) (h : History) (number : ℕ) (call : Body) �
 taken_is f filter h number call e is = ap (λ (x : FilterText). takes x h number call) e ∙ ap (λ (n : ℕ). takes filter h n call) is
 
 -- what is kept behind an entry, by what it asks
-followed : (filter : FilterText) (old middle new : Hits) (h : History) (number a : ℕ) (r : Request) (w : Recorded) (asked : Option Body) → asked_at h.shapes h.past (Asked a r w) ≡ asked → number < 2 ^ 64 → Follows filter old h → number ≡ suc (length h.past) → CountsCall old middle h number asked →
-    new ≡ record middle { holding = new.holding } → Keeps new.holding h.shapes (Asked a r w ∷ h.past) → Follows filter new (record h { past = Asked a r w ∷ h.past })
-followed filter old middle new h number a r w None none lt follows number_is same rest keeps = record {
+followed : (filter : FilterText) (old middle new : Hits) (h : History) (number a : ℕ) (r : Request) (w : Recorded) (asked : Option Body) → asked_at h.shapes h.past (Asked a r w) ≡ asked → number < 2 ^ 64 → Gathers filter old h → IsTabled old.tabled h → number ≡ suc (length h.past) → CountsCall old middle h number asked →
+    new ≡ record middle { holding = new.holding } → Keeps new.holding h.shapes (Asked a r w ∷ h.past) → Gathers filter new (record h { past = Asked a r w ∷ h.past })
+followed filter old middle new h number a r w None none lt follows tabled number_is same rest keeps = record {
   taken = ap (λ (x : Hits). x.filter) rest ∙ ap (λ (x : Hits). x.filter) same ∙ follows.taken;
   holding = keeps;
   words = ap (λ (x : Hits). map string_bytes x.words.items) rest ∙ ap (λ (x : Hits). map string_bytes x.words.items) same ∙ follows.words;
-  tallies = λ words. ap (λ (x : Hits). kept_for x.tallies words) rest ∙ ap (λ (x : Hits). kept_for x.tallies words) same ∙ follows.tallies words ∙ unasked_tally filter h a r w words none;
+  counts = subst (λ (x : Hits). AreOf x.counts.items (force h)) (sym rest) (subst (λ (x : Hits). AreOf x.counts.items (force h)) (sym same) follows.counts);
+  tallies = λ words. ap (λ (x : Hits). counted_for x words) rest ∙ ap (λ (x : Hits). counted_for x words) same ∙ follows.tallies words ∙ unasked_tally filter h a r w words none;
   unmatched = ap (λ (x : Hits). x.unmatched) rest ∙ ap (λ (x : Hits). x.unmatched) same ∙ follows.unmatched ∙ unasked_none filter h a r w none;
 }
-followed filter old middle new h number a r w (Some call) asked lt follows number_is counts rest keeps =
-    let k = counts follows.holding in
+followed filter old middle new h number a r w (Some call) asked lt follows tabled number_is counts rest keeps =
+    let k = counts follows.holding follows.counts tabled in
     let taken = taken_is old.filter filter h number call follows.taken number_is in
     record {
       taken = ap (λ (x : Hits). x.filter) rest ∙ ap (λ (x : Hits). x.filter) k.rest ∙ follows.taken;
       holding = keeps;
       words = ap (λ (x : Hits). map string_bytes x.words.items) rest ∙ ap (λ (x : Hits). map string_bytes x.words.items) k.rest ∙ follows.words;
-      tallies = λ words. ap (λ (x : Hits). kept_for x.tallies words) rest ∙ k.tallies words
-          ∙ asked_tally filter h number a r w call words (kept_for old.tallies words) (takes old.filter h number call) asked number_is lt (follows.tallies words) taken;
+      counts = subst (λ (x : Hits). AreOf x.counts.items (force h)) (sym rest) k.counts;
+      tallies = λ words. ap (λ (x : Hits). counted_for x words) rest ∙ k.tallies words
+          ∙ asked_tally filter h number a r w call words (counted_for old words) (takes old.filter h number call) asked number_is lt (follows.tallies words) taken;
       unmatched = ap (λ (x : Hits). x.unmatched) rest ∙ k.unmatched
           ∙ asked_none filter h number a r w call old.unmatched (takes old.filter h number call) asked number_is lt follows.unmatched taken;
     }
 
-middle_holds : (old middle : Hits) (h : History) (number : ℕ) (asked : Option Body) → CountsCall old middle h number asked → Keeps old.holding h.shapes h.past → Keeps middle.holding h.shapes h.past
-middle_holds old middle h number None same keeps = subst (λ (x : Hits). Keeps x.holding h.shapes h.past) (sym same) keeps
-middle_holds old middle h number (Some call) counts keeps = subst (λ (x : Holding). Keeps x h.shapes h.past) (sym (ap (λ (x : Hits). x.holding) (counts keeps).rest)) keeps
+middle_holds : (old middle : Hits) (h : History) (number : ℕ) (asked : Option Body) → CountsCall old middle h number asked → Keeps old.holding h.shapes h.past → AreOf old.counts.items (force h) → IsTabled old.tabled h →
+    Keeps middle.holding h.shapes h.past × IsTabled middle.tabled h
+middle_holds old middle h number None same keeps are tabled =
+    (subst (λ (x : Hits). Keeps x.holding h.shapes h.past) (sym same) keeps, subst (λ (x : Hits). IsTabled x.tabled h) (sym same) tabled)
+middle_holds old middle h number (Some call) counts keeps are tabled =
+    let rest = (counts keeps are tabled).rest in (
+      subst (λ (x : Holding). Keeps x h.shapes h.past) (sym (ap (λ (x : Hits). x.holding) rest)) keeps,
+      subst (λ (x : Tabled). IsTabled x h) (sym (ap (λ (x : Hits). x.tabled) rest)) tabled,
+    )
 
 -- an entry is looked at: what it asks is counted, and it is noted
 pub looks : (old middle new : Hits) (h : History) (shapes : List Shape) (number a : ℕ) (r : Request) (w : Recorded) (asked : Option Body) → shapes ≡ h.shapes → ((past : List Entry) → Keeps old.holding shapes past → asked ≡ asked_at shapes past (Asked a r w)) → number < 2 ^ 64 →
     CountsCall old middle h number asked → new ≡ record middle { holding = new.holding } → ((past : List Entry) → Keeps middle.holding shapes past → Keeps new.holding shapes (Asked a r w ∷ past)) → Looks old new h number (Asked a r w)
 looks old middle new h shapes number a r w asked names asks lt counts rest notes filter follows number_is =
-    let before : Keeps old.holding shapes h.past = subst (λ (ss : List Shape). Keeps old.holding ss h.past) (sym names) follows.holding in
+    let gathers : Gathers filter old h = follows.gathers in
+    let before : Keeps old.holding shapes h.past = subst (λ (ss : List Shape). Keeps old.holding ss h.past) (sym names) gathers.holding in
     let is : asked_at h.shapes h.past (Asked a r w) ≡ asked = sym (asks h.past before ∙ ap (λ (ss : List Shape). asked_at ss h.past (Asked a r w)) names) in
-    let middle_keeps : Keeps middle.holding shapes h.past = subst (λ (ss : List Shape). Keeps middle.holding ss h.past) (sym names) (middle_holds old middle h number asked counts follows.holding) in
-    followed filter old middle new h number a r w asked is lt follows number_is counts rest
-    (subst (λ (ss : List Shape). Keeps new.holding ss (Asked a r w ∷ h.past)) names (notes h.past middle_keeps))
+    let middle_is : Keeps middle.holding h.shapes h.past × IsTabled middle.tabled h = middle_holds old middle h number asked counts gathers.holding gathers.counts follows.tabled in
+    let middle_keeps : Keeps middle.holding shapes h.past = subst (λ (ss : List Shape). Keeps middle.holding ss h.past) (sym names) middle_is.0 in
+    record {
+      gathers = followed filter old middle new h number a r w asked is lt gathers follows.tabled number_is counts rest
+          (subst (λ (ss : List Shape). Keeps new.holding ss (Asked a r w ∷ h.past)) names (notes h.past middle_keeps));
+      tabled = subst (λ (x : Tabled). IsTabled x h) (sym (ap (λ (x : Hits). x.tabled) rest)) middle_is.1;
+    }
 
 -- A load and a list change
 
-loaded : (filter : FilterText) (it : Hits) (h : History) (unit : Shape) → Legal h → Follows filter it h → Follows filter it (record h { past = Load ∷ h.past; shapes = h.shapes ++ unit ∷ [] })
+loaded : (filter : FilterText) (it : Hits) (h : History) (unit : Shape) → Legal h → Gathers filter it h → Gathers filter it (record h { past = Load ∷ h.past; shapes = h.shapes ++ unit ∷ [] })
 loaded filter it h unit legal follows = record {
   taken = follows.taken;
   holding = stays it.holding h unit legal follows.holding;
   words = follows.words;
+  counts = follows.counts;
   tallies = λ words. follows.tallies words
       ∙ sym (tally_same (times_in (decides_by filter words) (record h { past = Load ∷ h.past; shapes = h.shapes ++ unit ∷ [] })) (times_in (grants_by filter words) (record h { past = Load ∷ h.past; shapes = h.shapes ++ unit ∷ [] })) (times_in (decides_by filter words) h) (times_in (grants_by filter words) h)
       (times_loaded (decides_by filter words) h unit (λ k. refl)) (times_loaded (grants_by filter words) h unit (λ k. refl)));
   unmatched = follows.unmatched ∙ sym (times_loaded (decides_none filter) h unit (λ k. refl));
 }
 
-listed : (filter : FilterText) (old new : Hits) (h : History) (list : List Words) → Sees old new list → Follows filter old h → Follows filter new (record h { past = ListChange ∷ h.past; lists = h.lists ++ list ∷ [] })
-listed filter old new h list sees follows = record {
-  taken = ap (λ (x : Hits). x.filter) sees.rest ∙ follows.taken;
-  holding = subst (λ (x : Hits). Keeps x.holding h.shapes (ListChange ∷ h.past)) (sym sees.rest) (record { calls = follows.holding.calls; bodies = follows.holding.bodies });
-  words = sees.words ∙ ap (λ (ws : List (List ℕ)). with_lines ws list) follows.words ∙ sym (lists_more [] h.lists list);
-  tallies = λ words. ap (λ (x : Hits). kept_for x.tallies words) sees.rest ∙ follows.tallies words
-      ∙ sym (tally_same (times_in (decides_by filter words) (record h { past = ListChange ∷ h.past; lists = h.lists ++ list ∷ [] })) (times_in (grants_by filter words) (record h { past = ListChange ∷ h.past; lists = h.lists ++ list ∷ [] })) (times_in (decides_by filter words) h) (times_in (grants_by filter words) h)
-      (times_listed (decides_by filter words) h list (λ k. refl)) (times_listed (grants_by filter words) h list (λ k. refl)));
-  unmatched = ap (λ (x : Hits). x.unmatched) sees.rest ∙ follows.unmatched ∙ sym (times_listed (decides_none filter) h list (λ k. refl));
-}
-
 force_is : (lists : List (List Words)) (list : List Words) → last_list (lists ++ list ∷ []) ≡ list
 force_is lists list = ap (λ (o : Option (List Words)). unwrap_or o []) (last_of lists list)
+
+listed : (filter : FilterText) (old new : Hits) (h k : History) (list : List Words) → k ≡ record h { past = ListChange ∷ h.past; lists = h.lists ++ list ∷ [] } → Sees old new k → Gathers filter old h → Gathers filter new k
+listed filter old new h k list is sees follows =
+    let force_k : force k ≡ list = ap (λ (x : History). force x) is ∙ force_is h.lists list in
+    subst (λ (x : History). Gathers filter new x) (sym is) (record {
+      taken = ap (λ (x : Hits). x.filter) sees.rest ∙ follows.taken;
+      holding = subst (λ (x : Hits). Keeps x.holding h.shapes (ListChange ∷ h.past)) (sym sees.rest) (record { calls = follows.holding.calls; bodies = follows.holding.bodies });
+      words = sees.words ∙ ap (λ (ws : List (List ℕ)). with_lines ws (force k)) follows.words ∙ ap (λ (l : List Words). with_lines (words_of h.lists) l) force_k ∙ sym (lists_more [] h.lists list);
+      counts = subst (λ (x : History). AreOf new.counts.items (force x)) is sees.counts;
+      tallies = λ words. sees.tallies words ∙ follows.tallies words
+          ∙ sym (tally_same (times_in (decides_by filter words) (record h { past = ListChange ∷ h.past; lists = h.lists ++ list ∷ [] })) (times_in (grants_by filter words) (record h { past = ListChange ∷ h.past; lists = h.lists ++ list ∷ [] })) (times_in (decides_by filter words) h) (times_in (grants_by filter words) h)
+          (times_listed (decides_by filter words) h list (λ k. refl)) (times_listed (grants_by filter words) h list (λ k. refl)));
+      unmatched = ap (λ (x : Hits). x.unmatched) sees.rest ∙ follows.unmatched ∙ sym (times_listed (decides_none filter) h list (λ k. refl));
+    })
+
+-- the table is renewed
+renewed : (filter : FilterText) (old new : Hits) (k : History) → Renews old new k → Gathers filter old k → Follows filter new k
+renewed filter old new k renews gathers = record {
+  gathers = subst (λ (x : Hits). Gathers filter x k) (sym renews.rest) (record {
+    taken = gathers.taken;
+    holding = gathers.holding;
+    words = gathers.words;
+    counts = gathers.counts;
+    tallies = gathers.tallies;
+    unmatched = gathers.unmatched;
+  });
+  tabled = renews.tabled;
+}
 
 -- What a line tells
 
@@ -183,7 +216,7 @@ asks_noted old new units h number deed a r w result is look =
 
 load_noted : (it : Hits) (units : List Shape) (h : History) (number a : ℕ) (name : List ℕ) (w : Recorded) → Legal h → NotesTold it it units h number (Loads a name w)
 load_noted it units h number a name w legal begun follows number_is meant means due_is =
-    subst (λ (m : Meant). Follows begun.filter it (next h m w)) (sym means.2) (loaded begun.filter it h means.0 legal follows)
+    subst (λ (m : Meant). Gathers begun.filter it (next h m w)) (sym means.2) (loaded begun.filter it h means.0 legal follows.gathers)
 
 pub loads_noted : (it : Hits) (units : List Shape) (h : History) (number : ℕ) (deed : Deed) (a : ℕ) (name : Bor (List ℕ)) (w : Recorded) → deed ≡ Deeds.Loads a name w → Legal h → NotesTold it it units h number (told deed)
 loads_noted it units h number deed a name w is legal =
@@ -191,7 +224,7 @@ loads_noted it units h number deed a name w is legal =
 
 pub lists_noted : (it : Hits) (units : List Shape) (h : History) (number : ℕ) (deed : Deed) (a : ℕ) (text : Bor (List ℕ)) (w : Recorded) → deed ≡ Deeds.Lists a text w → NotesTold it it units h number (told deed)
 lists_noted it units h number deed a text w is =
-    subst (λ (d : Deed). NotesTold it it units h number (told d)) (sym is) (λ begun follows number_is. follows)
+    subst (λ (d : Deed). NotesTold it it units h number (told d)) (sym is) (λ begun follows number_is. follows.gathers)
 
 -- Behind an entry
 
@@ -199,38 +232,66 @@ abbrev pub TakesTold : Hits → Hits → List Shape → History → Told → Ans
 TakesTold old new units after it answer =
     (begun : Hits) → Takes (Awaits begun.filter old units) (Follows begun.filter new) units after it answer
 
-awaited : (it : Hits) (units : List Shape) (k : History) (deed : Told) (answer : Answer) (filter : FilterText) → Takes (WillHold (Follows filter it) units) (Follows filter it) units k deed answer
-awaited it units k deed answer filter h meant will means answer_is recorded_is after_is =
-    subst (λ (x : History). Follows filter it x) (sym after_is) (will meant means (ap recorded (sym answer_is) ∙ recorded_is))
+awaited : (P : History → Type 0) (units : List Shape) (k : History) (deed : Told) (answer : Answer) → Takes (WillHold P units) P units k deed answer
+awaited P units k deed answer h meant will means answer_is recorded_is after_is =
+    subst P (sym after_is) (will meant means (ap recorded (sym answer_is) ∙ recorded_is))
 
 pub asks_taken : (it : Hits) (units : List Shape) (k : History) (deed : Deed) (a : ℕ) (r : Request) (w : Recorded) (answer : Answer) → deed ≡ Deeds.Asks a r w → TakesTold it it units k (told deed) answer
 asks_taken it units k deed a r w answer is =
-    subst (λ (d : Deed). TakesTold it it units k (told d) answer) (sym is) (λ begun. awaited it units k (Asks a r w) answer begun.filter)
+    subst (λ (d : Deed). TakesTold it it units k (told d) answer) (sym is) (λ begun. awaited (Follows begun.filter it) units k (Asks a r w) answer)
 
-pub loads_taken : (it : Hits) (units : List Shape) (k : History) (deed : Deed) (a : ℕ) (name : Bor (List ℕ)) (w : Recorded) (answer : Answer) → deed ≡ Deeds.Loads a name w → TakesTold it it units k (told deed) answer
-loads_taken it units k deed a name w answer is =
-    subst (λ (d : Deed). TakesTold it it units k (told d) answer) (sym is) (λ begun. awaited it units k (Loads a name.now w) answer begun.filter)
+load_taken : (old new : Hits) (units : List Shape) (k : History) (a : ℕ) (name : List ℕ) (w : Recorded) (answer : Answer) → Renews old new k → TakesTold old new units k (Loads a name w) answer
+load_taken old new units k a name w answer renews begun h meant will means answer_is recorded_is after_is =
+    renewed begun.filter old new k renews (awaited (Gathers begun.filter old) units k (Loads a name w) answer h meant will means answer_is recorded_is after_is)
 
-list_taken : (old new : Hits) (units : List Shape) (k : History) (a : ℕ) (text : List ℕ) (w : Recorded) (answer : Answer) → Sees old new (force k) → TakesTold old new units k (Lists a text w) answer
-list_taken old new units k a text w answer sees begun h meant follows means answer_is recorded_is after_is =
+pub loads_taken : {E : Type 0} (old new : Hits) (units : List Shape) (k : History) (deed : Deed) (a : ℕ) (name : Bor (List ℕ)) (w : Recorded) (answer : Answer) (result : Result (Unit {0}) E) → deed ≡ Deeds.Loads a name w → OnOk result (Renews old new k) →
+    OnOk result (TakesTold old new units k (told deed) answer)
+loads_taken old new units k deed a name w answer result is renews =
+    subst (λ (d : Deed). OnOk result (TakesTold old new units k (told d) answer)) (sym is)
+    (on_ok result (Renews old new k) (TakesTold old new units k (Loads a name.now w) answer) (load_taken old new units k a name.now w answer) renews)
+
+list_taken : (old new : Hits) (units : List Shape) (k : History) (a : ℕ) (text : List ℕ) (w : Recorded) (answer : Answer) → Sees old new k → TakesTold old new units k (Lists a text w) answer
+list_taken old new units k a text w answer sees begun h meant gathers means answer_is recorded_is after_is =
     let list : List Words = means.0 in
     let is : k ≡ next h (OfList a list) w = after_is ∙ ap (λ (m : Meant). next h m w) means.2 in
-    let force_k : force k ≡ list = ap (λ (x : History). force x) is ∙ force_is h.lists list in
-    subst (λ (x : History). Follows begun.filter new x) (sym is)
-    (listed begun.filter old new h list (subst (λ (l : List Words). Sees old new l) force_k sees) follows)
+    record { gathers = listed begun.filter old new h k list is sees gathers; tabled = sees.tabled }
 
-pub lists_taken : {E : Type 0} (old new : Hits) (units : List Shape) (k : History) (deed : Deed) (a : ℕ) (text : Bor (List ℕ)) (w : Recorded) (answer : Answer) (result : Result (Unit {0}) E) → deed ≡ Deeds.Lists a text w → OnOk result (Sees old new (force k)) →
+pub lists_taken : {E : Type 0} (old new : Hits) (units : List Shape) (k : History) (deed : Deed) (a : ℕ) (text : Bor (List ℕ)) (w : Recorded) (answer : Answer) (result : Result (Unit {0}) E) → deed ≡ Deeds.Lists a text w → OnOk result (Sees old new k) →
     OnOk result (TakesTold old new units k (told deed) answer)
 lists_taken old new units k deed a text w answer result is sees =
     subst (λ (d : Deed). OnOk result (TakesTold old new units k (told d) answer)) (sym is)
-    (on_ok result (Sees old new (force k)) (TakesTold old new units k (Lists a text.now w) answer) (list_taken old new units k a text.now w answer) sees)
+    (on_ok result (Sees old new k) (TakesTold old new units k (Lists a text.now w) answer) (list_taken old new units k a text.now w answer) sees)
 
 -- All that is said
 
-pub all_said : (filter : FilterText) (it : Hits) (h : History) (middle all : List ℕ) → Follows filter it h → middle ≡ rows_text (codes "decided") (kept_for it.tallies) (map string_bytes it.words.items) →
-    all ≡ middle ++ row_text (codes "decided") (codes "no line") (record { times = it.unmatched; granted = 0 }) → all ≡ hits_text filter h
-all_said filter it h middle all follows middle_is all_is =
-    all_is ∙ ap (λ (m : List ℕ). m ++ row_text (codes "decided") (codes "no line") (record { times = it.unmatched; granted = 0 })) middle_is
-    ∙ ap (λ (n : ℕ). rows_text (codes "decided") (kept_for it.tallies) (map string_bytes it.words.items) ++ row_text (codes "decided") (codes "no line") (record { times = n; granted = 0 })) follows.unmatched
-    ∙ ap (λ (ws : List (List ℕ)). rows_text (codes "decided") (kept_for it.tallies) ws ++ row_text (codes "decided") (codes "no line") (tally_of_none filter h)) follows.words
-    ∙ (λ i. rows_text (codes "decided") (λ words. follows.tallies words i) (words_of h.lists) ++ row_text (codes "decided") (codes "no line") (tally_of_none filter h))
+pub all_said : (filter : FilterText) (it new : Hits) (h : History) (middle all : List ℕ) → Gathers filter it h → Joins it new → middle ≡ rows_text (codes "decided") (kept_for new.tallies) (map string_bytes new.words.items) →
+    all ≡ middle ++ row_text (codes "decided") (codes "no line") (record { times = new.unmatched; granted = 0 }) → all ≡ hits_text filter h
+all_said filter it new h middle all follows joins middle_is all_is =
+    let words_is : map string_bytes new.words.items ≡ words_of h.lists = ap (λ (x : Hits). map string_bytes x.words.items) joins.rest ∙ follows.words in
+    let unmatched_is : new.unmatched ≡ times_in (decides_none filter) h = ap (λ (x : Hits). x.unmatched) joins.rest ∙ follows.unmatched in
+    all_is ∙ ap (λ (m : List ℕ). m ++ row_text (codes "decided") (codes "no line") (record { times = new.unmatched; granted = 0 })) middle_is
+    ∙ ap (λ (n : ℕ). rows_text (codes "decided") (kept_for new.tallies) (map string_bytes new.words.items) ++ row_text (codes "decided") (codes "no line") (record { times = n; granted = 0 })) unmatched_is
+    ∙ ap (λ (ws : List (List ℕ)). rows_text (codes "decided") (kept_for new.tallies) ws ++ row_text (codes "decided") (codes "no line") (tally_of_none filter h)) words_is
+    ∙ (λ i. rows_text (codes "decided") (λ words. (joins.tallies words ∙ follows.tallies words) i) (words_of h.lists) ++ row_text (codes "decided") (codes "no line") (tally_of_none filter h))
+
+-- A list comes in force: what the lines of the one before decided is added to the tallies, and no line of it has decided yet
+
+pub lines_seen : (old middle new : Hits) (list : List Words) → Joins old middle → IsFresh new.counts.items list → map string_bytes new.words.items ≡ with_lines (map string_bytes middle.words.items) list →
+    new ≡ record middle { words = new.words; counts = new.counts } → SeesLines old new list
+lines_seen old middle new list joins fresh words rest = record {
+  words = words ∙ ap (λ (x : Hits). with_lines (map string_bytes x.words.items) list) joins.rest;
+  counts = fresh.are;
+  tallies = λ ws. fresh.never ws (kept_for new.tallies ws) ∙ ap (λ (x : Hits). kept_for x.tallies ws) rest ∙ joins.tallies ws;
+  rest = rest ∙ ap (λ (x : Hits). record x { words = new.words; counts = new.counts }) joins.rest
+      ∙ ap (λ (x : Hits). record old { words = new.words; counts = new.counts; tallies = x.tallies }) (sym rest);
+}
+
+pub list_seen : (old middle new : Hits) (h : History) → SeesLines old middle (force h) → Renews middle new h → Sees old new h
+list_seen old middle new h sees renews = record {
+  words = ap (λ (x : Hits). map string_bytes x.words.items) renews.rest ∙ sees.words;
+  counts = subst (λ (x : Hits). AreOf x.counts.items (force h)) (sym renews.rest) sees.counts;
+  tallies = λ ws. ap (λ (x : Hits). counted_for x ws) renews.rest ∙ sees.tallies ws;
+  tabled = renews.tabled;
+  rest = renews.rest ∙ ap (λ (x : Hits). record x { tabled = new.tabled }) sees.rest
+      ∙ ap (λ (x : Hits). record old { words = x.words; counts = x.counts; tallies = x.tallies; tabled = new.tabled }) (sym renews.rest);
+}

@@ -1,19 +1,23 @@
 //! How often each line decided, by an observer of a journal's audit.
 
-ghost use Rattle.std.specs.Prelude.{◌≡◌, IfOk, OnOk, option_copied, string_bytes};
+ghost use Rattle.std.specs.Prelude.{◌≡◌, List, None, Option, IfOk, OnOk, string_bytes};
 ghost use Rattle.rv_event.specs.declared.entry.Entry.TheVariants.{Asked};
 ghost use Rattle.rv_history.specs.History.{History, force};
 ghost use Rattle.rv_history.specs.Legal.{empty};
 ghost use Rattle.rv_history.specs.declared.limits.Limits.{Limits};
+ghost use Rattle.rv_access.specs.Lines.{line_at};
+ghost use Rattle.rv_access.specs.Words.{Words};
 ghost use Rattle.rv_refused.specs.Filters.{FilterText};
-ghost use Rattle.rv_hits.specs.Following.{Awaits, CountsCall, CountsLine, Follows, Looks, Sees};
+ghost use Rattle.rv_hits.specs.Counts.{AreOf};
+ghost use Rattle.rv_hits.specs.Following.{Awaits, CountsCall, CountsLine, Follows, Joins, Looks, Renews, Sees, SeesLines};
 ghost use Rattle.rv_hits.specs.Hits.{hits_text};
 
+use crate::counts::{Counted, count_at, counts_of, join};
 use crate::lines::put_lines;
 use rv_access::Line;
 use rv_asked::asking::{asked_at, takes};
-use rv_asked::deciding::{decided_in_force, line_in_force};
 use rv_asked::holding::Holding;
+use rv_asked::tabled::Tabled;
 use rv_audit::observer::Observer;
 use rv_event::entry::{Answer, Body, EntryRef, Recorded, Request};
 use rv_host::host::Host;
@@ -29,7 +33,10 @@ pub struct Hits<'f> {
     alloc: Global,
     filter: Filter<'f>,
     holding: Holding,
+    tabled: Tabled,
     words: Vec<String>,
+    // Of the list in force, line by line; the tallies are of the lists before it.
+    counts: Vec<Counted>,
     tallies: Tallies,
     unmatched: u64,
 }
@@ -41,7 +48,9 @@ impl<'f> Drop for Hits<'f> {
             alloc: _,
             filter: _,
             holding: _,
+            tabled: _,
             words: _,
+            counts: _,
             tallies: _,
             unmatched: _,
         } = self;
@@ -58,16 +67,19 @@ impl<'f> Hits<'f> {
             alloc,
             filter,
             holding: Holding::new(alloc),
+            tabled: Tabled::new(alloc),
             words: Vec::new(alloc),
+            counts: Vec::new(alloc),
             tallies: Tallies::new(alloc),
             unmatched: 0,
         }
     }
 
     /// The rows. Err where memory was refused.
-    pub fn into_text(self) -> Result<String, AllocError>
+    pub fn into_text(mut self) -> Result<String, AllocError>
         ensures { (filter : FilterText) (h : History) → Follows filter self.entry h → IfOk result (λ text. string_bytes text ≡ hits_text filter h) }
     {
+        self.join()?;
         let mut text = String::new(self.alloc);
         put_rows(&mut text, "decided", &self.tallies, self.words.as_slice())?;
         let unmatched = Tally {
@@ -78,20 +90,33 @@ impl<'f> Hits<'f> {
         Ok(text)
     }
 
-    // Counts what a line decided, or that none did.
-    fn count_line(&mut self, line: Option<&Line>) -> Result<(), AllocError>
-        ensures { OnOk result (CountsLine self.old self.new (option_copied line.entry)) }
+    // Counts that no line decided.
+    #[tactic(auto, using(crate::proofs::Counting::none_decides))]
+    fn count_none(&mut self)
+        ensures { (list : List Words) (line : Option Words) → line ≡ None → AreOf self.old.counts.items list
+            → CountsLine self.old self.new list line }
     {
-        match line {
-            Some(line) => self.tallies.count(line.text(self.alloc)?, line.allows()),
-            None => {
-                self.unmatched = one_more(self.unmatched);
-                Ok(())
-            }
+        self.unmatched = one_more(self.unmatched);
+    }
+
+    // Counts that the line of a number of the list in force decided; none has the number 0.
+    #[tactic(auto, using(crate::proofs::Counting::none_behind, crate::proofs::Counting::line_decides))]
+    fn count_line(&mut self, number: usize)
+        ensures { (list : List Words) → AreOf self.old.counts.items list → CountsLine self.old self.new list (line_at list number) }
+    {
+        if number == 0 {
+            self.count_none();
+            return;
         }
+        if self.counts.len() < number {
+            self.count_none();
+            return;
+        }
+        count_at(self.counts.as_mut_slice(), number - 1);
     }
 
     // Counts what is asked about a call at the entry of this number, if it is asked and the filter takes it.
+    #[tactic(auto, using(crate::proofs::Counting::uncounted, crate::proofs::Counting::untaken, crate::proofs::Counting::counted_line))]
     fn count(&mut self, host: &Host, number: usize, asked: Option<Body>) -> Result<(), AllocError>
         ensures { OnOk result (CountsCall self.old self.new host.now number asked) }
     {
@@ -101,8 +126,9 @@ impl<'f> Hits<'f> {
         if !takes(self.alloc, &self.filter, host, number, &call)? {
             return Ok(());
         }
-        let line = decided_in_force(host, &self.holding, &call);
-        self.count_line(line_in_force(host, line))
+        let line = self.tabled.decided(host, &self.holding, &call);
+        self.count_line(line);
+        Ok(())
     }
 
     // Looks at a request with the answer that is told, the entry of this number.
@@ -123,14 +149,47 @@ impl<'f> Hits<'f> {
         self.holding.note(catalogue, &entry)
     }
 
-    // Puts the words of the list in force behind those of the lists before it.
-    fn see(&mut self, host: &Host) -> Result<(), AllocError>
-        ensures { OnOk result (Sees self.old self.new (force host.now)) }
+    // Adds what the lines of the list in force decided to the tallies.
+    fn join(&mut self) -> Result<(), AllocError>
+        ensures { OnOk result (Joins self.old self.new) }
+    {
+        join(self.alloc, &mut self.tallies, self.counts.as_slice())
+    }
+
+    // A list of these lines comes in force.
+    #[tactic(auto, using(crate::proofs::Looking::lines_seen))]
+    fn see_lines(&mut self, lines: &[Line]) -> Result<(), AllocError>
+        ensures { OnOk result (SeesLines self.old self.new lines.now) }
+    {
+        self.join()?;
+        self.counts = counts_of(self.alloc, lines)?;
+        put_lines(self.alloc, &mut self.words, lines)
+    }
+
+    // The list of the host does.
+    fn see_list(&mut self, host: &Host) -> Result<(), AllocError>
+        ensures { OnOk result (SeesLines self.old self.new (force host.now)) }
     {
         match host.list() {
-            Some(list) => put_lines(self.alloc, &mut self.words, list.lines()),
-            None => Ok(()),
+            Some(list) => self.see_lines(list.lines()),
+            None => self.see_lines(&[]),
         }
+    }
+
+    // What decides is looked up in the host's list over its units from now on.
+    fn renew(&mut self, host: &Host) -> Result<(), AllocError>
+        ensures { OnOk result (Renews self.old self.new host.now) }
+    {
+        self.tabled.renew(host)
+    }
+
+    // A list has come in force.
+    #[tactic(auto, using(crate::proofs::Looking::list_seen))]
+    fn see(&mut self, host: &Host) -> Result<(), AllocError>
+        ensures { OnOk result (Sees self.old self.new host.now) }
+    {
+        self.see_list(host)?;
+        self.renew(host)
     }
 }
 
@@ -165,7 +224,7 @@ impl<'f> Observer for Hits<'f> {
     ) -> Result<(), AllocError> {
         match *deed {
             Deed::Asks(_, _, _) => Ok(()),
-            Deed::Loads(_, _, _) => Ok(()),
+            Deed::Loads(_, _, _) => self.renew(host),
             Deed::Lists(_, _, _) => self.see(host),
         }
     }

@@ -3,7 +3,7 @@ pub mod Fits
 pub mod Opening
 pub mod Decided
 pub mod Times
-pub mod RoomLeft
+pub mod Lasting
 pub mod Plain
 pub mod Solvent
 pub mod Loading

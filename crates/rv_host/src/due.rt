@@ -39,6 +39,7 @@ fn decide_fitting(seen: &Seen, actor: usize, request: &Request) -> Decision
         Request::Quit => Decision::Accepted(0),
         Request::Tick(_) => Decision::Accepted(0),
         Request::Halt => Decision::Accepted(0),
+        Request::Archive(_) => Decision::Accepted(0),
     }
 }
 
@@ -52,7 +53,7 @@ fn goes_on(request: &Request) -> bool
         Request::Resume => true,
         Request::Quit => true,
         Request::Call(_, _, _) | Request::DelayUntil(_) | Request::Clock => false,
-        Request::Fire | Request::Tick(_) | Request::Halt => false,
+        Request::Fire | Request::Tick(_) | Request::Halt | Request::Archive(_) => false,
     }
 }
 

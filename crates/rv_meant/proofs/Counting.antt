@@ -21,13 +21,13 @@ use Rattle.rv_event.specs.declared.entry.Next.TheVariants.{Nothing, HandedTo, Dr
 use Rattle.rv_event.specs.declared.entry.Recorded.{Recorded}
 use Rattle.rv_event.specs.declared.entry.Recorded.TheVariants as Recordeds
 use Rattle.rv_event.specs.declared.entry.Request.{Request}
-use Rattle.rv_event.specs.declared.entry.Request.TheVariants.{Call, Complete, Settle, Resume, DelayUntil, Clock, Fire, Quit, Tick, Halt}
+use Rattle.rv_event.specs.declared.entry.Request.TheVariants.{Call, Complete, Settle, Resume, DelayUntil, Clock, Fire, Quit, Tick, Halt, Archive}
 use Rattle.rv_event.specs.declared.entry.Stance.{Stance}
 use Rattle.rv_event.specs.declared.entry.Stance.TheVariants.{Free, InQueue, HandedOver, DroppedBy, WaitsOn, WaitsUntil, Gone}
 use Rattle.rv_exec.specs.Asking.{Trace}
 use Rattle.rv_history.specs.declared.limits.Limits.{Limits}
 use Rattle.rv_history.specs.Due.{out, due, table, gate, within, enough, delayed, due_end, due_fire, due_resume, end_of, judged, or_waiting}
-use Rattle.rv_history.specs.Fitting.{call_fits, end_fits, idle_line, idle_task, in_body, is_operator, is_tick, is_time, may_call}
+use Rattle.rv_history.specs.Fitting.{call_fits, end_fits, idle_line, idle_task, in_body, is_operator, is_archive, is_tick, is_time, may_call}
 use Rattle.rv_history.specs.History.{History, version}
 use Rattle.rv_history.specs.HandOver.{serves}
 use Rattle.rv_history.specs.Legal.{IsLegal, Legal}
@@ -304,6 +304,7 @@ module _ (h : History) (a n : ℕ) (k : length (held h.shapes a h.past) ≡ n + 
       (idle_task_free (who h.shapes a) (held h.shapes a h.past) (stance a h.past) (quits_at (who h.shapes a) (to_settle h.shapes a h.past) (mode_by (held h.shapes a h.past) (stance a h.past)) (answered h a Quit w e).fits_in))
   own_counts l some (Tick m) w e = absurd (off (sym (not_operator h.shapes a some) ∙ (both _ (is_tick m) (answered h a (Tick m) w e).fits_in).0))
   own_counts l some Halt w e = absurd (off (sym (not_operator h.shapes a some) ∙ (answered h a Halt w e).fits_in))
+  own_counts l some (Archive m) w e = absurd (off (sym (not_operator h.shapes a some) ∙ (both _ (is_archive h m) (answered h a (Archive m) w e).fits_in).0))
 
 -- One entry of another
 

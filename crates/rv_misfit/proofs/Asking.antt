@@ -6,8 +6,8 @@ use Rattle.rv_event.specs.Past.{held, innermost, mode}
 use Rattle.rv_event.specs.declared.entry.Mode.{Mode}
 use Rattle.rv_event.specs.declared.entry.Mode.TheVariants as Modes
 use Rattle.rv_event.specs.declared.entry.Request.{Request}
-use Rattle.rv_event.specs.declared.entry.Request.TheVariants.{Call, Complete, Settle, Resume, DelayUntil, Clock, Fire, Quit, Tick, Halt}
-use Rattle.rv_history.specs.Fitting.{awaits, call_fits, end_fits, fits_actor, idle_line, idle_task, in_body, is_settling, is_time, may_call}
+use Rattle.rv_event.specs.declared.entry.Request.TheVariants.{Call, Complete, Settle, Resume, DelayUntil, Clock, Fire, Quit, Tick, Halt, Archive}
+use Rattle.rv_history.specs.Fitting.{awaits, call_fits, end_fits, fits_actor, idle_line, idle_task, in_body, is_archive, is_operator, is_settling, is_time, may_call}
 use Rattle.rv_history.specs.History.{History}
 use Rattle.rv_shape.specs.Catalogue.{Who, Operator, Line, Task, Nobody, target, who}
 use Rattle.rv_misfit.specs.Misfits.{finishes, fires, has_bodies, may_ask}
@@ -52,3 +52,4 @@ never_asked h a Fire aside e = no_fires (who h.shapes a) (mode h.shapes a h.past
 never_asked h a Quit aside e = no_finishes (who h.shapes a) (mode h.shapes a h.past) e
 never_asked h a (Tick n) aside e = e
 never_asked h a Halt aside e = e
+never_asked h a (Archive n) aside e = and_left (is_operator (who h.shapes a)) (is_archive h n) e

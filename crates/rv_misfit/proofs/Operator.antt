@@ -11,7 +11,7 @@ use Rattle.rv_event.specs.declared.entry.Entry.TheVariants.{Asked, Load, ListCha
 use Rattle.rv_event.specs.declared.entry.Mode.TheVariants as Modes
 use Rattle.rv_event.specs.declared.entry.Recorded.{Recorded}
 use Rattle.rv_event.specs.declared.entry.Request.{Request}
-use Rattle.rv_event.specs.declared.entry.Request.TheVariants.{Call, Complete, Settle, Resume, DelayUntil, Clock, Fire, Quit, Tick, Halt}
+use Rattle.rv_event.specs.declared.entry.Request.TheVariants.{Call, Complete, Settle, Resume, DelayUntil, Clock, Fire, Quit, Tick, Halt, Archive}
 use Rattle.rv_event.specs.declared.entry.Stance.TheVariants.{Free}
 use Rattle.rv_history.specs.Fitting.{call_fits, fits_actor, idle_task, is_time, may_call}
 use Rattle.rv_history.specs.History.{History}
@@ -52,6 +52,7 @@ own_free h a Clock w is f = refl
 own_free h a Fire w is f = refl
 own_free h a (Tick n) w is f = refl
 own_free h a Halt w is f = refl
+own_free h a (Archive n) w is f = refl
 
 legal_free : (c : Limits) (past : List Entry) (shapes : List Shape) (lists : List (List Words)) → IsLegal c past shapes lists → stance 0 past ≡ Free
 legal_free c [] shapes lists l = refl

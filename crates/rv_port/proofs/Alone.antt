@@ -8,7 +8,7 @@ use Rattle.rv_access.specs.Words.{Words}
 use Rattle.rv_shape.specs.Shape.{Shape}
 use Rattle.rv_shape.specs.Fits.{shape_fits}
 use Rattle.rv_shape.specs.Catalogue.{Operator, Line, Task, UnitTask, tasks_of, all_tasks, task_of, who}
-use Rattle.rv_event.specs.Past.{halted, is_own, mode}
+use Rattle.rv_event.specs.Past.{archived, halted, is_own, mode}
 use Rattle.rv_event.specs.declared.entry.Answer.{Answer}
 use Rattle.rv_event.specs.declared.entry.Entry.{Entry}
 use Rattle.rv_event.specs.declared.entry.Entry.TheVariants.{Asked, Load, ListChange}
@@ -21,6 +21,7 @@ use Rattle.rv_history.specs.History.{History}
 use Rattle.rv_history.specs.declared.limits.Limits.{Limits}
 use Rattle.rv_history.specs.Legal.{IsLegal, Legal}
 use Rattle.rv_history.specs.Owed.{actors, has_room, owed}
+use Rattle.rv_history.proofs.Archived.{few_archived}
 use Rattle.rv_history.proofs.Frame.{mode_stays}
 use Rattle.rv_history.proofs.Pays.{quit_never_full}
 use Rattle.rv_history.proofs.Room.{from_room, legal_solvent}
@@ -151,7 +152,9 @@ some_room c (Asked b q w ∷ past) shapes lists a l t = some_room c past shapes 
 some_room c (ListChange ∷ past) shapes lists a l t = some_room c past shapes l.0 a l.3 t
 some_room c (Load ∷ past) shapes lists a l t =
     let has = load_room (shape_fits l.0 l.1) (halted past) (has_room c.capacity (l.0 ++ l.1 ∷ []) (Load ∷ past)) l.4 in
-    let n : suc (length past) + owed (l.0 ++ l.1 ∷ []) (Load ∷ past) ≤ c.capacity = from_room _ c.capacity has in omega (arith, n)
+    let n : suc (length past) + owed (l.0 ++ l.1 ∷ []) (Load ∷ past) ≤ c.capacity + archived past = from_room _ (c.capacity + archived past) has in
+    let before : History = record { limits = c; past = past; shapes = l.0; lists = lists } in
+    omega (arith, n, few_archived before l.3)
 
 quit_due : (h : History) (a : ℕ) → Legal h → nat_lt a 11 ≡ false → IsTask h.shapes a → list_any (is_own a) h.past ≡ false → out h a Quit ≡ nothing_more
 quit_due h a l task t none =

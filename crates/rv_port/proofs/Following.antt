@@ -8,7 +8,7 @@ use Rattle.rv_event.specs.declared.entry.Answer.TheVariants as Answers
 use Rattle.rv_event.specs.declared.entry.Exit.{Exit}
 use Rattle.rv_event.specs.declared.entry.Recorded.{Recorded}
 use Rattle.rv_event.specs.declared.entry.Request.{Request}
-use Rattle.rv_event.specs.declared.entry.Request.TheVariants.{Call, Complete, Settle, Resume, DelayUntil, Clock, Fire, Quit, Tick, Halt}
+use Rattle.rv_event.specs.declared.entry.Request.TheVariants.{Call, Complete, Settle, Resume, DelayUntil, Clock, Fire, Quit, Tick, Halt, Archive}
 use Rattle.rv_exec.specs.Asking.{Along}
 use Rattle.rv_exec.specs.Bodies.{task_of}
 use Rattle.rv_exec.specs.Stops.{is_final, stops_bodies}
@@ -86,6 +86,7 @@ due_settles h a Resume has = resume_settles (out h a Resume) (resume_gets h a)
 due_settles h a Quit has = plain_settles (enough h a Quit (recorded (due h a Quit))) (fits h a Quit) (halted h.past && not (goes_on Quit))
 due_settles h a (Tick n) has = plain_settles (enough h a (Tick n) (recorded (due h a (Tick n)))) (fits h a (Tick n)) (halted h.past && not (goes_on (Tick n)))
 due_settles h a Halt has = plain_settles (enough h a Halt (recorded (due h a Halt))) (fits h a Halt) (halted h.past && not (goes_on Halt))
+due_settles h a (Archive n) has = plain_settles (enough h a (Archive n) (recorded (due h a (Archive n)))) (fits h a (Archive n)) (halted h.past && not (goes_on (Archive n)))
 
 -- what a body is told has an entry, or stops it
 abbrev Kind : Answer → Answer → Type 0

@@ -1,12 +1,12 @@
 -- Who has an object to settle, and that nobody has behind an end and its settles.
-use Rattle.std.proofs.Common.{◌≡◌, ◌⊎◌, inl, inr, ⊎_elim, ℕ, ◌≤◌, ℤ, List, [], ◌∷◌, ◌++◌, length, drop, Bool, true, false, cond, refl, sym, ap, ◌∙◌, subst, arith, Option, Some, None}
+use Rattle.std.proofs.Common.{◌≡◌, ◌⊎◌, inl, inr, ⊎_elim, ℕ, ◌+◌, ◌≤◌, ℤ, List, [], ◌∷◌, ◌++◌, length, drop, Bool, true, false, cond, refl, sym, ap, ◌∙◌, subst, arith, Option, Some, None}
 use Rattle.std.specs.Prelude.{◌==◌, slice_get}
 use Rattle.std.specs.List.{filter}
 use Rattle.std.proofs.lemmas.List.{reverse-append}
 use Rattle.rv_access.specs.Words.{Words}
 use Rattle.rv_shape.specs.Shape.{Shape}
 use Rattle.rv_event.proofs.Matching.{by, filter_without}
-use Rattle.rv_event.specs.Past.{begun, first_by, halted, held, innermost, left_by, mode, mode_by, or_settling, stance, to_settle, unsettled, without}
+use Rattle.rv_event.specs.Past.{archived, begun, first_by, halted, held, innermost, left_by, mode, mode_by, or_settling, stance, to_settle, unsettled, without}
 use Rattle.rv_event.specs.Recorded.{recorded}
 use Rattle.rv_event.specs.declared.entry.Answer.{Answer}
 use Rattle.rv_event.specs.declared.entry.Answer.TheVariants as Answers
@@ -27,6 +27,7 @@ use Rattle.rv_history.specs.Fitting.{end_fits, in_body, is_settling}
 use Rattle.rv_history.specs.History.{History}
 use Rattle.rv_history.specs.Legal.{IsLegal, Legal}
 use Rattle.rv_history.specs.Owed.{IsSolvent}
+use Rattle.rv_history.proofs.Archived.{archived_behind}
 use Rattle.rv_history.proofs.Answered.{answered, both, off}
 use Rattle.rv_history.proofs.Bodies.{at_most_one, count_less}
 use Rattle.rv_history.proofs.Ending.{ends, settling}
@@ -142,8 +143,8 @@ capacity_is : (c : Limits) (past : List Entry) (shapes : List Shape) (lists : Li
 capacity_is c [] shapes lists a b l e = absurd (cc e)
 capacity_is c (Entered d r w ∷ past) shapes lists a b l e =
     let h : History = record { limits = c; past = past; shapes = shapes; lists = lists } in
-    let few = from_room _ c.capacity (answered h d r w l.1).paid in
-    omega (arith, few)
+    let few = from_room _ (c.capacity + archived (Entered d r w ∷ past)) (answered h d r w l.1).paid in
+    omega (arith, few, archived_behind h d r w l.0 l.1)
 capacity_is c (Load ∷ past) shapes lists a b l e =
     capacity_is c past l.0 lists a b l.3 (sym (ap (λ (bs : List Body). first_by a bs) (ap (λ (ss : List Shape). unsettled ss past) l.2 ∙ left_stays c past l.0 (l.1 ∷ []) lists l.3)) ∙ e)
 capacity_is c (ListChange ∷ past) shapes lists a b l e = capacity_is c past shapes l.0 a b l.3 e

@@ -15,7 +15,7 @@ use Rattle.rv_event.specs.declared.entry.Body.{Body}
 use Rattle.rv_event.specs.declared.entry.Entry.{Entry}
 use Rattle.rv_event.specs.declared.entry.Entry.TheVariants.{Asked, Load, ListChange}
 use Rattle.rv_event.specs.declared.entry.Request.{Request}
-use Rattle.rv_event.specs.declared.entry.Request.TheVariants.{Call, Complete, Settle, Resume, DelayUntil, Clock, Fire, Quit, Tick, Halt}
+use Rattle.rv_event.specs.declared.entry.Request.TheVariants.{Call, Complete, Settle, Resume, DelayUntil, Clock, Fire, Quit, Tick, Halt, Archive}
 use Rattle.rv_event.specs.declared.entry.Recorded.{Recorded}
 use Rattle.rv_event.proofs.Matching.{by}
 use Rattle.rv_history.specs.declared.limits.Limits.{Limits}
@@ -88,6 +88,7 @@ fresh_after h more o a Fire w l none = refl
 fresh_after h more o a Quit w l none = refl
 fresh_after h more o a (Tick n) w l none = refl
 fresh_after h more o a Halt w l none = refl
+fresh_after h more o a (Archive n) w l none = refl
 
 none_before : (old more : List Shape) (o : ℕ) → place (old ++ more) o ≡ None → place old o ≡ None
 none_before old more o none = by_place (place old o) refl

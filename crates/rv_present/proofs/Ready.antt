@@ -29,7 +29,8 @@ use Rattle.rv_history.proofs.Answered.{answered}
 use Rattle.rv_history.proofs.Ending.{names_at, head_waits}
 use Rattle.rv_history.proofs.Loaded.{left_stays, protected_place}
 use Rattle.rv_history.proofs.Orderly.{legal_orderly_at}
-use Rattle.rv_history.proofs.Room.{legal_solvent}
+use Rattle.rv_history.proofs.Archived.{few_archived}
+use Rattle.rv_history.proofs.Room.{few_entries, legal_solvent}
 use Rattle.rv_history.proofs.Stances.{below, itself, last_actor, some_is}
 use Rattle.rv_history.proofs.Standing.{legal_waits}
 use Rattle.rv_present.specs.Bodies.{CanStart}
@@ -106,6 +107,21 @@ within_objects shapes o p e = by_test (nat_lt o 1) refl e
         let some : 0 < o = grind (arith, nat_tests) in
         omega (arith, some, slice_get_within (all_objects shapes) (o - 1) p f)
 
+-- how much there is: bodies, entries, list changes
+pub record AreFew (c : Limits) (past : List Entry) (shapes : List Shape) : Type 0 where
+  pub bodies : length (under_way shapes past) + length (unsettled shapes past) ≤ c.capacity
+  pub entries : length past < 10 ^ 12
+
+pub few_bodies : (c : Limits) (past : List Entry) (shapes : List Shape) (lists : List (List Words)) → IsLegal c past shapes lists → 1 ≤ c.capacity → c.capacity ≤ 2 ^ 20 → AreFew c past shapes
+few_bodies c past shapes lists l some most =
+    let h : History = record { limits = c; past = past; shapes = shapes; lists = lists } in
+    let room = legal_solvent h some l in
+    let given_up = few_archived h l in
+    record {
+      bodies = omega (arith, room, given_up);
+      entries = few_entries h some most l;
+    }
+
 -- what an orderly history starts could start
 may_start : (c : Limits) (shapes : List Shape) (past : List Entry) (e : Entry) (b : Body) (n m : ℕ) → Orderly c shapes (e ∷ past) → started shapes past e ≡ Some b → b.actor < n → b.object < m →
     length (under_way shapes (e ∷ past)) ≤ 2000000 → CanStart shapes (closed (ended e) (under_way shapes past)) n m b
@@ -132,16 +148,10 @@ next_may_start c past shapes lists e b l some few actors_few objects_few is =
     let all : under_way shapes (e ∷ past) ≡ b ∷ bs = ap (λ q. begun q bs) is in
     let protected : Each (IsProtected shapes) (b ∷ bs) = subst (Each (IsProtected shapes)) all orderly.bodies in
     let at = protected_place shapes b.object b.operation protected.0.0 protected.0.1 in
-    let room = legal_solvent new some l in
+    let room = few_bodies c (e ∷ past) shapes lists l some few in
     let placed : b.object ≤ length (all_objects shapes) = within_objects shapes b.object at.0 at.1 in
     may_start c shapes past e b 75 257 orderly is
-    (starter_known shapes past e b 75 is (known_below c past shapes lists e 75 l actors_few)) (omega (arith, placed, objects_few)) (omega (arith, room, few))
-
--- how much there is: bodies, entries, list changes
-pub few_bodies : (c : Limits) (past : List Entry) (shapes : List Shape) (lists : List (List Words)) → IsLegal c past shapes lists → 1 ≤ c.capacity → length past + length (under_way shapes past) + length (unsettled shapes past) ≤ c.capacity
-few_bodies c past shapes lists l some =
-    let room = legal_solvent (record { limits = c; past = past; shapes = shapes; lists = lists }) some l in
-    omega (arith, room)
+    (starter_known shapes past e b 75 is (known_below c past shapes lists e 75 l actors_few)) (omega (arith, placed, objects_few)) (omega (arith, room.bodies, few))
 
 -- there are fewer list changes than entries
 pub few_changes : (past : List Entry) → changes past ≤ length past
@@ -153,18 +163,18 @@ few_changes (ListChange ∷ past) = omega (arith, few_changes past)
 pub next_known : {shapes : List Shape} {e : Entry} {x : Change} {p : Present} → IsNext shapes e x p → AreBelow 75 e
 next_known {shapes} {e} k = known_below k.limits k.past shapes k.lists e 75 k.legal k.is_present.few_actors
 
-pub next_few : {shapes : List Shape} {e : Entry} {x : Change} {p : Present} (k : IsNext shapes e x p) → length k.past ≤ 1048575
-next_few {shapes} {e} k = omega (arith, few_bodies k.limits (e ∷ k.past) shapes k.lists k.legal k.least, k.most)
+pub next_few : {shapes : List Shape} {e : Entry} {x : Change} {p : Present} (k : IsNext shapes e x p) → length k.past + 1 < 10 ^ 12
+next_few {shapes} {e} k = omega (arith, (few_bodies k.limits (e ∷ k.past) shapes k.lists k.legal k.least k.most).entries)
 
 pub next_few_left : {shapes : List Shape} {e : Entry} {x : Change} {p : Present} (k : IsNext shapes e x p) → length (unsettled shapes k.past) ≤ 1048576
-next_few_left {shapes} {e = Asked a r w} k = omega (arith, few_bodies k.limits k.past shapes k.lists k.legal.0 k.least, k.most)
+next_few_left {shapes} {e = Asked a r w} k = omega (arith, (few_bodies k.limits k.past shapes k.lists k.legal.0 k.least k.most).bodies, k.most)
 next_few_left {shapes} {e = Load} k =
-    let few = few_bodies k.limits k.past k.legal.0 k.lists k.legal.3 k.least in
+    let few = few_bodies k.limits k.past k.legal.0 k.lists k.legal.3 k.least k.most in
     let same : length (unsettled shapes k.past) ≡ length (unsettled k.legal.0 k.past) =
     ap (λ ss. length (unsettled ss k.past)) k.legal.2 ∙ ap (λ bs. length bs) (left_stays k.limits k.past k.legal.0 (k.legal.1 ∷ []) k.lists k.legal.3) in
-    omega (arith, few, same, k.most)
-next_few_left {shapes} {e = ListChange} k = omega (arith, few_bodies k.limits k.past shapes k.legal.0 k.legal.3 k.least, k.most)
+    omega (arith, few.bodies, same, k.most)
+next_few_left {shapes} {e = ListChange} k = omega (arith, (few_bodies k.limits k.past shapes k.legal.0 k.legal.3 k.least k.most).bodies, k.most)
 
 -- entries and all that is owed
-pub little_sum : (n d m r k i j : ℕ) → r ≤ n + 1 → n ≤ 1048576 → d ≤ 225 → m ≤ 1 → k ≤ 1048576 → i ≤ j + 1 → j ≤ 1048576 → k + 1 + (r + i + d + m) < 4294967296
+pub little_sum : (n d m r k i j : ℕ) → r ≤ n + 1 → n ≤ 1048576 → d ≤ 225 → m ≤ 1 → k < 10 ^ 12 → i ≤ j + 1 → j ≤ 1048576 → k + 1 + (r + i + d + m) < 281474976710656
 little_sum n d m r k i j some few less one used left few_left = omega (arith, some, few, less, one, used, left, few_left)

@@ -1,4 +1,4 @@
-//! How many entries and list changes there were, the clock, and whether the host is halted.
+//! How many entries and list changes there were, how many entries were given up, the clock, and whether the host is halted.
 
 ghost use Rattle.std.specs.Prelude.{◌≡◌, ◌<◌, ◌≤◌, ◌+◌, ◌^◌, ◌∷◌, List, false, length};
 ghost use Rattle.rv_event.specs.Lent.{whole};
@@ -11,7 +11,7 @@ ghost use Rattle.rv_present.specs.Counts.{AreCounts};
 ghost use Rattle.rv_present.specs.Unsettled.{counted};
 
 use rv_event::entry::{Body, EntryRef};
-use rv_event::one_entry::{halts, is_list, ticks};
+use rv_event::one_entry::{archives, halts, is_list, ticks};
 
 /// How many bodies there are, of so many, once one is gone, if one is, and one has come, if one has.
 pub fn number_after(number: usize, gone: bool, come: Option<Body>) -> usize
@@ -32,6 +32,8 @@ pub fn number_after(number: usize, gone: bool, come: Option<Body>) -> usize
 pub struct Counts {
     /// How many entries there are.
     pub entries: usize,
+    /// How many of the first entries were given up (own).
+    pub archived: usize,
     /// How many list changes there were.
     pub version: usize,
     /// The sum of the accepted ticks (D.8).
@@ -43,10 +45,11 @@ pub struct Counts {
 impl Counts {
     /// Of no entries.
     pub fn new() -> Counts
-        ensures { result ≡ record { entries = 0; version = 0; clock = 0; is_halted = false } }
+        ensures { result ≡ record { entries = 0; archived = 0; version = 0; clock = 0; is_halted = false } }
     {
         Counts {
             entries: 0,
+            archived: 0,
             version: 0,
             clock: 0,
             is_halted: false,
@@ -61,9 +64,20 @@ impl Counts {
         halts(entry) || self.is_halted
     }
 
+    /// How many of the first entries were given up once an entry more stands (own).
+    pub fn archived_with(&self, entry: &EntryRef) -> usize
+        ensures { (before : List Entry) → self.now.archived ≡ past.archived before →
+            result ≡ past.archived (whole entry.now ∷ before) }
+    {
+        match archives(entry) {
+            Some(number) => number,
+            None => self.archived,
+        }
+    }
+
     // How many list changes there are once an entry more stands.
     fn version_with(&self, entry: &EntryRef) -> usize
-        requires { self.now.version < 2 ^ 32 }
+        requires { self.now.version < 2 ^ 48 }
         ensures { (before : List Entry) → self.now.version ≡ changes before →
             result ≡ changes (whole entry.now ∷ before) }
     {
@@ -93,13 +107,14 @@ impl Counts {
 
     /// One more entry.
     pub fn note(&mut self, entry: &EntryRef)
-        requires entries { self.old.entries < 2 ^ 32 }
-        requires version { self.old.version < 2 ^ 32 }
+        requires entries { self.old.entries < 2 ^ 48 }
+        requires version { self.old.version < 2 ^ 48 }
         requires clock { self.old.clock + past.ticks (whole entry.now) < 2 ^ 63 }
         ensures { (before : List Entry) → AreCounts before self.old →
             AreCounts (whole entry.now ∷ before) self.new }
     {
         self.is_halted = self.is_halted_with(entry);
+        self.archived = self.archived_with(entry);
         self.version = self.version_with(entry);
         self.clock += ticks(entry);
         self.entries += 1;

@@ -34,7 +34,7 @@ pub struct Timekeeper {
 ///
 /// # Errors
 /// Where memory is refused.
-pub fn grace(alloc: Global, millis: u64) -> Result<(Grace, Timekeeper), AllocError> {
+pub fn grace_ends(alloc: Global, millis: u64) -> Result<(Grace, Timekeeper), AllocError> {
     let (begins, begun) = bounded(alloc, 1)?;
     let (tells, beats) = bounded(alloc, 1)?;
     let grace = Grace { begins, beats };

@@ -11,7 +11,7 @@ mod staff;
 mod staffing;
 mod work;
 
-pub use grace::{Grace, Timekeeper, grace};
+pub use grace::{Grace, Timekeeper, grace_ends};
 pub use hands::Hands;
 pub use hires::Hires;
 pub use raising::raise;

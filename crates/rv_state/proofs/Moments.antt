@@ -11,7 +11,7 @@ use Rattle.rv_event.specs.declared.entry.Entry.{Entry}
 use Rattle.rv_event.specs.declared.entry.Entry.TheVariants.{Asked, Load, ListChange}
 use Rattle.rv_event.specs.declared.entry.Recorded.{Recorded}
 use Rattle.rv_event.specs.declared.entry.Request.{Request}
-use Rattle.rv_event.specs.declared.entry.Request.TheVariants.{Call, Complete, Settle, Resume, DelayUntil, Clock, Fire, Quit, Tick, Halt}
+use Rattle.rv_event.specs.declared.entry.Request.TheVariants.{Call, Complete, Settle, Resume, DelayUntil, Clock, Fire, Quit, Tick, Halt, Archive}
 use Rattle.rv_history.specs.History.{History}
 use Rattle.rv_history.specs.Legal.{empty}
 use Rattle.rv_history.specs.declared.limits.Limits.{Limits}
@@ -84,6 +84,7 @@ state_behind past object (Asked a Fire w) = refl
 state_behind past object (Asked a Quit w) = refl
 state_behind past object (Asked a (Tick n) w) = refl
 state_behind past object (Asked a Halt w) = refl
+state_behind past object (Asked a (Archive n) w) = refl
 state_behind past object Load = refl
 state_behind past object ListChange = refl
 

@@ -22,6 +22,13 @@ once_more grants tally = record {
   granted = if grants then one_more tally.granted else tally.granted;
 }
 
+-- so often more, and granted each time or never
+abbrev pub more : ℕ → Bool → Tally → Tally
+more times grants tally = record {
+  times = min (tally.times + times) (2 ^ 64 - 1);
+  granted = if grants then min (tally.granted + times) (2 ^ 64 - 1) else tally.granted;
+}
+
 abbrev pub never : Tally
 never = record { times = 0; granted = 0 }
 
@@ -36,6 +43,10 @@ kept_for tallies words = or_never (get_by_text tallies.items words)
 -- and where these are counted once more
 abbrev pub counted : List ℕ → Bool → List ℕ → Tally → Tally
 counted key grants words tally = if bytes_eq key words then once_more grants tally else tally
+
+-- and where these are counted so often more
+abbrev pub added : List ℕ → ℕ → Bool → List ℕ → Tally → Tally
+added key times grants words tally = if bytes_eq key words then more times grants tally else tally
 
 -- a row: how often words were counted, and how often something was granted with them
 abbrev pub row_text : List ℕ → List ℕ → Tally → List ℕ

@@ -1,7 +1,7 @@
 //! How often something was counted, by words.
 
 ghost use Rattle.std.specs.Prelude.{◌≡◌, ℕ, List, OnOk, string_bytes};
-ghost use Rattle.rv_tallied.specs.Tallies.{counted, kept_for, never, one_more, once_more};
+ghost use Rattle.rv_tallied.specs.Tallies.{added, counted, kept_for, more, never, one_more, once_more};
 
 use std::alloc::{AllocError, Global};
 use std::collections::HashMap;
@@ -49,6 +49,21 @@ fn once_more(tally: Tally, grants: bool) -> Tally
     }
 }
 
+// So often more, and granted each time or never.
+fn more(tally: Tally, times: u64, grants: bool) -> Tally
+    ensures { result ≡ more times grants tally }
+{
+    let granted = if grants {
+        tally.granted.saturating_add(times)
+    } else {
+        tally.granted
+    };
+    Tally {
+        times: tally.times.saturating_add(times),
+        granted,
+    }
+}
+
 impl Tallies {
     /// Nothing was counted yet.
     pub fn new(alloc: Global) -> Tallies
@@ -78,6 +93,16 @@ impl Tallies {
             ≡ counted (string_bytes words) grants other (kept_for self.old other)) }
     {
         let tally = once_more(self.of(words.as_str()), grants);
+        self.items.insert(words, tally)?;
+        Ok(())
+    }
+
+    /// Words are counted so often more, and something was granted with them each time or never. Err where memory was refused.
+    pub fn add(&mut self, words: String, times: u64, grants: bool) -> Result<(), AllocError>
+        ensures { OnOk result ((other : List ℕ) → kept_for self.new other
+            ≡ added (string_bytes words) times grants other (kept_for self.old other)) }
+    {
+        let tally = more(self.of(words.as_str()), times, grants);
         self.items.insert(words, tally)?;
         Ok(())
     }

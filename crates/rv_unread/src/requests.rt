@@ -2,7 +2,7 @@
 
 use crate::actors::{of_spelling, of_unit};
 use crate::reason::Reason;
-use crate::values::{of_behind, of_one, of_value, of_values};
+use crate::values::{of_behind, of_one, of_one_natural, of_value, of_values};
 use rv_audit::units::first_unit;
 use rv_event::reading::words::exception_of;
 use rv_shape::actor::Callee;
@@ -11,7 +11,7 @@ use rv_shape::shape::UnitShape;
 use rv_text::{dotted_parts, is_identifier, next_word};
 
 const NO_REQUEST: &str =
-    "{0} is no request: those are call, end, delay, tick, resume, settle, clock, fire, finish, halt, load and list";
+    "{0} is no request: those are call, end, delay, tick, archive, resume, settle, clock, fire, finish, halt, load and list";
 
 const NOTHING: &str = "nothing is asked there, between the actor and the arrow";
 
@@ -176,6 +176,7 @@ pub(crate) fn of_request<'a>(
         "end" => of_end(behind),
         "load" => of_load(given, behind),
         "delay" | "tick" => of_one(key, behind),
+        "archive" => of_one_natural(key, behind),
         "resume" | "settle" | "clock" | "fire" | "finish" | "halt" => of_behind(key, behind),
         "list" => Some(Reason::plain(NO_BRACKETS)),
         _ => Some(Reason::of(NO_REQUEST, key)),

@@ -86,3 +86,17 @@ pub(crate) fn of_one<'a>(word: &'a str, text: &'a str) -> Option<Reason<'a>> {
         None => of_behind(value, behind),
     }
 }
+
+/// Why there isn't one natural number behind a word, if there isn't.
+pub(crate) fn of_one_natural<'a>(word: &'a str, text: &'a str) -> Option<Reason<'a>> {
+    let Some((value, behind)) = next_word(text) else {
+        return Some(Reason::of(NONE_BEHIND, word));
+    };
+    if let Some(reason) = of_value(value) {
+        return Some(reason);
+    }
+    match of_natural(value) {
+        Some(reason) => Some(reason),
+        None => of_behind(value, behind),
+    }
+}

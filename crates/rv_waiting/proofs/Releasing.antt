@@ -10,7 +10,7 @@ use Rattle.rv_event.specs.declared.entry.Entry.{Entry}
 use Rattle.rv_event.specs.declared.entry.Entry.TheVariants.{Asked, Load, ListChange}
 use Rattle.rv_event.specs.declared.entry.Recorded.{Recorded}
 use Rattle.rv_event.specs.declared.entry.Recorded.TheVariants.{Started, Queued, Refused, Done, Suspended, Delayed, Woken, Accepted}
-use Rattle.rv_event.specs.declared.entry.Request.TheVariants.{Call, Complete, Settle, Resume, DelayUntil, Clock, Fire, Quit, Tick, Halt}
+use Rattle.rv_event.specs.declared.entry.Request.TheVariants.{Call, Complete, Settle, Resume, DelayUntil, Clock, Fire, Quit, Tick, Halt, Archive}
 use Rattle.rv_event.specs.declared.entry.Stance.TheVariants.{WaitsOn}
 use Rattle.rv_history.specs.Frame.{is_apart}
 use Rattle.rv_history.specs.History.{History}
@@ -35,6 +35,7 @@ waits_itself a o (Asked b Fire v) w other none = none
 waits_itself a o (Asked b Quit v) w other none = none
 waits_itself a o (Asked b (Tick n) v) w other none = none
 waits_itself a o (Asked b Halt v) w other none = none
+waits_itself a o (Asked b (Archive n) v) w other none = none
 waits_itself a o (Asked b (Call q p vs) v) w other none = by_test (q == o)
   where
     by_operation : (d : Option SuspensionOperation) → is_named a (waiter_after (accepted_touch d) w) ≡ false

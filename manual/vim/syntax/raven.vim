@@ -93,7 +93,7 @@ syntax match ravenActor contained /^\s*\zs\a\w*\.\a\w*\ze\%(\s\|$\)/ nextgroup=@
 syntax match ravenActor contained /^\s*\zs\cInt_\d\ze\%(\s\|$\)/ nextgroup=@ravenAsked skipwhite
 syntax match ravenActor contained /^\s*\zs\coperator\ze\%(\s\|$\)/ nextgroup=@ravenAsked,ravenChange skipwhite
 syntax match ravenRequest contained /\%(settle\|resume\|clock\|fire\|finish\|halt\)\ze\%(\s\|$\)/ nextgroup=ravenRequestError skipwhite
-syntax match ravenRequest contained /\%(delay\|tick\)\ze\s/ nextgroup=ravenLastNumber,ravenRequestError skipwhite
+syntax match ravenRequest contained /\%(delay\|tick\|archive\)\ze\s/ nextgroup=ravenLastNumber,ravenRequestError skipwhite
 syntax match ravenRequest contained /go\ze\%(\s\|$\)/ nextgroup=ravenLastNumber,ravenRequestError skipwhite
 syntax match ravenLastNumber contained /-\=\d\{1,18}\ze\%(\s\|$\)/ nextgroup=ravenRequestError skipwhite
 syntax match ravenCall contained /call\ze\s/ nextgroup=ravenObject,ravenRequestError skipwhite
@@ -129,7 +129,7 @@ syntax match ravenEntryNumber contained /^\d\+\ze / nextgroup=ravenEntryActor,ra
 syntax match ravenEntryActor contained /\a\w*\%(\.\a\w*\)\=\ze / nextgroup=ravenEntryRequest,ravenEntryError skipwhite
 syntax cluster ravenEntryWords contains=ravenEntryWord,ravenEntryLine,ravenEntryValue
 syntax match ravenEntryRequest contained /\S.*\ze -> / contains=@ravenEntryWords nextgroup=ravenArrow skipwhite
-syntax match ravenEntryWord contained /\<\%(load\|list\|call\|end\|settle\|resume\|delay\|clock\|fire\|tick\|halt\|finish\)\>/
+syntax match ravenEntryWord contained /\<\%(load\|list\|call\|end\|settle\|resume\|delay\|clock\|fire\|tick\|halt\|archive\|finish\)\>/
 syntax match ravenEntryWord contained /\<\%(return\|raise\|overrun\|stopped\)\>/
 syntax match ravenEntryLine contained /\<\%(allow\|deny\|from\|until\)\>/
 syntax match ravenEntryValue contained /\%(^\|\s\)\@1<=-\=\d\+\ze\%(\s\|$\)/

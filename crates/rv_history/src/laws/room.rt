@@ -1,12 +1,14 @@
 //! Room: what is under way can always end.
 
-ghost use Rattle.std.specs.Prelude.{◌≡◌, ◌≢◌, ◌≤◌, ◌+◌, ◌↔◌, ◌∷◌, ◌++◌, ℕ, List, [], ℤ, length, true};
+ghost use Rattle.std.specs.List.{list_any};
+ghost use Rattle.std.specs.Prelude.{◌≡◌, ◌≢◌, ◌<◌, ◌≤◌, ◌+◌, ◌^◌, ◌↔◌, ◌∷◌, ◌++◌, ℕ, List, [], ℤ, false, is_some, length, true};
 ghost use Rattle.rv_shape.specs.Shape.{Shape};
+ghost use Rattle.rv_event.specs.Past.{archived, archives};
 ghost use Rattle.rv_event.specs.declared.entry.Answer.TheVariants.{Full, OutOfMemory};
 ghost use Rattle.rv_event.specs.declared.entry.Entry.TheVariants.{ListChange, Load};
 ghost use Rattle.rv_event.specs.declared.entry.Entry.{Entry};
 ghost use Rattle.rv_event.specs.declared.entry.Exit.{Exit};
-ghost use Rattle.rv_event.specs.declared.entry.Request.TheVariants.{Complete, Halt, Quit, Resume, Settle};
+ghost use Rattle.rv_event.specs.declared.entry.Request.TheVariants.{Archive, Complete, Halt, Quit, Resume, Settle};
 ghost use Rattle.rv_event.specs.declared.entry.Request.{Request};
 ghost use Rattle.rv_history.specs.Due.{due, out};
 ghost use Rattle.rv_history.specs.History.{History};
@@ -20,12 +22,13 @@ pub fn room_is_never_negative()
 {}
 
 /// An entry, with the shapes that there are then, has its room exactly where its cost, one and the
-/// change of what is owed, is no greater than the room.
+/// change of what is owed, is no greater than the room and what the entry gives up.
 #[tactic(auto, using(crate::proofs::Room::room_reads))]
 pub fn cost_is_one_and_the_change_of_owed()
     ensures { (h : History) (entry : Entry) (shapes : List Shape) → IsSolvent h →
         (has_room h.limits.capacity shapes (entry ∷ h.past) ≡ true)
-        ↔ (1 + owed shapes (entry ∷ h.past) ≤ room h + owed h.shapes h.past) }
+        ↔ (1 + owed shapes (entry ∷ h.past) + archived h.past
+        ≤ room h + owed h.shapes h.past + archived (entry ∷ h.past)) }
 {}
 
 /// A load costs one and its tasks, each of which owes its quit.
@@ -85,7 +88,35 @@ pub fn halt_has_room()
     ensures { (h : History) (actor : ℕ) → IsSolvent h → out h actor Halt ≡ due h actor Halt }
 {}
 
-/// None of the five is ever answered Full.
+/// So is an archive.
+#[tactic(auto, using(crate::proofs::Costs::archive_paid))]
+pub fn archive_has_room()
+    ensures { (h : History) (actor number : ℕ) → IsSolvent h →
+        out h actor (Archive number) ≡ due h actor (Archive number) }
+{}
+
+/// The entries that were given up are among those that there are.
+#[tactic(auto, using(crate::proofs::Archived::few_archived))]
+pub fn archived_entries_are_there()
+    ensures { (h : History) → Legal h → archived h.past ≤ length h.past }
+{}
+
+/// Where there is no archive nothing was given up, so the room is what it is without archives.
+#[tactic(auto, using(crate::proofs::Archived::none_archived))]
+pub fn histories_without_archives_give_nothing_up()
+    ensures { (past : List Entry) → list_any (λ entry. is_some (archives entry)) past ≡ false →
+        archived past ≡ 0 }
+{}
+
+/// However many were given up, numbers last: a legal history of a capacity that hosts have has fewer
+/// than 10^12 entries.
+#[tactic(auto, using(crate::proofs::Room::few_entries))]
+pub fn lengths_are_bounded()
+    ensures { (h : History) → 1 ≤ h.limits.capacity → h.limits.capacity ≤ 2 ^ 20 → Legal h →
+        length h.past < 10 ^ 12 }
+{}
+
+/// None of the six is ever answered Full.
 #[tactic(auto, using(crate::proofs::Costs::paid_never_full))]
 pub fn paid_requests_are_never_full()
     ensures { (h : History) (actor : ℕ) (request : Request) → Legal h → IsSolvent h →

@@ -1,6 +1,6 @@
 //! What words say: names are found, and requests are read back.
 
-ghost use Rattle.std.specs.Prelude.{◌≡◌, ◌<◌, ◌^◌, ℕ, List, Some, length};
+ghost use Rattle.std.specs.Prelude.{◌≡◌, ◌≤◌, ◌^◌, ℕ, List, Some};
 ghost use Rattle.rv_text.specs.Words.{words};
 ghost use Rattle.rv_shape.specs.Found.{AreFound};
 ghost use Rattle.rv_event.specs.ReadBack.{IsSaidEntry};
@@ -37,10 +37,10 @@ pub fn requests_differ_in_their_words()
         request_text h.shapes request ≡ request_text h.shapes another → request ≡ another }
 {}
 
-/// A recorded request makes an entry that a text can say.
+/// A recorded request makes an entry that a text can say, over the capacities that hosts have.
 pub fn entries_are_said()
     ensures { (h : History) (actor : ℕ) (request : Request) (word : Recorded) → Legal h →
-        length h.past < 10 ^ 12 → recorded (out h actor request) ≡ Some word →
+        1 ≤ h.limits.capacity → h.limits.capacity ≤ 2 ^ 20 → recorded (out h actor request) ≡ Some word →
         IsSaidEntry h.shapes (Asked actor request word) }
 {}
 
@@ -48,8 +48,8 @@ pub fn entries_are_said()
 pub fn lines_determine_entries()
     ensures { (h : History) (number actor other : ℕ) (request another : Request)
         (word answer : Recorded) (unit list more_unit more_list : List ℕ) →
-        Legal h → length h.past < 10 ^ 12 → recorded (out h actor request) ≡ Some word →
-        recorded (out h other another) ≡ Some answer →
+        Legal h → 1 ≤ h.limits.capacity → h.limits.capacity ≤ 2 ^ 20 →
+        recorded (out h actor request) ≡ Some word → recorded (out h other another) ≡ Some answer →
         entry_line h.shapes number (Asked actor request word) unit list
         ≡ entry_line h.shapes number (Asked other another answer) more_unit more_list →
         Asked actor request word ≡ Asked other another answer }
@@ -58,14 +58,15 @@ pub fn lines_determine_entries()
 /// Two legal histories over the same shapes whose journals have the same lines have the same
 /// entries.
 pub fn histories_differ_in_their_lines()
-    ensures { (h k : History) → Legal h → Legal k →
-        length h.past < 10 ^ 12 → length k.past < 10 ^ 12 → h.shapes ≡ k.shapes →
+    ensures { (h k : History) → Legal h → Legal k → 1 ≤ h.limits.capacity → h.limits.capacity ≤ 2 ^ 20 →
+        1 ≤ k.limits.capacity → k.limits.capacity ≤ 2 ^ 20 → h.shapes ≡ k.shapes →
         journal_lines h ≡ journal_lines k → h.past ≡ k.past }
 {}
 
 /// And the same lists, where these are such as texts hold.
 pub fn histories_differ_in_the_lines_of_their_lists()
     ensures { (h k : History) → Legal h → Legal k → AreSpelled h.lists → AreSpelled k.lists →
-        length h.past < 10 ^ 12 → length k.past < 10 ^ 12 → h.shapes ≡ k.shapes →
+        1 ≤ h.limits.capacity → h.limits.capacity ≤ 2 ^ 20 →
+        1 ≤ k.limits.capacity → k.limits.capacity ≤ 2 ^ 20 → h.shapes ≡ k.shapes →
         journal_lines h ≡ journal_lines k → h.lists ≡ k.lists }
 {}

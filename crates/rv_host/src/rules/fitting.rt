@@ -12,6 +12,7 @@ use crate::rules::blocking::count_held;
 use crate::rules::values::{fit_exit, fit_parameters, fit_scalars};
 use crate::seen::Seen;
 use rv_event::entry::{Body, Exit, Mode, Request};
+use rv_history::limits::MOST_ENTRIES;
 use rv_prio::MOST_HELD;
 use rv_shape::actor::{Actor, Callee, FIRST_TASK};
 use rv_shape::catalogue::Catalogue;
@@ -165,6 +166,18 @@ pub fn is_known(catalogue: &Catalogue, actor: usize) -> bool
     actor < FIRST_TASK + catalogue.tasks()
 }
 
+// Whether the operator may give up so many entries: more than were given up so far, no more than there are, and so few that
+// numbers last.
+fn is_archive(seen: &Seen, number: usize) -> bool
+    requires { IsSeen seen.now }
+    ensures { result ≡ fitting.is_archive (history_of seen.now) number }
+{
+    if number <= seen.present.archived() || seen.present.entries() < number {
+        return false;
+    }
+    seen.limits.capacity + number < MOST_ENTRIES
+}
+
 // Whether a request fits an actor that there is, in this mode.
 fn fits_mode(seen: &Seen, actor: usize, request: &Request, mode: Mode) -> bool
     requires seen { IsSeen seen.now }
@@ -188,6 +201,7 @@ fn fits_mode(seen: &Seen, actor: usize, request: &Request, mode: Mode) -> bool
         Request::Quit => is_idle_task(seen.catalogue, actor, mode),
         Request::Tick(ticks) => is_operator(seen.catalogue, actor) && is_tick(*ticks),
         Request::Halt => is_operator(seen.catalogue, actor),
+        Request::Archive(number) => is_operator(seen.catalogue, actor) && is_archive(seen, *number),
     }
 }
 

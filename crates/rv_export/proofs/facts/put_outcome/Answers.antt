@@ -2,8 +2,6 @@ use Rattle.std.proofs.Common.{ℕ, List, ◌++◌, Option, ap, ◌∙◌}
 use Rattle.std.proofs.lemmas.Result.{on_ok_weaker}
 use Rattle.std.specs.Prelude.{string_bytes}
 use Rattle.rv_shape.specs.Shape.{Shape}
-use Rattle.rv_event.specs.Past.{named_in, next_of}
-use Rattle.rv_event.specs.declared.entry.Entry.TheVariants.{Asked}
 use Rattle.rv_export.specs.Exports.{answered_fields, next_fields, refused_fields}
 use Rattle.rv_export.proofs.Appending.{three_put}
 use Rattle.rv_export.proofs.facts.put_outcome.Goals as goal

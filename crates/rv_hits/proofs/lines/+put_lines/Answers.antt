@@ -1,4 +1,4 @@
-use Rattle.std.proofs.Common.{length, get_or, drop, take, map, ◌-◌, refl}
+use Rattle.std.proofs.Common.{length, drop, take, map, ◌-◌}
 use Rattle.std.proofs.lemmas.List.{take_rest}
 use Rattle.std.proofs.lemmas.Result.{on_ok_weaker}
 use Rattle.std.specs.Prelude.{string_bytes}

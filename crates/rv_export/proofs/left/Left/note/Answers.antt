@@ -2,7 +2,6 @@ use Rattle.std.proofs.Common.{ℕ, suc, Option, length, ap, ◌∙◌}
 use Rattle.std.proofs.lemmas.Result.{on_ok_weaker}
 use Rattle.std.specs.Option.{option_map}
 use Rattle.rv_event.specs.Lent.{whole}
-use Rattle.rv_event.specs.Past.{clock}
 use Rattle.rv_event.specs.declared.entry.Body.{Body}
 use Rattle.rv_lasting.specs.Lasting.{since}
 use Rattle.rv_lasting.specs.declared.track.Begun.{Begun}

@@ -5,15 +5,15 @@ use Rattle.rv_present.proofs.Owing.{dues_are, few_dues}
 use Rattle.rv_present.proofs.Ready.{few_bodies, little_sum}
 use Rattle.rv_present.proofs.present.Present.taken.Goals as goal
 
-all_little : (c : goal.After-number-unsettled) → c.args.self.now.counts.entries + 1 + (c.args.self.now.bodies.number + c.number-unsettled.result + c.dues-dues.result + c.halt_due-halt.result) < 4294967296
+all_little : (c : goal.After-number-unsettled) → c.args.self.now.counts.entries + 1 + (c.args.self.now.bodies.number + c.number-unsettled.result + c.dues-dues.result + c.halt_due-halt.result) < 281474976710656
 all_little c =
     let k = c.requires.1 in
-    let few = few_bodies k.limits k.past c.requires.0 k.lists k.legal k.least in
+    let few = few_bodies k.limits k.past c.requires.0 k.lists k.legal k.least k.most in
     let ss = c.args.self.now.stances in
     little_sum c.args.self.now.bodies.number c.dues-dues.result c.halt_due-halt.result c.args.self.now.bodies.number c.args.self.now.counts.entries c.number-unsettled.result c.args.self.now.unsettled.number (omega arith)
-    (omega (arith, k.is_present.bodies_are.count, few, k.most))
+    (omega (arith, k.is_present.bodies_are.count, few.bodies, k.most))
     (omega (arith, c.dues-dues.ensures, few_dues ss.stances ss.actors, k.is_present.actors_are, k.is_present.few_actors)) c.halt_due-halt.ensures.within
-    (omega (arith, k.is_present.counts_are.entries_are, few, k.most)) (omega (arith, c.number-unsettled.ensures)) (omega (arith, k.is_present.unsettled_are.count, few, k.most))
+    (omega (arith, k.is_present.counts_are.entries_are, few.entries)) (omega (arith, c.number-unsettled.ensures)) (omega (arith, k.is_present.unsettled_are.count, few.bodies, k.most))
 
 pub sum_of-requires : goal.sum_of-requires
 sum_of-requires c = omega (arith, all_little c)

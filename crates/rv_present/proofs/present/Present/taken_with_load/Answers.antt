@@ -8,14 +8,14 @@ use Rattle.rv_present.proofs.Owing.{dues_are}
 use Rattle.rv_present.proofs.Ready.{few_bodies, little_sum}
 use Rattle.rv_present.proofs.present.Present.taken_with_load.Goals as goal
 
-all_little : (c : goal.After-number-unsettled) → c.args.self.now.counts.entries + 1 + (c.args.self.now.bodies.number + c.number-unsettled.result + c.dues_of-dues.result + c.halt_due_with-halt.result) < 4294967296
+all_little : (c : goal.After-number-unsettled) → c.args.self.now.counts.entries + 1 + (c.args.self.now.bodies.number + c.number-unsettled.result + c.dues_of-dues.result + c.halt_due_with-halt.result) < 281474976710656
 all_little c =
     let k = c.requires.stands in
-    let few = few_bodies k.limits k.past c.args.catalogue.now k.lists k.legal k.least in
+    let few = few_bodies k.limits k.past c.args.catalogue.now k.lists k.legal k.least k.most in
     little_sum c.args.self.now.bodies.number c.dues_of-dues.result c.halt_due_with-halt.result c.args.self.now.bodies.number c.args.self.now.counts.entries c.number-unsettled.result c.args.self.now.unsettled.number (omega arith)
-    (omega (arith, k.is_present.bodies_are.count, few, k.most))
+    (omega (arith, k.is_present.bodies_are.count, few.bodies, k.most))
     (omega (arith, c.dues_of-dues.ensures.within, c.actors.ensures.value, ap (λ ts. length ts) c.tasks.ensures, c.requires.few, k.is_present.actors_are)) c.halt_due_with-halt.ensures.within
-    (omega (arith, k.is_present.counts_are.entries_are, few, k.most)) (omega (arith, c.number-unsettled.ensures)) (omega (arith, k.is_present.unsettled_are.count, few, k.most))
+    (omega (arith, k.is_present.counts_are.entries_are, few.entries)) (omega (arith, c.number-unsettled.ensures)) (omega (arith, k.is_present.unsettled_are.count, few.bodies, k.most))
 
 pub sum_of-requires : goal.sum_of-requires
 sum_of-requires c = omega (arith, all_little c)
