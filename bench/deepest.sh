@@ -1,6 +1,6 @@
 #!/usr/bin/env bash
 # Plays the deepest texts that the limits of nesting allow (`deepest_texts.py`), each by `play` and by `run`, and compares
-# each journal with the one that is due (`deepest_runs.py`). In a run the actor's thread has the stack of `rv_crew::crew::STACK_BYTES`.
+# each journal with the one that is due (`deepest_runs.py`). In a run the actor's thread has the stack of `rv_crew::running::STACK_BYTES`.
 # Programs may be given; else it is the built one, as LLVM builds it, and as Rattle's own compiler does where that one stands
 # beside it (`ravenhost.by-rattle`). It needs python3.
 set -eu

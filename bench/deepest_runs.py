@@ -16,7 +16,7 @@ from concurrent.futures import ThreadPoolExecutor
 import deepest_texts
 
 TOP = os.path.dirname(os.path.dirname(os.path.abspath(__file__)))
-CREW = os.path.join(TOP, "crates/rv_crew/src/crew.rt")
+CREW = os.path.join(TOP, "crates/rv_crew/src/running.rt")
 LIMIT = 600  # seconds for one text, by one way
 PAGE = "bad command\n"  # what ends a page of the journal
 
