@@ -139,14 +139,14 @@ class Drawer(SectionDrawer):
         dice = self.dice
         left = [actor.until - self.host.clock for actor in self.actors("delayed") if not self.host.is_delay_over(actor)]
         ticks = dice.choice(left) - dice.choice((0, 0, 1)) if left and chance(dice, .7) else dice.choice((1, 2, 5, 1000))
-        return [cased(dice, "operator"), "tick", self.number(ticks if chance(dice, .9) else dice.choice(ODD_TICKS))]
+        return [cased(dice, "operator"), "tick", self.number(ticks if chance(dice, .9) else abs(dice.choice(ODD_TICKS)))]
 
     def draw_archive(self) -> list[str]:
         """An archive, often of all entries, or of one too many or too few."""
         dice, host = self.dice, self.host
         near = dice.choice((host.entries, host.entries, host.archived + 1, host.archived, host.entries + 1, 0))
         number = dice.randint(host.archived, host.entries) if chance(dice, .5) else near
-        return [cased(dice, "operator"), "archive", self.number(number if chance(dice, .95) else dice.choice(ODD_TICKS))]
+        return [cased(dice, "operator"), "archive", self.number(number if chance(dice, .95) else abs(dice.choice(ODD_TICKS)))]
 
     def draw_clock(self) -> list[str]:
         return self.named(self.callers(), "clock")
