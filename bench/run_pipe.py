@@ -238,14 +238,29 @@ def deepest_of_all(program):
     deepest(program, "body_deepest_mixed", "bench/deepest")
 
 
+def few_threads(program, script):
+    """A run with so little memory that some of its actors have no thread, and those actors. How little that is depends on the
+    machine: besides the stack of the program itself a thread takes less than a MiB."""
+    for most in range(512 << 20, 700 << 20, 256 << 10):
+        def lessened(most=most):
+            resource.setrlimit(resource.RLIMIT_AS, (most, most))
+        tried = subprocess.run([program, "run"], input=f"{script}mark\nquit\n".encode(), capture_output=True, preexec_fn=lessened, check=False)
+        if not tried.stdout.startswith(b"no thread "):
+            continue
+        run = Run(program, script, preexec_fn=lessened)
+        missing, line = [], run.ask("mark")
+        while line.startswith("no thread "):
+            missing.append(line.removeprefix("no thread "))
+            line = run.line().rstrip("\n")
+        if missing:
+            return run, missing, line
+        run.end()
+    sys.exit("no_thread: no run had some threads, and not all")
+
+
 def no_thread(program):
     """Where the memory of a second stack isn't to be had, its actor has no thread, and the run goes on."""
-    most = 700 << 20
-    run = Run(program, unit(PLANT) + unit(looper("Nav")) + unit(looper("Guest")) + "@list\nallow * * *\n@run\n",
-              preexec_fn=lambda: resource.setrlimit(resource.RLIMIT_AS, (most, most)))
-    missing = []
-    while (line := run.ask("mark") if not missing else run.line().rstrip("\n")).startswith("no thread "):
-        missing.append(line.removeprefix("no thread "))
+    run, missing, line = few_threads(program, unit(PLANT) + unit(looper("Nav")) + unit(looper("Guest")) + "@list\nallow * * *\n@run\n")
     expect_that("actors without a thread", missing and set(missing) <= {"Int_4", "Nav.Pilot", "Guest.Pilot"}, missing)
     expect("the command behind", line, "bad command")
     expect("tick", run.ask("tick 1"), "accepted 0")
