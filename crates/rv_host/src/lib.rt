@@ -4,6 +4,7 @@
 //! answer depends on and what is decided by it; `due` puts them together, `answering` asks the room.
 #![tactic(auto)]
 
+mod allowance;
 mod answering;
 pub mod answers;
 mod decision;
