@@ -87,8 +87,8 @@ pub free_of_any : (h : History) (payer : Option ℕ) → h.limits.allowance ≡ 
 free_of_any h None none = refl
 free_of_any h (Some unit) none = ap (λ (a : Option ℕ). not (uses_up a (spent h.shapes unit h.past))) none
 
-pub by_room_alone : (h : History) (a : ℕ) (r : Request) → h.limits.allowance ≡ None → out h a r ≡ out_by_room h a r
-by_room_alone h a r none = by_word (recorded (due h a r))
+pub unbounded : (h : History) (a : ℕ) (r : Request) → h.limits.allowance ≡ None → out h a r ≡ out_by_room h a r
+unbounded h a r none = by_word (recorded (due h a r))
   where
     free : may_spend h a r ≡ true
     free = free_of_any h (charged h.shapes h.past a r) none

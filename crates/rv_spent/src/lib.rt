@@ -21,31 +21,31 @@ pub const PLACES: usize = MOST_UNITS + 1;
 ///
 /// Contracts see the list of the counts, by the units' numbers.
 #[derive(Drop)]
-pub struct Charges {
+pub struct Spent {
     counts: [usize; PLACES],
 }
 
-impl Model for Charges {
+impl Model for Spent {
     ghost use Rattle.std.specs.Prelude.{ℕ, List};
 
     ghost Value = { List ℕ };
 
-    ghost view = { λ c. c.counts };
+    ghost view = { λ s. s.counts };
 }
 
-impl Default for Charges {
-    fn default() -> Charges {
-        Charges::new()
+impl Default for Spent {
+    fn default() -> Spent {
+        Spent::new()
     }
 }
 
-impl Charges {
+impl Spent {
     /// Nothing is charged yet.
     #[tactic(auto, using(crate::proofs::Counting::none_spent))]
-    pub fn new() -> Charges
+    pub fn new() -> Spent
         ensures { AreSpent [] [] result }
     {
-        Charges {
+        Spent {
             counts: [0; PLACES],
         }
     }

@@ -27,7 +27,7 @@ pub fn spent_allowances_are_full()
 {}
 
 /// Without an allowance each answer is the one that is due by the room alone.
-#[tactic(auto, using(crate::proofs::Spending::by_room_alone))]
+#[tactic(auto, using(crate::proofs::Spending::unbounded))]
 pub fn no_allowance_changes_nothing()
     ensures { (h : History) (actor : ℕ) (request : Request) → h.limits.allowance ≡ None →
         out h actor request ≡ out_by_room h actor request }
