@@ -8,6 +8,7 @@ use Rattle.rv_event.specs.declared.entry.Exit.{Exit}
 use Rattle.rv_event.specs.declared.entry.Request.{Request}
 use Rattle.rv_event.specs.declared.entry.Request.TheVariants as request
 use Rattle.rv_code.specs.declared.body.Declaration.{Declaration as RustDeclaration}
+use Rattle.rv_code.specs.Callees.{of_object}
 use Rattle.rv_code.specs.declared.expression.Callee.{Callee}
 use Rattle.rv_code.specs.Bodies.{Body, UnitBodies}
 use Rattle.rv_code.specs.BodyView.{declaration_view}
@@ -108,19 +109,19 @@ module _ {S : Type 0} (went : S → Trace → S → Type 0) (none : (s : S) → 
     pub internal_goes : (callee : Callee) (operation : ℕ) (values : List ℤ) (a : Activation) (outcome : Outcome) (components : List ℤ) (steps : ℕ) (s t : S) → internal callee ≡ Some operation → Ran went s (w.inner operation values a.components a.steps) t (outcome, (components, steps)) → Ran went s (called w callee values a) t (outcome, record a { components = components; steps = steps })
     unfolding called
     internal_goes callee operation values a outcome components steps s t is h =
-        ran_eq (ap (λ (o : Option ℕ). called_by w o callee values a) is) (ran_then went both s t t _ (returned a) (outcome, (components, steps)) _ h (ran_end went none t _ _ refl))
+        ran_eq (ap (λ (o : Option ℕ). called_by w o (of_object w.object callee) values a) is) (ran_then went both s t t _ (returned a) (outcome, (components, steps)) _ h (ran_end went none t _ _ refl))
 
     -- a request past the budget
     pub budget_spent : (callee : Callee) (values : List ℤ) (a : Activation) (s : S) → internal callee ≡ None → spent w.is_task a ≡ None → Ran went s (called w callee values a) s (Err cause.Overrun, a)
     unfolding called
     budget_spent callee values a s is past =
-        ran_eq (ap (λ (o : Option ℕ). called_by w o callee values a) is ∙ ap (asked_by w callee values a) past) (ran_end went none s _ _ refl)
+        ran_eq (ap (λ (o : Option ℕ). called_by w o (of_object w.object callee) values a) is ∙ ap (asked_by w (of_object w.object callee) values a) past) (ran_end went none s _ _ refl)
 
     -- a call of the host
-    pub outside_goes : (callee : Callee) (values : List ℤ) (a b d : Activation) (outcome : Outcome) (s t : S) → internal callee ≡ None → spent w.is_task a ≡ Some b → Ran went s (w.outer callee values) t outcome → d ≡ refilled w.is_task b → Ran went s (called w callee values a) t (outcome, d)
+    pub outside_goes : (callee at : Callee) (values : List ℤ) (a b d : Activation) (outcome : Outcome) (s t : S) → internal callee ≡ None → spent w.is_task a ≡ Some b → at ≡ of_object w.object callee → Ran went s (w.outer at values) t outcome → d ≡ refilled w.is_task b → Ran went s (called w callee values a) t (outcome, d)
     unfolding called
-    outside_goes callee values a b d outcome s t is some h got =
-        ran_eq (ap (λ (o : Option ℕ). called_by w o callee values a) is ∙ ap (asked_by w callee values a) some)
+    outside_goes callee at values a b d outcome s t is some here h got =
+        ran_eq (ap (λ (o : Option ℕ). called_by w o (of_object w.object callee) values a) is ∙ (ap (λ (c : Callee). asked_by w c values a (spent w.is_task a)) (sym here) ∙ ap (asked_by w at values a) some))
         (ran_then went both s t t _ (answered w b) outcome _ h (ran_end went none t _ _ (ap (λ (k : Activation). ended (outcome, k)) (sym got))))
 
   -- calls that may not nest, and operations without a body

@@ -42,7 +42,7 @@ pub fn is_past(held: u32, callee: Callee) -> bool
 }
 
 /// The request that asks a call, a delay or Clock of the host. The operations of a suspension object have the numbers 1 to 4
-/// (D.10).
+/// (D.10). An entry of the same object is asked as one of its object.
 pub fn request_of(callee: Callee, values: Args) -> Request
     ensures { result ≡ request_of callee values }
 {
@@ -55,7 +55,7 @@ pub fn request_of(callee: Callee, values: Args) -> Request
         Callee::CurrentState(object) => Request::Call(object, 3, Args::new()),
         Callee::SuspendUntilTrue(object) => Request::Call(object, 4, Args::new()),
         Callee::DelayUntil => Request::DelayUntil(value_at(values, 0)),
-        Callee::Clock | Callee::Internal(_) => Request::Clock,
+        Callee::Clock | Callee::Internal(_) | Callee::OwnEntry(_) => Request::Clock,
     }
 }
 

@@ -16,7 +16,7 @@ use crate::outward::Outward;
 use crate::run::block::run_block;
 use crate::setting::{MOST_NESTED, Setting};
 use crate::surroundings::Surroundings;
-use rv_code::{Callee, MOST_SLOTS};
+use rv_code::{Callee, MOST_SLOTS, of_object};
 use rv_event::entry::Exception;
 use rv_value::{Args, Scalars};
 
@@ -51,11 +51,12 @@ pub fn called<R, O: Outward<R>>(
     if !activation.spend(setting.is_task) {
         return Err(Cause::Overrun);
     }
+    let at = of_object(setting.object, callee);
     let outcome = outside(
         runtime,
         surroundings.bodies,
         setting.held,
-        callee,
+        at,
         values,
         outward,
     );

@@ -499,7 +499,7 @@ call::called-returns-then-not-spend-clause-steps g t c =
 
 pub call::called-returns-clause-ran : goal.call::called-returns-clause-ran
 call::called-returns-clause-ran g t c =
-    outside_goes _ g.met.O.Outward.none g.met.O.Outward.both (world (bodies_view c.args.surroundings.now.bodies.now) c.args.surroundings.now.setting) _ _ _ _ _ _ _ _ (sym c.internal.ensures ∙ c.in_default.is) (c.if-not-spend.ensures.yes refl) c.outside-outcome.ensures.ran c.refill.ensures
+    outside_goes _ g.met.O.Outward.none g.met.O.Outward.both (world (bodies_view c.args.surroundings.now.bodies.now) c.args.surroundings.now.setting) _ _ _ _ _ _ _ _ _ (sym c.internal.ensures ∙ c.in_default.is) (c.if-not-spend.ensures.yes refl) c.of_object-at.ensures c.outside-outcome.ensures.ran c.refill.ensures
 
 pub call::called-returns-clause-steps : goal.call::called-returns-clause-steps
 call::called-returns-clause-steps g t c =
