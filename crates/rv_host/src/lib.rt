@@ -5,6 +5,7 @@
 //! `forgetting` lists go that no page asks for.
 #![tactic(auto)]
 
+mod allowance;
 mod answering;
 pub mod answers;
 mod decision;
