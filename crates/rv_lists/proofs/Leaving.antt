@@ -1,7 +1,7 @@
 -- Lists of which the first ones were given up: all are still told, and the last one is there.
 use Rattle.std.proofs.Common.{◌≡◌, ℕ, zero, suc, ◌+◌, ◌-◌, ◌<◌, ◌≤◌, ◌∙◌, arith, ap, sym, refl, subst, List, [], ◌∷◌, ◌++◌, length, take, drop, get_or, Some, None, Option, ⊎_elim, inl, inr}
 use Rattle.std.specs.Prelude.{◌⊎◌, slice_get, unwrap_or}
-use Rattle.std.proofs.lemmas.List.{append_assoc, append-nil, drop_more, length-append, length-take-le}
+use Rattle.std.proofs.lemmas.List.{append_assoc, append-nil, drop_more, length-append, length-drop, length-take-le}
 use Rattle.rv_access.specs.Words.{Words}
 use Rattle.rv_lists.specs.Gone.{gone_lists}
 use Rattle.rv_lists.specs.Kept.{HasLast, StandsAlone, after, following, last_of, lists_of, next}
@@ -68,6 +68,12 @@ pub counted : (gone : List (List Words)) (kept : List Kept) (n : ℕ) → n ≤ 
 counted gone kept n there =
     let long : length (lists_of kept) ≡ length kept = length_following [] kept in
     length-append gone (take n (lists_of kept)) ∙ ap (λ (m : ℕ). length gone + m) (length-take-le n (lists_of kept) (omega (arith, long, there)))
+
+pub some_left : (kept : List Kept) (n : ℕ) → n < length kept → 0 < length (lists_of (drop n kept))
+some_left kept n there =
+    let long : length (lists_of (drop n kept)) ≡ length (drop n kept) = length_following [] (drop n kept) in
+    let left : length (drop n kept) ≡ length kept - n = length-drop n kept in
+    omega (arith, long, left, there)
 
 -- Lists behind those that were given up
 

@@ -63,7 +63,6 @@ fn copied(alloc: Global, kept: &[Kept]) -> Result<Vec<Kept>, AllocError>
 }
 
 // The last place, no further on than this one, from which on what is kept needs no list before it; 0 where there is no other.
-#[tactic(auto, using(crate::proofs::Leaving::alone_from))]
 fn alone_before(kept: &[Kept], most: usize) -> usize
     ensures most { result ≤ most }
     ensures there { 0 < result → result < length kept.now }
