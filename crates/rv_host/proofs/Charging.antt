@@ -1,7 +1,7 @@
 -- The numbers of the units that requests are charged to.
 use Rattle.std.proofs.Common.{◌≡◌, ◌∙◌, ℕ, zero, suc, ◌+◌, ◌-◌, ◌<◌, ◌≤◌, List, [], ◌∷◌, length, map, Option, Some, None, Bool, true, false, arith, ap, sym, refl}
 use Rattle.std.specs.Prelude.{nat_le, nat_lt, not, if◌then◌else◌, slice_get, IfSome}
-use Rattle.std.specs.Option.{option_map}
+use Rattle.std.specs.Option.{option_map, unwrap_or}
 use Rattle.std.proofs.lemmas.Bool.Decides.{nat_tests}
 use Rattle.std.proofs.lemmas.Option.{slice_get-map}
 use Rattle.rv_event.specs.declared.entry.Request.{Request}
@@ -41,8 +41,8 @@ few_so shapes (suc n) name few e =
     let less : n < length shapes = within shapes n name (ap (option_map unit_name) (sym (named_next shapes n)) ∙ e) in
     omega (arith, less, few)
 
-injected : {X : Type 0} (x y : Option X) → (let a : Option (Option X) = Some x in a ≡ Some y) → x ≡ y
-injected x y e = cc
+injected : (x y : Option (List ℕ)) → (let a : Option (Option (List ℕ)) = Some x in a ≡ Some y) → x ≡ y
+injected x y e = ap (λ (o : Option (Option (List ℕ))). unwrap_or o x) e
 
 charged_so : {X : Type 0} (shapes : List Shape) (unit : X → List ℕ) (at : Option X) (n : Option ℕ) → AreDistinct shapes
     → option_map (unit_named shapes) n ≡ option_map (λ x. Some (unit x)) at → n ≡ number_of shapes (option_map unit at)
