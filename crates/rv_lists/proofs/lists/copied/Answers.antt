@@ -2,7 +2,7 @@ use Rattle.std.proofs.Common.{◌≡◌, ◌++◌, ◌∷◌, [], List, ◌∙�
 use Rattle.rv_lists.specs.Kept.{after, lists_of}
 use Rattle.rv_lists.specs.declared.kept.Kept.{Kept}
 use Rattle.rv_lists.proofs.Copied.{copied_more}
-use Rattle.rv_lists.proofs.series.copied.Goals as goal
+use Rattle.rv_lists.proofs.lists.copied.Goals as goal
 
 pub loop-i-preserved : goal.loop-i-preserved
 loop-i-preserved c =

@@ -1,6 +1,6 @@
 use Rattle.std.proofs.Common.{◌≡◌, [], take}
 use Rattle.rv_lists.specs.Kept.{after, lists_of}
-use Rattle.rv_lists.proofs.series.copied.Given as goal
+use Rattle.rv_lists.proofs.lists.copied.Given as goal
 
 -- the copies so far are of the same lists
 abbrev pub invariant-loop-i : goal.invariant-loop-i
