@@ -42,8 +42,8 @@ pub const STACK_BYTES: usize = 512 * 1024 * 1024;
 /// What runs the bodies of an actor.
 #[derive(Drop)]
 pub struct Machine {
-    /// How many requests a task's own body may make, 1 to 1,000,000.
-    pub budget: u32,
+    /// How many requests a task's own body may make.
+    pub budget: u64,
 }
 
 /// How a body ended, with the object's components as it leaves them.
@@ -65,7 +65,7 @@ pub enum NextAsk {
 impl Machine {
     /// Takes all the memory that a run needs from an allocator, which today is none: the activations of nested calls
     /// lie on the stack. So it refuses nothing.
-    pub fn reserve(_alloc: Global, budget: u32) -> Result<Machine, AllocError>
+    pub fn reserve(_alloc: Global, budget: u64) -> Result<Machine, AllocError>
         ensures { result ≡ Ok (record { budget = budget }) }
     {
         Ok(Machine { budget })
@@ -171,7 +171,7 @@ pub fn of_task() -> Setting
 
 // The body of a task, and its end (9.2, 9.3).
 fn run_own<R, O: Outward<R>>(
-    budget: u32,
+    budget: u64,
     runtime: &R,
     bodies: &Bodies,
     body: &Body,
