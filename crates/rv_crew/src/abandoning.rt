@@ -13,11 +13,7 @@ use std::mem;
 
 // Parts threads into those whose jobs have ended, and the actors of the others.
 #[tactic(auto, using(crate::proofs::Parted::none, crate::proofs::Parted::stays, crate::proofs::Parted::goes))]
-fn part<D: Duty>(
-    mut threads: Vec<Running<D>>,
-    stay: &mut Vec<Running<D>>,
-    gone: &mut Vec<u64>,
-)
+fn part<D: Duty>(mut threads: Vec<Running<D>>, stay: &mut Vec<Running<D>>, gone: &mut Vec<u64>)
     requires room { length threads.items + vec_len stay.old ≤ vec_capacity stay.old }
     requires names { length threads.items + vec_len gone.old ≤ vec_capacity gone.old }
     ensures parts { PartsInto (map owed threads.items) (map owed stay.old.items) gone.old.items (map owed stay.new.items) gone.new.items }

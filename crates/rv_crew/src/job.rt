@@ -14,6 +14,16 @@ pub trait Duty: Drop {
     ghost does: { Self → Porting → Porting → Type 0 };
 }
 
+/// No duty: of what a job does nothing is said but that its port comes back.
+#[derive(Clone, Copy, Drop)]
+pub struct NoDuty;
+
+impl Duty for NoDuty {
+    ghost use Rattle.std.specs.Prelude.{⊤};
+
+    ghost does = { λ _ _ _. ⊤ };
+}
+
 /// What is done with one port, in a thread of its own. It may be called on that port, and gives a
 /// port of the same turn and actor back.
 #[derive(Drop)]
