@@ -71,15 +71,16 @@ impl Room {
             quota,
             halt_below,
             tells,
+            lasting,
             ..
         } = *asked;
         Room {
             alloc,
             tally: Tally::new(),
-            guard: Guard::new(quota, halt_below, tells),
+            guard: Guard::new(quota, halt_below, tells && !lasting),
             capacity: 0,
             tells,
-            is_watched: quota.is_some() || halt_below.is_some() || tells,
+            is_watched: quota.is_some() || halt_below.is_some() || (tells && !lasting),
             units: 0,
             looked: None,
             has_ended: false,

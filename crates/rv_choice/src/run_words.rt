@@ -139,5 +139,6 @@ pub fn run_words<'a>(words: &ArgMatches<'a>) -> Result<RunWords<'a>, Misuse<'a>>
         tells_end: has_flag(words, "end-status"),
         wants_run: has_flag(words, "sections-end"),
         grace,
+        lasting: has_flag(words, "lasting"),
     })
 }
