@@ -34,7 +34,7 @@ fails_first opened now lasting first begun next failure is begins stands =
     (is, (begun, subst (λ (l : Bool). BeginsAs l first begun) is begins, (next, stands)), tt)
 
 pub attended_kept : (old new : Around) (asked : Attention) (input rest : Reading) (result : Ended) (bytes slice : List ℕ) (runs : Bool) (heard : List Piece)
-    (told : Option (List Piece)) (first : Staffed) (capacity : ℕ) → slice ≡ bytes → OpensFor slice first capacity → TakesSections old.heard heard told input rest bytes runs
+    (told : Option (List Piece)) (first : Staffed) (capacity : ℕ) → slice ≡ bytes → OpensFor asked.quota slice first capacity → TakesSections old.heard heard told input rest bytes runs
     → AttendsAs old new (terms asked capacity) runs first rest heard told result → KeepsJournal old new asked input result
 attended_kept old new asked input rest result bytes slice runs heard told first capacity same opened takes (inl attends) =
     inl (runs_kept old new asked input rest result bytes slice runs heard told first attends.0 capacity same opened takes attends.1 attends.2)

@@ -17,6 +17,7 @@ mod least;
 mod notes;
 mod outsiders;
 mod room;
+mod spending;
 mod telling;
 mod tending;
 mod ticking;
