@@ -220,6 +220,7 @@ fn unless_unfit<R: Eprint>(rt: &R, words: &RunWords<'_>) -> Result<(), Stop> {
     let unfit = match (words.kept, words.halt_below) {
         (None, _) => "'--lasting' needs '--journal <FILE>'",
         (_, Some(_)) => "'--lasting' goes without '--halt-below <N>'",
+        _ if words.quota.is_some() => "'--lasting' goes without '--quota <N>'",
         _ => return Ok(()),
     };
     let _ = eprintln!(rt; "error: {unfit}\n\nFor more information, try '--help'.");

@@ -10,6 +10,7 @@ use Rattle.rv_event.specs.declared.entry.Answer.{Answer}
 use Rattle.rv_event.specs.declared.entry.Answer.TheVariants as Answers
 use Rattle.rv_event.specs.declared.entry.Recorded.{Recorded}
 use Rattle.rv_history.specs.declared.limits.Limits.{Limits}
+use Rattle.rv_history.specs.Allowance.{may_spend}
 use Rattle.rv_history.specs.Limits.{limits_of}
 use Rattle.rv_history.specs.Due.{out}
 use Rattle.rv_history.specs.Legal.{Legal}
@@ -53,13 +54,21 @@ is_full Answers.Full = true
 is_full r = false
 
 -- The port may make the request again that was answered so on this history: it waits for others, or for room in a journal that
--- lasts. (own)
-abbrev pub comes_again : List Event → Answer → Bool
-comes_again log r = asks_on r || (is_full r && lasts log)
+-- lasts. Where the unit that it is charged to has spent its allowance it never does. (own)
+abbrev pub comes_again : Limits → List Event → ℕ → Request → Answer → Bool
+comes_again limits log a q r = asks_on r || (is_full r && (lasts log && may_spend (history_at limits log) a q))
 
 -- it does, where it knows so of the journal (own)
 abbrev pub asked_again : Bool → Answer → Bool
 asked_again lasting r = asks_on r || (is_full r && lasting)
+
+-- no unit has an allowance (own)
+abbrev pub IsUnbounded : Option Limits → Type 0
+IsUnbounded about = (limits_in about).allowance ≡ None
+
+-- what a port has to know of the journal to ask again at Full (own)
+abbrev pub IsKnown : Passing → Type 0
+IsKnown v = (lasts v.seen ≡ true) × IsUnbounded v.about
 
 -- a body is never told these (own)
 abbrev pub IsTold : Answer → Type 0
@@ -105,7 +114,7 @@ EachAnswered limits a seen later left own (x ∷ xs) =
 abbrev pub EachInVain : Limits → ℕ → Request → List Event → List (List Event) → List Event → Type 0
 EachInVain limits a q seen [] last = last ≡ seen
 EachInVain limits a q seen (at ∷ more) last =
-    StartsWith at seen × Legal (history_at limits at) × (comes_again at (out (history_at limits at) a q) ≡ true) × EachInVain limits a q at more last
+    StartsWith at seen × Legal (history_at limits at) × (comes_again limits at a q (out (history_at limits at) a q) ≡ true) × EachInVain limits a q at more last
 
 -- A request was made in vain, so many times, each of which took one act: the answer was Busy or Waiting, or Full in a journal that
 -- lasts. (own)

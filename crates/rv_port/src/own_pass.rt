@@ -1,12 +1,12 @@
 //! The pass of a control or of a port, with what it knows of how long the journal lasts.
 
-ghost use Rattle.std.specs.Prelude.{◌≡◌, true, IfOk, IfErr, OnErr, MatchResult};
+ghost use Rattle.std.specs.Prelude.{◌≡◌, true, false, IfOk, IfErr, OnErr, MatchResult};
 ghost use Rattle.rv_turn.specs.Faults.{IsFault};
 ghost use Rattle.rv_turn.specs.Histories.{Has};
 ghost use Rattle.rv_turn.specs.Passes.{Acted, IsWorn, Meets, Parted};
 ghost use Rattle.rv_behind.specs.Acting.{Does};
 ghost use Rattle.rv_behind.specs.Events.{by};
-ghost use Rattle.rv_port.specs.Traces.{lasts};
+ghost use Rattle.rv_port.specs.Traces.{IsKnown, IsUnbounded, lasts};
 
 use rv_behind::behind::Behind;
 use rv_behind::event::{Ask, Letter, Reply};
@@ -18,14 +18,16 @@ use std::sync::Wait;
 /// pass knows.
 pub(crate) struct OwnPass {
     pass: Pass<Behind>,
+    // Whether units have an allowance.
+    is_bounded: bool,
     is_lasting: bool,
 }
 
 impl Model for OwnPass {
     ghost use Rattle.std.specs.Coded.{codes};
-    ghost use Rattle.std.specs.Prelude.{◌≡◌, true};
+    ghost use Rattle.std.specs.Prelude.{◌≡◌, true, false};
     ghost use Rattle.rv_behind.specs.contracts.event.Event as e;
-    ghost use Rattle.rv_port.specs.Traces.{Passing, lasts};
+    ghost use Rattle.rv_port.specs.Traces.{IsUnbounded, Passing, lasts};
 
     ghost Value = { Passing };
 
@@ -33,7 +35,7 @@ impl Model for OwnPass {
 
     ghost view = { λ p. p.pass };
 
-    ghost invariant = { λ p. p.is_lasting ≡ true → lasts p.pass.seen ≡ true };
+    ghost invariant = { λ p. (p.is_lasting ≡ true → lasts p.pass.seen ≡ true) × (p.is_bounded ≡ false → IsUnbounded p.pass.about) };
 }
 
 impl Drop for OwnPass {
@@ -41,18 +43,21 @@ impl Drop for OwnPass {
     fn drop(self) {
         let OwnPass {
             pass: _,
+            is_bounded: _,
             is_lasting: _,
         } = self;
     }
 }
 
 impl OwnPass {
-    /// A pass that knows of no entry that was given up.
-    pub(crate) fn new(pass: Pass<Behind>) -> OwnPass
+    /// A pass that knows of no entry that was given up, of a host whose units have an allowance or none.
+    pub(crate) fn new(pass: Pass<Behind>, is_bounded: bool) -> OwnPass
+        requires { is_bounded ≡ false → IsUnbounded pass.about }
         ensures { result ≡ pass }
     {
         OwnPass {
             pass,
+            is_bounded,
             is_lasting: false,
         }
     }
@@ -63,6 +68,7 @@ impl OwnPass {
     {
         let OwnPass {
             pass,
+            is_bounded: _,
             is_lasting: _,
         } = self;
         pass
@@ -82,11 +88,12 @@ impl OwnPass {
         self.pass.left()
     }
 
-    /// Whether it knows that the journal lasts.
+    /// Whether it knows that the journal lasts, and that no unit has an allowance: then each Full is one of the journal.
+    #[tactic(auto, using(crate::proofs::Lasting::both_known))]
     pub(crate) fn is_lasting(&self) -> bool
-        ensures { result ≡ true → lasts self.now.seen ≡ true }
+        ensures { result ≡ true → IsKnown self.now }
     {
-        self.is_lasting
+        self.is_lasting && !self.is_bounded
     }
 
     /// From now on it knows that the journal lasts.
@@ -98,7 +105,7 @@ impl OwnPass {
     }
 
     /// One act, as of a pass.
-    #[tactic(auto, using(crate::proofs::Lasting::act_lasts))]
+    #[tactic(auto, using(crate::proofs::Lasting::act_lasts, crate::proofs::Lasting::act_unbounded))]
     pub(crate) fn act<R: Wait>(&mut self, rt: &R, ask: Ask) -> Result<Reply, Worn>
         ensures { MatchResult
             result
@@ -109,7 +116,7 @@ impl OwnPass {
     }
 
     /// One act with a letter, as of a pass.
-    #[tactic(auto, using(crate::proofs::Lasting::act_lasts))]
+    #[tactic(auto, using(crate::proofs::Lasting::act_lasts, crate::proofs::Lasting::act_unbounded))]
     pub(crate) fn send<R: Wait>(&mut self, rt: &R, letter: &mut Letter) -> Result<(), Worn>
         ensures reply { MatchResult
             result
@@ -122,7 +129,7 @@ impl OwnPass {
     }
 
     /// A pass for another actor, as of a first pass. It knows of the journal what this one does.
-    #[tactic(auto, using(crate::proofs::Lasting::part_lasts, crate::proofs::Lasting::cut_lasts))]
+    #[tactic(auto, using(crate::proofs::Lasting::part_lasts, crate::proofs::Lasting::cut_lasts, crate::proofs::Lasting::part_unbounded, crate::proofs::Lasting::cut_unbounded))]
     pub(crate) fn split(&mut self, actor: u64, acts: u64) -> Result<OwnPass, SplitFault>
         requires first { self.old.first ≡ true }
         requires actor { (0 < actor) × (Has actor self.old.given → ⊥) }
@@ -133,6 +140,7 @@ impl OwnPass {
         match self.pass.split(actor, acts) {
             Ok(pass) => Ok(OwnPass {
                 pass,
+                is_bounded: self.is_bounded,
                 is_lasting: self.is_lasting,
             }),
             Err(fault) => Err(fault),
@@ -148,7 +156,7 @@ impl OwnPass {
     }
 
     /// From now on it has seen what the note tells, as of a pass.
-    #[tactic(auto, using(crate::proofs::Lasting::meet_lasts))]
+    #[tactic(auto, using(crate::proofs::Lasting::meet_lasts, crate::proofs::Lasting::meet_unbounded))]
     pub(crate) fn meet(&mut self, note: Note<Behind>)
         requires turn { note.turn ≡ self.old.turn }
         ensures meets { Meets by self.old note.seen self.new }
