@@ -36,6 +36,8 @@ pub struct Follower<'a, T, F> {
     pub(crate) abandoned: usize,
     // What was given up of its journal, where the run lasts.
     pub(crate) archive: Archive,
+    // How many units there were at the last look.
+    pub(crate) units: usize,
     // The ticks that a real clock makes due, once it is looked at.
     pub(crate) pace: Option<Pace>,
     pub(crate) room: Room,
@@ -73,6 +75,7 @@ impl<'a, T, F> Follower<'a, T, F> {
             grace: None,
             abandoned: 0,
             archive: Archive::new(0),
+            units: 0,
             pace: None,
             room: Room::new(alloc, &asked),
             console: Console::new(alloc, asked.columns),
