@@ -20,7 +20,7 @@ is_protected (Some at) = is_kind at.object
 
 -- how deep bodies call at most: each holds one more protected object, and at most 16
 abbrev pub depth_of : List Shape → ℕ
-depth_of shapes = min 16 (count_below (λ n. is_protected (place shapes (n + 1))) (length (all_objects shapes)))
+depth_of shapes = min (count_below (λ n. is_protected (place shapes (n + 1))) (length (all_objects shapes))) 16
 
 -- how many of the ten lines have a handler
 abbrev pub handled_lines : List Shape → ℕ
@@ -29,7 +29,7 @@ handled_lines shapes = count_below (λ line. is_some (handler shapes line)) 10
 -- How many entries may be owed at once: the halt; of each task its quit, and the ends of the bodies that it is in, or what a queued call owes;
 -- of each line with a handler the ends of its bodies.
 abbrev pub most_owed : List Shape → ℕ
-most_owed shapes = 1 + length (all_tasks shapes) * (1 + max 2 (depth_of shapes)) + depth_of shapes * handled_lines shapes
+most_owed shapes = 1 + length (all_tasks shapes) * (1 + max (depth_of shapes) 2) + depth_of shapes * handled_lines shapes
 
 -- the least capacity of a run that lasts: beside that one entry, and one of an archive
 abbrev pub least_capacity : List Shape → ℕ
