@@ -127,6 +127,7 @@ pub fn with_quota(quota: Option<u32>) -> RunWords<'static>
         tells_end: false,
         wants_run: false,
         grace: None,
+        lasting: false,
     }
 }
 
