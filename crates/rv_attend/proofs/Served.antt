@@ -17,7 +17,7 @@ use Rattle.rv_run.specs.Staging.{Comes, Outcome, Stage}
 use Rattle.rv_run.specs.declared.command.Goes.{Goes}
 use Rattle.rv_run.specs.declared.command.Goes.TheVariants.{On, Out}
 use Rattle.rv_run.specs.declared.outputs.KeptFailure.{KeptFailure}
-use Rattle.rv_attend.specs.Attending.{AttendedAll, AttendedBy, AttendedIf, AttendedOne, AttendedUpTo, EndsFor, EndsOut, GoesAttended, Point, ServesBehind, ServesHeard}
+use Rattle.rv_attend.specs.Attending.{AttendedAll, AttendedBy, AttendedIf, AttendedOne, AttendedUpTo, Attends, EndsFor, EndsOut, GoesAttended, Point, ServesBehind, ServesHeard}
 use Rattle.rv_attend.specs.Going.{CommandComes, HaltIsDue, Terms, entries_seen}
 use Rattle.rv_attend.specs.Holding.{Holding, IsPlain, attended, point_of, state_of}
 use Rattle.rv_attend.specs.KeepingRuns.{Stands}
@@ -166,7 +166,7 @@ one holds terms opened m n result is serves =
     let attends = tends.attends (is_plain holds terms opened m is) in
     record {
       between = point_of holds serves.between;
-      attended = attends;
+      attended = subst (λ (t : Terms). Attends t.asked.lasting m.stage serves.between.stage) is.same attends;
       served = if_on holds terms opened m serves.between n serves.tended result (ap (λ (t : Terms). t.asked.console) same ∙ is.plain) same
           (attends.left ∙ is.unread) tends.hears tends.goes (tends.tends.0 opened is.kept) serves.serves;
     }

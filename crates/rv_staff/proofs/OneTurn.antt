@@ -18,6 +18,7 @@ use Rattle.rv_port.specs.Viewing.{NotViewed}
 use Rattle.rv_port.specs.declared.fault.PageFault.{PageFault}
 use Rattle.rv_port.specs.declared.fault.PageFault.TheVariants as PageFaults
 use Rattle.rv_view.specs.Views.{Shown}
+use Rattle.rv_follow.specs.Archiving.{AsksArchive, GivesUp}
 use Rattle.rv_follow.specs.Following.{Reads, ReadsOn}
 use Rattle.rv_port.specs.Controls.{IsGiven, LoadTold, Told}
 use Rattle.rv_crew.specs.Teams.{IsOfTurn}
@@ -66,6 +67,15 @@ reads_on_stay (suc count) v w reads = ap (λ (p : Passing). p.turn) reads.4.same
 
 pub reads_stay : (v w : Passing) → Reads v w → w.turn ≡ v.turn
 reads_stay v w reads = reads_on_stay reads.0 v w reads.1
+
+-- and where entries are given up
+archive_stays : (number : ℕ) (v w : Passing) → AsksArchive number v w → w.turn ≡ v.turn
+archive_stays number v w (inl told) = ap (λ (p : Passing). p.turn) told.1.2.same
+archive_stays number v w (inr worn) = ap (λ (p : Passing). p.turn) worn.1
+
+pub archives_stay : (next : ℕ) (v w : Passing) → GivesUp next v w → w.turn ≡ v.turn
+archives_stay next v w (inl same) = ap (λ (p : Passing). p.turn) same
+archives_stay next v w (inr asked) = archive_stays asked.0 v w asked.2
 
 -- and where the console looks
 pub answers_stay : (v w : Passing) → Looks v w → w.turn ≡ v.turn

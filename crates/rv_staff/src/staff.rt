@@ -14,6 +14,7 @@ ghost use Rattle.rv_event.specs.declared.entry.Request.TheVariants as asks;
 ghost use Rattle.rv_port.specs.Viewing.{NotViewed};
 ghost use Rattle.rv_tally.specs.Tallying.{IsTally};
 ghost use Rattle.rv_port.specs.Controls.{Brings, IsGiven, IsPortFault, LoadTold, Told};
+ghost use Rattle.rv_follow.specs.Archiving.{GivesUp};
 ghost use Rattle.rv_follow.specs.Following.{IsKept, Looked, Reads};
 ghost use Rattle.rv_keep.specs.Keeping.{Known};
 ghost use Rattle.rv_crew.specs.Crews.{IsClosedBy};
@@ -35,7 +36,7 @@ use rv_console::{Console, Word};
 use rv_crew::crew::{Closed, Crew};
 use rv_crew::hiring::{HireFault, give_up};
 use rv_event::entry::Answer;
-use rv_follow::{Found, follow};
+use rv_follow::{Archive, Found, follow, give_up as give_up_entries};
 use rv_keep::{KeepFault, Keeper};
 use rv_pipes::Ender;
 use rv_port::control::Control;
@@ -239,6 +240,15 @@ impl Staff {
         ensures crew { self.new.crew ≡ self.old.crew }
     {
         follow(rt, alloc, &mut self.control, keeper, tally)
+    }
+
+    /// Gives up entries whose lines a keeper's file has, where there are enough (`rv_follow::give_up`).
+    #[tactic(auto, using(crate::proofs::OneTurn::moved, crate::proofs::OneTurn::archives_stay))]
+    pub fn archive<R: Wait, F>(&mut self, rt: &R, keeper: &Keeper<F>, archive: &mut Archive)
+        ensures gives_up { GivesUp keeper.now.next self.old.control self.new.control }
+        ensures crew { self.new.crew ≡ self.old.crew }
+    {
+        give_up_entries(rt, &mut self.control, keeper, archive);
     }
 
     /// Writes the answer to a request of the operator.

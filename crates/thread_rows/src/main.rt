@@ -1,4 +1,4 @@
-//! Worked rows on threads, of what no contract says: two games of a crew, and runs, each kind under a heading. More games stand
+//! Worked rows on threads, of what no contract says: games of a crew, and runs, each kind under a heading. More games stand
 //! beside the gate, in `bench/thread_games`.
 #![tactic(auto)]
 

@@ -3,6 +3,7 @@
 ghost use Rattle.std.specs.Prelude.{◌≡◌};
 ghost use Rattle.thread_rows.specs.Fitting.{Fits};
 
+use crate::crews::room_again::read_one;
 use crate::crews::told_revoke::{ToldReader, read_told};
 use crate::crews::two_readers::{Ends, read_beside, read_open};
 use rv_port::port::{Finished, Port};
@@ -18,6 +19,8 @@ pub enum Role {
     OpenReader(Ends),
     /// It reads while that body is open.
     Beside(Ends),
+    /// It reads once.
+    Reader,
 }
 
 /// Does what a role says, and finishes the port.
@@ -29,5 +32,6 @@ pub fn act<R: Wait + Clock>(rt: &R, port: Port, role: Role) -> Finished
         Role::ToldReader(reader) => read_told(rt, port, reader),
         Role::OpenReader(ends) => read_open(rt, port, ends),
         Role::Beside(ends) => read_beside(rt, port, ends),
+        Role::Reader => read_one(rt, port),
     }
 }
