@@ -197,6 +197,11 @@ int32_t rh_remove_line(rh_host *host, size_t number);
 int32_t rh_tick(rh_host *host, uint32_t ticks);
 int32_t rh_halt(rh_host *host);
 
+/* Gives up the first entries of the journal, so many in all, by the operator: rh_journal tells them no more, and as many more have room.
+ * So take their lines before. RH_MISUSE where the number isn't above that of the last archive, there are fewer entries, or the number and
+ * the capacity are 10^12 or more together. */
+int32_t rh_archive(rh_host *host, size_t number);
+
 /* The number of a task by its name, `Unit.Task`; of an operation by that of its object, `Unit.Object`, and its own. RH_DONE, or
  * RH_UNKNOWN_NAME, and then nothing is written. Numbers stay when more is loaded. */
 int32_t rh_find_actor(rh_host *host, const char *name, size_t length, size_t *actor);
@@ -222,7 +227,7 @@ int32_t rh_fire(rh_host *host, uint32_t line, rh_answer *answer);
 int32_t rh_delay_until(rh_host *host, size_t actor, int64_t tick, rh_answer *answer);
 
 /* The lines of the journal from a number on, which counts from 1: those of up to 50 entries. next gets the number behind them, which is the
- * same number where there are none yet. RH_DONE; else nothing is told. Where length is more than capacity, call again with more room. */
+ * same number where there are none yet, or none any more (rh_archive). RH_DONE; else nothing is told. Where length is more than capacity, call again with more room. */
 int32_t rh_journal(rh_host *host, size_t from, size_t *next, rh_text *lines);
 
 /* RH_DONE, and the state. */
