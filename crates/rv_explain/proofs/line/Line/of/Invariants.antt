@@ -1,5 +1,5 @@
 use Rattle.std.proofs.Common.{length}
-use Rattle.rv_cause.proofs.line.Line.of.Given as goal
+use Rattle.rv_explain.proofs.line.Line.of.Given as goal
 
 -- what is left gets shorter with each word
 abbrev pub decreases-loop-word : goal.decreases-loop-word

@@ -1,7 +1,8 @@
 //! Lines behind a line `@run` that are no commands.
 
-use crate::cause::Cause;
-use crate::line::{Form, Line, is_listed, is_number, said_of};
+use crate::line::{Form, Line, said_of};
+use rv_cause::cause::Cause;
+use rv_text::integer_of;
 
 const ENDING: &str = "nothing may stand behind halt, nor behind quit";
 
@@ -45,12 +46,15 @@ const COMMANDS: [Form; 9] = [
     },
 ];
 
-const NUMBERED: [&str; 4] = ["tick", "remove", "raise", "journal"];
+// Whether a command takes one number.
+fn is_numbered(word: &str) -> bool {
+    word == "tick" || word == "remove" || word == "raise" || word == "journal"
+}
 
 // The number of the word at fault of a command that takes something.
 fn at_fault(line: &Line<'_>) -> usize {
-    let is_more = line.is(0, "replace") || line.has(2) && is_listed(&NUMBERED, line.word(0));
-    if is_more && is_number(line.word(1)) {
+    let is_more = line.is(0, "replace") || line.has(2) && is_numbered(line.word(0));
+    if is_more && integer_of(line.word(1)).is_some() {
         2
     } else {
         1
@@ -58,7 +62,7 @@ fn at_fault(line: &Line<'_>) -> usize {
 }
 
 /// Why a line is no command.
-pub fn bad_command<'a>(line: &Line<'a>) -> Cause<'a> {
+pub(crate) fn bad_command<'a>(line: &Line<'a>) -> Cause<'a> {
     if line.count() == 0 {
         return line.cause(0, "a blank line is no command");
     }

@@ -1,7 +1,7 @@
 use Rattle.std.proofs.Common.{length}
 use denote.Text.{Utf8}
 use denote.Shadow.{shadow}
-use Rattle.rv_cause.proofs.settings.entries_of.Given as goal
+use Rattle.rv_explain.proofs.line.lines_of.Given as goal
 
 abbrev pub invariant-each : goal.invariant-each
 invariant-each l = shadow (Utf8 l.rest)

@@ -1,18 +1,16 @@
 //! What stands against the text of a shape.
 
-use crate::cause::Cause;
-use crate::known::Known;
-use crate::line::{Form, Line, is_listed, is_number, said_of};
-use rv_text::{integer_of, is_identifier, is_same_name, next_line};
+use crate::line::{Form, Line, said_of};
+use rv_cause::cause::Cause;
+use rv_cause::forms::is_listed;
+use rv_cause::known::Known;
+use rv_misread::{ShapeReason, shape_reason};
+use rv_text::is_same_name;
 use std::alloc::{AllocError, Global};
 
 const PARTS: [&str; 5] = ["scalar", "function", "procedure", "entry", "handler"];
 
 const RESERVED: [&str; 5] = ["Ada", "System", "Standard", "Host", "Interrupts"];
-
-const INTERRUPTS: [&str; 10] = ["0", "1", "2", "3", "4", "5", "6", "7", "8", "9"];
-
-const TAKEN: &str = "line {0} has a handler already (C.3.1)";
 
 const BARRIER: &str = "a barrier is open, closed, or the number of a scalar of range 0 .. 1";
 
@@ -20,7 +18,7 @@ const HANDLED: &str = "a line of a handler is one of 0 .. 9";
 
 const FIRST: &str = "the first line of a shape is unit and its name";
 
-// What a line has to be, by its first word: `{` is before words that stand any number of times.
+// What a line is, by its first word.
 const FORMS: [Form; 8] = [
     Form {
         word: "task",
@@ -56,147 +54,65 @@ const FORMS: [Form; 8] = [
     },
 ];
 
-/// The lines of a shape. Err where memory was refused.
-pub fn lines_of<'a>(alloc: Global, text: &'a str) -> Result<Vec<Line<'a>>, AllocError> {
-    let mut lines = Vec::new(alloc);
-    let mut rest = text;
-    'each: while let Some((line, behind)) = next_line(rest) {
-        let start = text.len().saturating_sub(rest.len());
-        lines.push(Line::of(alloc, line, start)?)?;
-        rest = behind;
-    }
-    Ok(lines)
-}
-
 // Whether a line is a part of a protected object.
 fn is_part(line: &Line<'_>) -> bool {
     is_listed(&PARTS, line.word(0))
 }
 
-// Whether a word is as a form has it: MODE, NAME, BARRIER, another word in capitals for a number, or the word itself.
-fn is_formed(word: &str, form: &str) -> bool {
-    match form {
-        "MODE" => word == "in" || word == "out" || word == "inout",
-        "NAME" => is_identifier(word),
-        "BARRIER" => !word.is_empty(),
-        "LOW" | "HIGH" | "HIGH}" | "START" | "PRIORITY" | "CEILING" | "K" => is_number(word),
-        _ => word == form,
+// What is said of a line that is none of a shape's.
+fn no_form<'a>(line: &Line<'a>) -> Cause<'a> {
+    if line.count() == 0 || line.word(0).starts_with("#") {
+        return line.cause(0, "a shape has no blank lines, and no comments");
+    }
+    match said_of(&FORMS, line.word(0)) {
+        Some(form) => Cause::of(line.at(0), "this line has to be: {0}", form),
+        None => line.cause(0, "{0} begins no line of a shape"),
     }
 }
 
-// Whether a line has the words of a form: those before `{` once, and the three behind it any number of times.
-fn fits(line: &Line<'_>, form: &str) -> bool {
-    let (form, _) = form.split_once(',').unwrap_or((form, ""));
-    let (words, repeated) = form.split_once(" {").unwrap_or((form, ""));
-    let mut count = 0usize;
-    for word in words.split(' ') {
-        if !is_formed(line.word(count), word) {
-            return false;
+// What is said of a first line that isn't that of a unit.
+fn no_unit<'a>(line: Option<&Line<'a>>) -> Cause<'a> {
+    match line {
+        Some(line) if line.count() > 0 && !line.word(0).starts_with("#") => {
+            line.cause(0, FIRST)
         }
-        count = count.saturating_add(1);
+        Some(line) => no_form(line),
+        None => Cause::plain(0, FIRST),
     }
-    are_repeated(line, count, repeated)
 }
 
-// Whether the words of a line from one on are those three of a form any number of times; of no form there are none.
-fn are_repeated(line: &Line<'_>, from: usize, form: &str) -> bool {
-    for number in from..line.count() {
-        let place = number.saturating_sub(from) % 3;
-        if !is_formed(line.word(number), form.split(' ').nth(place).unwrap_or("")) {
-            return false;
+// What is said of a word of a line.
+fn told<'a>(lines: &[Line<'a>], number: usize, word: usize, said: &'static str) -> Cause<'a> {
+    match lines.get(number) {
+        Some(line) => line.cause(word, said),
+        None => Cause::plain(0, said),
+    }
+}
+
+/// Which line of a text, which has these lines, isn't one of a shape. Err where memory was refused.
+pub(crate) fn bad_text<'a>(
+    alloc: Global,
+    text: &str,
+    lines: &[Line<'a>],
+) -> Result<Cause<'a>, AllocError> {
+    let cause = match shape_reason(alloc, text)? {
+        Some(ShapeReason::NoForm(number)) => match lines.get(number) {
+            Some(line) => no_form(line),
+            None => Cause::plain(0, FIRST),
+        },
+        Some(ShapeReason::Outside(number)) => {
+            let said = "{0} stands directly below a protected object only";
+            told(lines, number, 0, said)
         }
-    }
-    line.count().saturating_sub(from) % 3 == 0
-}
-
-// What stands against a line behind the first, where it stands in a protected object or not.
-fn bad_line<'a>(line: &Line<'a>, is_inside: bool) -> Option<Cause<'a>> {
-    let Some(form) = said_of(&FORMS, line.word(0)) else {
-        return Some(line.cause(0, "{0} begins no line of a shape"));
+        Some(ShapeReason::NoBarrier(number)) => told(lines, number, 2, BARRIER),
+        Some(ShapeReason::NoInterrupt(number)) => told(lines, number, 2, HANDLED),
+        Some(ShapeReason::NoUnit) | None => no_unit(lines.first()),
     };
-    if is_part(line) && !is_inside {
-        return Some(line.cause(0, "{0} stands directly below a protected object only"));
-    }
-    if fits(line, form) {
-        return None;
-    }
-    Some(Cause::of(line.at(0), "this line has to be: {0}", form))
-}
-
-// Whether the scalar of a number, from 1, of the object that these lines begin with has the range 0 .. 1.
-fn is_truth(lines: &[Line<'_>], number: i64) -> bool {
-    let mut count = 0i64;
-    for line in lines {
-        if !is_part(line) {
-            return false;
-        }
-        if line.is(0, "scalar") {
-            count = count.saturating_add(1);
-            if count == number {
-                return line.number(1) == Some(0) && line.number(2) == Some(1);
-            }
-        }
-    }
-    false
-}
-
-// Whether a word is the barrier of an entry of the object whose parts are these lines.
-fn is_barrier(parts: &[Line<'_>], word: &str) -> bool {
-    match integer_of(word) {
-        Some(number) => is_truth(parts, number),
-        None => word == "open" || word == "closed",
-    }
-}
-
-// That an entry of the object whose parts are these lines has no barrier, or a handler no line.
-fn bad_part<'a>(line: &Line<'a>, parts: &[Line<'_>]) -> Option<Cause<'a>> {
-    if line.is(0, "entry") && !is_barrier(parts, line.word(2)) {
-        return Some(line.cause(2, BARRIER));
-    }
-    if line.is(0, "handler") && !is_listed(&INTERRUPTS, line.word(2)) {
-        return Some(line.cause(2, HANDLED));
-    }
-    None
-}
-
-// The entry whose barrier is none, or the handler whose line is none.
-fn bad_barrier<'a>(lines: &[Line<'a>]) -> Cause<'a> {
-    let mut parts = lines;
-    for (number, line) in lines.iter().enumerate() {
-        if line.is(0, "protected") {
-            parts = lines.get(number.saturating_add(1)..).unwrap_or(lines);
-        }
-        if let Some(cause) = bad_part(line, parts) {
-            return cause;
-        }
-    }
-    Cause::plain(0, HANDLED)
-}
-
-/// Which line isn't one of a shape.
-pub fn bad_text<'a>(lines: &[Line<'a>]) -> Cause<'a> {
-    let mut is_inside = false;
-    for (number, line) in lines.iter().enumerate() {
-        if line.count() == 0 || line.word(0).starts_with("#") {
-            return line.cause(0, "a shape has no blank lines, and no comments");
-        }
-        if number == 0 {
-            if !fits(line, "unit NAME") {
-                return line.cause(0, FIRST);
-            }
-        } else if let Some(cause) = bad_line(line, is_inside) {
-            return cause;
-        }
-        is_inside = line.is(0, "protected") || is_inside && is_part(line);
-    }
-    if lines.is_empty() {
-        return Cause::plain(0, FIRST);
-    }
-    bad_barrier(lines)
+    Ok(cause)
 }
 
 /// That a unit may not have its name.
-pub fn unit_name<'a>(at: usize, name: &'a str, known: &Known<'_>) -> Option<Cause<'a>> {
+pub(crate) fn unit_name<'a>(at: usize, name: &'a str, known: &Known<'_>) -> Option<Cause<'a>> {
     if is_listed(&RESERVED, name) {
         return Some(Cause::of(at, "{0} is a name that no unit may have", name));
     }
@@ -230,7 +146,7 @@ fn is_before(lines: &[Line<'_>], line: &Line<'_>) -> bool {
 }
 
 /// Which name is taken.
-pub fn name_taken<'a>(lines: &[Line<'a>], known: &Known<'_>) -> Cause<'a> {
+pub(crate) fn name_taken<'a>(lines: &[Line<'a>], known: &Known<'_>) -> Cause<'a> {
     for (number, line) in lines.iter().enumerate() {
         if number == 0 {
             if let Some(cause) = unit_name(line.at(1), line.word(1), known) {
@@ -310,7 +226,7 @@ fn bad_numbers<'a>(line: &Line<'a>) -> Option<Cause<'a>> {
 }
 
 /// Which number is out of range.
-pub fn bad_range<'a>(lines: &[Line<'a>]) -> Cause<'a> {
+pub(crate) fn bad_range<'a>(lines: &[Line<'a>]) -> Cause<'a> {
     for line in lines {
         if let Some(cause) = bad_numbers(line) {
             return cause;
@@ -320,7 +236,7 @@ pub fn bad_range<'a>(lines: &[Line<'a>]) -> Cause<'a> {
 }
 
 /// Which object with a handler has too low a ceiling.
-pub fn ceiling_too_low<'a>(lines: &[Line<'a>]) -> Cause<'a> {
+pub(crate) fn ceiling_too_low<'a>(lines: &[Line<'a>]) -> Cause<'a> {
     let mut low = None;
     for line in lines {
         if line.is(0, "protected") {
@@ -342,28 +258,8 @@ pub fn ceiling_too_low<'a>(lines: &[Line<'a>]) -> Cause<'a> {
     )
 }
 
-// Whether a handler on one of these lines has an interrupt line.
-fn is_taken(lines: &[Line<'_>], interrupt: &str) -> bool {
-    for before in lines {
-        if before.is(0, "handler") && is_same_name(before.word(2), interrupt) {
-            return true;
-        }
-    }
-    false
-}
-
-/// Which line of interrupts has a handler already.
-pub fn line_taken<'a>(lines: &[Line<'a>]) -> Cause<'a> {
-    for (number, line) in lines.iter().enumerate() {
-        if line.is(0, "handler") && is_taken(front(lines, number), line.word(2)) {
-            return line.cause(2, TAKEN);
-        }
-    }
-    Cause::plain(0, "an interrupt line has a handler already (C.3.1)")
-}
-
 /// What there is too much of.
-pub fn too_many<'a>(lines: &[Line<'a>]) -> Cause<'a> {
+pub(crate) fn too_many<'a>(lines: &[Line<'a>]) -> Cause<'a> {
     let mut has_entry = false;
     for line in lines {
         if line.is(0, "entry") && has_entry {
