@@ -7,7 +7,8 @@ use crate::line::{Line, lines_of};
 use crate::lists::cause_of_list;
 use crate::loaded::Loaded;
 use crate::parts::{
-    catalogue_before, known_before, load_at, opening_before, part_at, shapes_before, texts_before,
+    catalogue_before, declared_by, known_before, load_at, opening_before, part_at, shapes_before,
+    texts_before,
 };
 use crate::sections::bad_section;
 use crate::settings::cause_of_settings;
@@ -87,7 +88,7 @@ fn of_unknown<'a>(
 ) -> Result<Explanation<'a>, AllocError> {
     let words = Line::of(alloc, spot.line, 0)?;
     let texts = texts_before(alloc, script, line)?;
-    let known = known_before(alloc, texts.as_slice(), &[])?;
+    let known = declared_by(alloc, texts.as_slice())?;
     let catalogue = catalogue_before(alloc, script, line)?;
     let loaded = Loaded {
         alloc,
@@ -182,7 +183,10 @@ fn cause_of_shape<'a>(
         ShapeFault::BadText => shapes::bad_text(alloc, text, lines),
         ShapeFault::NameTaken => name_taken(alloc, script, line, lines),
         ShapeFault::TooMany => Ok(shapes::too_many(lines)),
-        ShapeFault::LineTaken => Ok(Cause::plain(0, "an interrupt line has a handler already (C.3.1)")),
+        ShapeFault::LineTaken => Ok(Cause::plain(
+            0,
+            "an interrupt line has a handler already (C.3.1)",
+        )),
         ShapeFault::CeilingTooLow => Ok(shapes::ceiling_too_low(lines)),
         ShapeFault::BadRange => Ok(shapes::bad_range(lines)),
         ShapeFault::NoMemory => Ok(Cause::plain(0, "memory was refused")),

@@ -40,17 +40,16 @@ fn with_names(
     names: &[&str],
 ) -> Result<String, AllocError> {
     let mut text = front;
+    if let Some(near) = nearest(alloc, word, names)? {
+        text.push_str("; it has ")?;
+        text.push_str(near)?;
+        return Ok(text);
+    }
     let mut between = "; it has ";
-    let near = nearest(alloc, word, names)?;
     for name in names {
-        if near.is_none() || near == Some(*name) {
-            text.push_str(between)?;
-            text.push_str(name)?;
-            between = ", ";
-        }
-        if near == Some(*name) {
-            return Ok(text);
-        }
+        text.push_str(between)?;
+        text.push_str(*name)?;
+        between = ", ";
     }
     Ok(text)
 }

@@ -161,16 +161,25 @@ pub(crate) fn shapes_before(
     Ok(shapes)
 }
 
+/// What the unit texts of these words declare.
+pub(crate) fn declared_by<'a>(
+    alloc: Global,
+    texts: &[Tokens<'a>],
+) -> Result<Known<'a>, AllocError> {
+    let mut known = Known::new(alloc);
+    for words in texts {
+        known.add_text(words.as_slice(), false)?;
+    }
+    Ok(known)
+}
+
 /// What the parts before a line declare, whose unit texts have these words, and whose shapes are these.
 pub(crate) fn known_before<'a>(
     alloc: Global,
     texts: &[Tokens<'a>],
     shapes: &'a [UnitShape],
 ) -> Result<Known<'a>, AllocError> {
-    let mut known = Known::new(alloc);
-    for words in texts {
-        known.add_text(words.as_slice(), false)?;
-    }
+    let mut known = declared_by(alloc, texts)?;
     for shape in shapes {
         add_shape(&mut known, shape)?;
     }

@@ -21,9 +21,7 @@ const OPENINGS: [&str; 7] = [
 fn of_one_command(opening: Opening, before: Option<Opening>) -> &'static str {
     match before {
         Some(Opening::Steps) => "{0} can't stand behind @steps: a script is for one command",
-        Some(Opening::Journal) => {
-            "{0} can't stand behind @journal: a script is for one command"
-        }
+        Some(Opening::Journal) => { "{0} can't stand behind @journal: a script is for one command" }
         _ => match opening {
             Opening::Steps => {
                 "only play takes steps; check looks at them with --script, and ./ravenhost audit --script passes over them"

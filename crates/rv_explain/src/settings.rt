@@ -2,7 +2,7 @@
 
 use crate::line::{Form, said_of};
 use rv_cause::cause::Cause;
-use rv_misread::{SettingsReason, bad_value, unknown_key};
+use rv_misread::{SettingsReason, bad_value, not_toml, unknown_key};
 use rv_near::nearest;
 use rv_settings::SettingsFault;
 use std::alloc::{AllocError, Global};
@@ -72,33 +72,48 @@ const VALUES: [Form; 10] = [
     },
 ];
 
+const NOT_TOML: &str = "this is no TOML";
+
 const OTHER_VALUE: &str = "a value is of another type, or out of its range";
 
-// What is said of a key that isn't one of where it stands, in a device or not.
+// What is said of a key that is one of the settings, but not of where it stands: in a device or not.
+fn said_of_place(is_of_device: bool) -> &'static str {
+    if is_of_device {
+        "{0} stands in a device; put it above [[device]]"
+    } else {
+        "{0} is a key of devices; put it below [[device]]"
+    }
+}
+
+// What is said of a key that is none, where it stands in a device or not.
+fn said_of_key(is_of_device: bool) -> &'static str {
+    if is_of_device {
+        "unknown key {0}; a device has unit, task, object, operation, priority and calls"
+    } else {
+        "unknown key {0}; the keys are capacity, budget, queue_limit and device"
+    }
+}
+
+// What is said of a key that isn't one of where it stands.
 fn no_key<'a>(
     alloc: Global,
     at: usize,
     is_of_device: bool,
     key: &'a str,
 ) -> Result<Cause<'a>, AllocError> {
-    let is_known = said_of(&VALUES, key).is_some();
-    let said = if is_known && is_of_device {
-        "{0} stands in a device; put it above [[device]]"
-    } else if is_known {
-        "{0} is a key of devices; put it below [[device]]"
-    } else if let Some(near) = nearest(alloc, key, &ALL)? {
-        return Ok(Cause::pair(at, "unknown key {0}; did you mean {1}?", key, near));
-    } else if is_of_device {
-        "unknown key {0}; a device has unit, task, object, operation, priority and calls"
-    } else {
-        "unknown key {0}; the keys are capacity, budget, queue_limit and device"
-    };
-    Ok(Cause::of(at, said, key))
+    if said_of(&VALUES, key).is_some() {
+        return Ok(Cause::of(at, said_of_place(is_of_device), key));
+    }
+    match nearest(alloc, key, &ALL)? {
+        Some(near) => Ok(Cause::pair(at, "unknown key {0}; did you mean {1}?", key, near)),
+        None => Ok(Cause::of(at, said_of_key(is_of_device), key)),
+    }
 }
 
 // What is said by a reason.
 fn told<'a>(alloc: Global, reason: SettingsReason<'a>) -> Result<Cause<'a>, AllocError> {
     match reason {
+        SettingsReason::NotToml(at) => Ok(Cause::plain(at, NOT_TOML)),
         SettingsReason::NoKey(at, is_of_device, key) => no_key(alloc, at, is_of_device, key),
         SettingsReason::NoTable(at, word) => {
             Ok(Cause::of(at, "unknown table {0}; devices are [[device]]", word))
@@ -112,18 +127,6 @@ fn told<'a>(alloc: Global, reason: SettingsReason<'a>) -> Result<Cause<'a>, Allo
     }
 }
 
-// Where settings are no TOML.
-fn not_toml(alloc: Global, text: &str) -> Cause<'_> {
-    let at = match toml::table_from_str(alloc, text) {
-        Ok(_) => 0,
-        Err(error) => match error.span() {
-            Some(span) => span.start,
-            None => 0,
-        },
-    };
-    Cause::plain(at, "this is no TOML")
-}
-
 /// The cause of a fault of settings. Err where memory was refused.
 pub(crate) fn cause_of_settings(
     alloc: Global,
@@ -131,7 +134,7 @@ pub(crate) fn cause_of_settings(
     fault: SettingsFault,
 ) -> Result<Cause<'_>, AllocError> {
     let (reason, other) = match fault {
-        SettingsFault::NotToml => return Ok(not_toml(alloc, text)),
+        SettingsFault::NotToml => (not_toml(alloc, text)?, NOT_TOML),
         SettingsFault::NoMemory => return Ok(Cause::plain(0, "memory was refused")),
         SettingsFault::UnknownKey => (unknown_key(alloc, text)?, ALL_KEYS),
         SettingsFault::BadValue => (bad_value(alloc, text)?, OTHER_VALUE),

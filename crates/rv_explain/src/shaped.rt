@@ -36,10 +36,7 @@ fn add_object<'a>(
 }
 
 /// Adds what a shape declares.
-pub(crate) fn add_shape<'a>(
-    known: &mut Known<'a>,
-    shape: &'a UnitShape,
-) -> Result<(), AllocError> {
+pub(crate) fn add_shape<'a>(known: &mut Known<'a>, shape: &'a UnitShape) -> Result<(), AllocError> {
     let unit = shape.name();
     known.add(Declared::shaped(unit, "", unit, Sort::Unit))?;
     for task in shape.tasks() {

@@ -73,9 +73,7 @@ fn no_form<'a>(line: &Line<'a>) -> Cause<'a> {
 // What is said of a first line that isn't that of a unit.
 fn no_unit<'a>(line: Option<&Line<'a>>) -> Cause<'a> {
     match line {
-        Some(line) if line.count() > 0 && !line.word(0).starts_with("#") => {
-            line.cause(0, FIRST)
-        }
+        Some(line) if line.count() > 0 && !line.word(0).starts_with("#") => { line.cause(0, FIRST) }
         Some(line) => no_form(line),
         None => Cause::plain(0, FIRST),
     }
@@ -106,7 +104,7 @@ pub(crate) fn bad_text<'a>(
         }
         Some(ShapeReason::NoBarrier(number)) => told(lines, number, 2, BARRIER),
         Some(ShapeReason::NoInterrupt(number)) => told(lines, number, 2, HANDLED),
-        Some(ShapeReason::NoUnit) | None => no_unit(lines.first()),
+        Some(ShapeReason::NoUnit) | None => no_unit(lines.get(0)),
     };
     Ok(cause)
 }

@@ -51,10 +51,7 @@ fn said_of_actor(word: &str) -> &'static str {
 fn behind_request(reason: StepReason) -> (usize, &'static str) {
     match reason {
         StepReason::NoObject => (2, "{0} is no object: write Unit.Object"),
-        StepReason::NoOperation => (
-            3,
-            "call takes Unit.Object and the name of an operation",
-        ),
+        StepReason::NoOperation => (3, "call takes Unit.Object and the name of an operation"),
         StepReason::NoValue(number) => (
             number,
             "{0} can't stand here: a call has 4 values at most, each a number",
@@ -96,9 +93,7 @@ fn told<'a>(line: &Line<'a>, reason: StepReason) -> Cause<'a> {
             let said = "nothing may stand behind {0}; {1} does";
             Cause::pair(line.at(2), said, request, line.word(2))
         }
-        StepReason::NotOperator => {
-            line.cause(0, "{0} can't change the list; the operator does")
-        }
+        StepReason::NotOperator => { line.cause(0, "{0} can't change the list; the operator does") }
         StepReason::Other(number) => {
             let said = said_of(&REQUESTS, request).unwrap_or(NUMBERED);
             Cause::of(line.at(number), said, request)

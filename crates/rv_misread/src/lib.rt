@@ -8,6 +8,6 @@ mod shapes;
 mod steps;
 
 pub use lists::{LineReason, line_reason};
-pub use settings::{SettingsReason, bad_value, unknown_key};
+pub use settings::{SettingsReason, bad_value, not_toml, unknown_key};
 pub use shapes::{ShapeReason, shape_reason};
 pub use steps::{StepReason, step_reason};

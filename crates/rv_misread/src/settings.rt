@@ -7,6 +7,8 @@ use std::alloc::{AllocError, Global};
 /// Why settings are refused. A place is the byte of the text where a line begins.
 #[derive(Clone, Copy, Debug, Drop, PartialEq, Eq)]
 pub enum SettingsReason<'a> {
+    /// The text is no TOML from this place on.
+    NotToml(usize),
     /// The settings, or the device where the line stands in one, have no such key.
     NoKey(usize, bool, &'a str),
     /// The line opens a table that settings don't have.
@@ -94,23 +96,42 @@ fn without_quotes(key: &str) -> &str {
     key
 }
 
+// The key of a line that opens no table, if it has one, with a value.
+fn key_of(line: &str) -> Option<&str> {
+    let (left, right) = line.split_once('=')?;
+    let _ = first_word(right)?;
+    Some(without_quotes(first_word(left)?))
+}
+
+// The table that a line stands in which begins with this word, and whose own key is empty or stands in the word.
+fn opened(word: &str) -> Option<(Table, &'static str)> {
+    if word == "[device]" {
+        return Some((Table::Top, "device"));
+    }
+    if word == "[[device]]" {
+        return Some((Table::Device, ""));
+    }
+    if word.starts_with("[") {
+        return Some((Table::Other, ""));
+    }
+    None
+}
+
 // What a line is that stands in a table, if it opens a table or has a key.
 fn entry_of<'a>(table: Table, line: &'a str, at: usize) -> Option<Entry<'a>> {
     let word = first_word(line)?;
     if word.starts_with("#") || word.starts_with("{") {
         return None;
     }
-    let (table, key) = if word == "[device]" {
-        (Table::Top, "device")
-    } else if word == "[[device]]" {
-        (Table::Device, "")
-    } else if word.starts_with("[") {
-        (Table::Other, "")
-    } else {
-        let (left, right) = line.split_once('=')?;
-        let _ = first_word(right)?;
-        (table, without_quotes(first_word(left)?))
-    };
+    if let Some((table, key)) = opened(word) {
+        return Some(Entry {
+            table,
+            key,
+            line,
+            at,
+        });
+    }
+    let key = key_of(line)?;
     Some(Entry {
         table,
         key,
@@ -182,6 +203,21 @@ impl<'a> Entry<'a> {
     }
 }
 
+/// Where settings are no TOML; `None` where they are. Err where memory was refused.
+pub fn not_toml(alloc: Global, text: &str) -> Result<Option<SettingsReason<'_>>, AllocError> {
+    if fault_of(alloc, text)? != Some(SettingsFault::NotToml) {
+        return Ok(None);
+    }
+    let at = match toml::table_from_str(alloc, text) {
+        Ok(_) => 0,
+        Err(error) => match error.span() {
+            Some(span) => span.start,
+            None => 0,
+        },
+    };
+    Ok(Some(SettingsReason::NotToml(at)))
+}
+
 /// Which key settings don't have, the first in the text; `None` where there is none in a line of its own. Err where memory was refused.
 pub fn unknown_key(alloc: Global, text: &str) -> Result<Option<SettingsReason<'_>>, AllocError> {
     let entries = entries_of(alloc, text)?;
@@ -237,4 +273,39 @@ pub fn bad_value(alloc: Global, text: &str) -> Result<Option<SettingsReason<'_>>
         }
     }
     lacking(alloc, text, entries.as_slice())
+}
+
+#[cfg(test)]
+mod tests {
+    use crate::settings::{SettingsReason, bad_value, not_toml, unknown_key};
+    use std::alloc::Global;
+
+    // The place that a reason of a value tells.
+    fn place_of(alloc: Global, text: &str) -> Option<usize> {
+        match bad_value(alloc, text) {
+            Ok(Some(SettingsReason::BadValue(at, _))) => Some(at),
+            Ok(Some(SettingsReason::Lacks(at, _))) => Some(at),
+            _ => None,
+        }
+    }
+
+    // Whether the first line of a text is told to have a key that settings don't have.
+    fn has_no_key(alloc: Global, text: &str) -> bool {
+        match unknown_key(alloc, text) {
+            Ok(Some(SettingsReason::NoKey(at, is_of_device, _))) => at == 0 && !is_of_device,
+            _ => false,
+        }
+    }
+
+    #[test]
+    fn places_of_settings(rt: HostRuntime) {
+        let alloc = rt.alloc();
+        assert_eq!(rt; place_of(alloc, "capacity = 32\nbudget = 0\n"), Some(14));
+        assert_eq!(rt;
+            place_of(alloc, "budget = 9\n[[device]]\nunit = \"U\"\n"),
+            Some(11)
+        );
+        assert_eq!(rt; has_no_key(alloc, "budgt = 9"), true);
+        assert_eq!(rt; not_toml(alloc, "budget = 9").is_ok(), true);
+    }
 }

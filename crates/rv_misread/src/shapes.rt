@@ -37,17 +37,17 @@ fn is_shape(alloc: Global, text: &str) -> Result<bool, AllocError>
 
 // Whether a line stands in a shape below a unit. Err where memory was refused.
 fn is_of_unit(alloc: Global, line: &str) -> Result<bool, AllocError>
-    ensures { IfOk result (λ is. is ≡ is_some (shape_of (codes "unit U\n" ++ line.now))) }
+    ensures { IfOk result (λ is. is ≡ is_some (shape_of (codes "unit U\n" ++ line.now ++ codes "\n"))) }
 {
-    let text = format!(in alloc; "unit U\n{line}")?;
+    let text = format!(in alloc; "unit U\n{line}\n")?;
     is_shape(alloc, text.as_str())
 }
 
 // Whether a line stands in a shape below a protected object of these lines. Err where memory was refused.
 fn is_of_object(alloc: Global, lines: &str, line: &str) -> Result<bool, AllocError>
-    ensures { IfOk result (λ is. is ≡ is_some (shape_of (codes "unit U\nprotected P 1\n" ++ lines.now ++ line.now))) }
+    ensures { IfOk result (λ is. is ≡ is_some (shape_of (codes "unit U\nprotected P 1\n" ++ lines.now ++ line.now ++ codes "\n"))) }
 {
-    let text = format!(in alloc; "unit U\nprotected P 1\n{lines}{line}")?;
+    let text = format!(in alloc; "unit U\nprotected P 1\n{lines}{line}\n")?;
     is_shape(alloc, text.as_str())
 }
 
@@ -162,4 +162,37 @@ pub fn shape_reason(alloc: Global, text: &str) -> Result<Option<ShapeReason>, Al
         rest = behind;
     }
     barrier_reason(alloc, text)
+}
+
+#[cfg(test)]
+mod tests {
+    use crate::shapes::{ShapeReason, shape_reason};
+    use std::alloc::Global;
+
+    // The reason of a text, if memory lasts.
+    fn reason_of(alloc: Global, text: &str) -> Option<ShapeReason> {
+        match shape_reason(alloc, text) {
+            Ok(reason) => reason,
+            Err(_) => None,
+        }
+    }
+
+    #[test]
+    fn reasons_of_shapes(rt: HostRuntime) {
+        let alloc = rt.alloc();
+        assert_eq!(rt; reason_of(alloc, "unit U\ntask T 5\n"), None);
+        assert_eq!(rt; reason_of(alloc, "unit\n"), Some(ShapeReason::NoUnit));
+        assert_eq!(rt;
+            reason_of(alloc, "unit U\ntask T\n"),
+            Some(ShapeReason::NoForm(1))
+        );
+        assert_eq!(rt;
+            reason_of(alloc, "unit U\nentry E open\n"),
+            Some(ShapeReason::Outside(1))
+        );
+        let barrier = "unit U\nprotected P 5\nentry E 2\nscalar 0 1 0\n";
+        assert_eq!(rt; reason_of(alloc, barrier), Some(ShapeReason::NoBarrier(2)));
+        let line = "unit U\nprotected P 35\nhandler H 10\n";
+        assert_eq!(rt; reason_of(alloc, line), Some(ShapeReason::NoInterrupt(2)));
+    }
 }
