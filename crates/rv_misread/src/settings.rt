@@ -5,7 +5,7 @@ use rv_text::{next_line, next_word};
 use std::alloc::{AllocError, Global};
 
 /// Why settings are refused. A place is the byte of the text where a line begins.
-#[derive(Clone, Copy, Debug, Drop, PartialEq, Eq)]
+#[derive(Clone, Copy)]
 pub enum SettingsReason<'a> {
     /// The text is no TOML from this place on.
     NotToml(usize),
