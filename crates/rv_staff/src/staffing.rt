@@ -43,7 +43,7 @@ fn notices_of(session: &Session) -> Option<Sender<Notice>> {
 fn work_of(session: &Session, actor: usize) -> Work {
     match device_of(session.devices.as_slice(), actor) {
         Some(job) => Work::Device(job.object, job.operation, job.calls),
-        None => Work::Text(Budget::of(u64::from(session.budget)), notices_of(session)),
+        None => Work::Text(Budget::of(session.budget), notices_of(session)),
     }
 }
 
