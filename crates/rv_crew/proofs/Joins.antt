@@ -1,8 +1,7 @@
 -- Threads that are joined one after another.
 use Rattle.std.proofs.Common.{◌≡◌, ◌∙◌, ◌++◌, List, [], ◌∷◌, map, reverse, refl, sym, ap, subst, append-nil}
-use Rattle.std.proofs.lemmas.List.{append_assoc}
 use Rattle.rv_port.specs.Ports.{Porting}
-use Rattle.rv_crew.specs.Teams.{EachTwo, Owed}
+use Rattle.rv_crew.specs.Teams.{EachTwo, Owed, Pays}
 use Rattle.rv_crew.specs.Crews.{Joins}
 
 -- none
@@ -15,6 +14,12 @@ each_two_both P [] zs [] ws e f = f
 each_two_both P [] zs (y ∷ ys) ws e f = absurd e
 each_two_both P (x ∷ xs) zs [] ws e f = absurd e
 each_two_both P (x ∷ xs) zs (y ∷ ys) ws e f = (e.0, each_two_both P xs zs ys ws e.1 f)
+
+-- what was owed for all that came back is paid, where it was for those before and for those that are joined
+pub joined_pay : {D : Type 0} (does : D → Porting → Porting → Type 0) (paid running all : List (Owed D)) (before after : List Porting) → EachTwo (Pays does) paid before
+    → Joins does before running after → all ≡ paid ++ running → EachTwo (Pays does) all after
+joined_pay {D} does paid running all before after each joins is =
+    subst (λ (z : List (Owed D) × List Porting). EachTwo (Pays does) z.0 z.1) (λ i. (sym is i, sym joins.2 i)) (each_two_both (Pays does) paid running before joins.0 each joins.1)
 
 -- what is left to be joined leads on from what is joined
 abbrev pub LeadsOn : {D H : Type 0} (does : D → Porting → Porting → Type 0) (owed : H → Owed D) → List Porting → List H → List Porting → List H → Type 0

@@ -276,6 +276,7 @@ impl<D: Duty> Crew<D> {
 
     /// Waits until each thread that was started has ended, and keeps the ports that they give back, each with its duty done.
     /// Where there is no memory for these it waits for none.
+    #[tactic(auto, using(crate::proofs::Joins::joined_pay))]
     pub fn join_all<R: Threads>(&mut self, rt: &R) -> Result<(), AllocError>
         ensures ok { OnOk result (Joins D.does self.old.joined self.old.running self.new.joined
             × (self.new ≡ with_joined self.old self.new.joined)) }

@@ -28,14 +28,14 @@ use std::time::Clock;
 use std::{io, thread};
 
 // Plays all games of each kind.
-fn play_all<R>(rt: &R, hands: &Hands) -> io::Result<()>
+fn play_all<R>(rt: &R, hands: &Hands, staff: &rv_staff::Hands) -> io::Result<()>
 where
     R: Threads + Wait + Clock + AllocGlobal + Print + Files + Clone + Sync,
 {
     println!(rt; "# Jobs of a crew")?;
     crews::play_all(rt, hands)?;
     println!(rt; "# Runs")?;
-    runs::play_all(rt, &hands.staff)
+    runs::play_all(rt, staff)
 }
 
 // The jobs of threads are boxed here, where the runtime is.
@@ -78,12 +78,11 @@ fn main(rt: HostRuntime) -> io::Result<()> {
         begin: Box::new(rt.alloc(), work)?,
     };
     let hands = Hands {
-        staff,
         begin: Box::new(rt.alloc(), begin)?,
     };
     // On a thread whose stack holds the deepest bodies, as in `ravenhost`.
     let wide = thread::Builder::new().stack_size(STACK_BYTES);
-    match wide.spawn(&rt, move || play_all(&rt, &hands)) {
+    match wide.spawn(&rt, move || play_all(&rt, &hands, &staff)) {
         Ok(thread) => thread.join(&rt),
         Err(_) => Err(io::Error::from(io::ErrorKind::OutOfMemory)),
     }

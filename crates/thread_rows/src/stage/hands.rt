@@ -13,12 +13,10 @@ use rv_crew::hiring::HireFault;
 use rv_crew::job::NoDuty;
 use rv_port::port::Port;
 
-/// Starts threads by closures of `main`, which box their jobs: those in a role of this program, and those of runs.
+/// Starts threads by a closure of `main`, which boxes their jobs.
 #[derive(Drop)]
 pub struct Hands {
-    /// What starts the threads of runs.
-    pub staff: rv_staff::Hands,
-    /// The closure for roles.
+    /// The closure.
     pub begin: Box<dyn Fn(&mut Crew<NoDuty>, Port, Role) -> Result<(), HireFault> + Send>,
     pub ghost callable: { (crew : _) (port : _) (role : _) → Fits role port → pre begin crew port role },
     pub ghost starts: { (crew : _) (port : _) (role : _) (result : _) (after : _)
