@@ -13,9 +13,12 @@ fn tell<E: Write>(alloc: Global, unit: &str, quota: u32, errors: &mut E) {
     }
 }
 
-/// Names each unit of a closed host to which as many entries are charged as its quota has: its tasks and bodies were stopped by it,
+/// Names each unit of a closed host to which as many entries are charged as its quota has, if there is one: its tasks and bodies were stopped by it,
 /// and who called these.
-pub(crate) fn tell_spent<E: Write>(alloc: Global, host: &Host, quota: u32, errors: &mut E) {
+pub(crate) fn tell_spent<E: Write>(alloc: Global, host: &Host, quota: Option<u32>, errors: &mut E) {
+    let Some(quota) = quota else {
+        return;
+    };
     let shapes = host.catalogue().shapes();
     for place in 0..shapes.len() {
         if quota as usize <= host.spent(place + 1) {
