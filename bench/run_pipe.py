@@ -498,7 +498,7 @@ def quota(program):
     expect("a revocation beside a quota", run.ask("append deny Good * *"), "accepted 0")
     journal = run.journal()
     numbered("the journal of a quota", journal)
-    spent = [line for line in of(journal, "Bad.Pilot") if " : " in line and not any(word in line for word in (" end ", " resume ", " quit "))]
+    spent = [line for line in of(journal, "Bad.Pilot") if line.startswith(("call ", "clock ", "delay "))]
     expect("entries that Bad spent", len(spent), 1000)
     expect("denials of a quota", [line for line in journal if "deny Bad" in line], [])
     out, err, status = run.end()

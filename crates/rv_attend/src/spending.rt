@@ -6,20 +6,26 @@ use rv_tally::spent_line;
 use std::alloc::Global;
 use std::io::Write;
 
-// Tells of a unit, if there is memory for its line.
-fn tell<E: Write>(alloc: Global, unit: &str, quota: u32, errors: &mut E) {
-    if let Ok(line) = spent_line(alloc, unit, quota) {
+// Tells of the unit at a place, where it has spent its quota, and there is memory for the line.
+fn tell_of<E: Write>(alloc: Global, host: &Host, place: usize, quota: u32, errors: &mut E) {
+    let Some(shape) = host.catalogue().shapes().get(place) else {
+        return;
+    };
+    if host.spent(place.saturating_add(1)) < quota as usize {
+        return;
+    }
+    if let Ok(line) = spent_line(alloc, shape.name(), quota) {
         let _ = say(errors, line.as_str());
     }
 }
 
-/// Names each unit of a closed host to which as many entries are charged as its quota has: its tasks and bodies were stopped by it,
-/// and who called these.
-pub(crate) fn tell_spent<E: Write>(alloc: Global, host: &Host, quota: u32, errors: &mut E) {
-    let shapes = host.catalogue().shapes();
-    for place in 0..shapes.len() {
-        if quota as usize <= host.spent(place + 1) {
-            tell(alloc, shapes[place].name(), quota, errors);
-        }
+/// Names each unit of a closed host to which as many entries are charged as its quota has, if there is one: by it its tasks and
+/// bodies were stopped, and who called these.
+pub(crate) fn tell_spent<E: Write>(alloc: Global, host: &Host, quota: Option<u32>, errors: &mut E) {
+    let Some(quota) = quota else {
+        return;
+    };
+    for place in 0..host.catalogue().shapes().len() {
+        tell_of(alloc, host, place, quota, errors);
     }
 }
