@@ -1,7 +1,7 @@
 -- Without a console the lines of what came are served as commands, each behind what was due.
 use Rattle.std.proofs.Common.{◌≡◌, ◌∙◌, ℕ, arith, zero, suc, Bool, true, false, List, [], Option, Some, None, Ok, Err, inl, inr, refl, sym, ap, subst, le_of_lt}
 use Rattle.std.specs.Prelude.{◌⊎◌, IfNone, IfOk, Result}
-use Rattle.rv_crew.specs.Teams.{Team}
+use Rattle.rv_staff.specs.Staffs.{Workers}
 use Rattle.rv_feed.specs.Hearing.{HearsOn, IsStopped}
 use Rattle.rv_follow.specs.Following.{IsKept}
 use Rattle.rv_follow.proofs.Reading.{kept_later}
@@ -34,7 +34,7 @@ use Rattle.rv_attend.proofs.Unread.{next_none}
 only_asked : (s t : Stage) → t.staff.crew ≡ s.staff.crew → t.written ≡ s.written → t.input ≡ s.input → t.left ≡ s.left
     → t ≡ record s { staff = record s.staff { control = t.staff.control } }
 only_asked s t crew written input left =
-    ap (λ (c : Team). record t { staff = record t.staff { crew = c } }) crew
+    ap (λ (c : Workers). record t { staff = record t.staff { crew = c } }) crew
     ∙ ap (λ (w : Known). record { staff = record s.staff { control = t.staff.control }; written = w; input = t.input; left = t.left }) written
     ∙ ap (λ (r : Reading). record { staff = record s.staff { control = t.staff.control }; written = s.written; input = r; left = t.left }) input
     ∙ ap (λ (l : Known). record { staff = record s.staff { control = t.staff.control }; written = s.written; input = s.input; left = l }) left
