@@ -18,7 +18,7 @@ from concurrent.futures import ThreadPoolExecutor
 import deepest_texts
 
 TOP = os.path.dirname(os.path.dirname(os.path.abspath(__file__)))
-SOURCE = os.path.join(TOP, "crates/rv_exec/src/machine.rt")
+SOURCE = os.path.join(TOP, "crates/rv_unit/src/lib.rt")
 LIMIT = 600  # seconds for one text
 PAGE = "bad command\n"  # the answer to a word that is no command
 

@@ -109,7 +109,7 @@ fn cause_of_step<'a>(
     let words = Line::of(alloc, text, 0)?;
     match opening_before(script, line) {
         Some(Opening::Run) => Ok(bad_command(&words)),
-        _ => Ok(bad_step(text, &words)),
+        _ => bad_step(alloc, text, &words),
     }
 }
 

@@ -3,6 +3,7 @@
 use crate::line::{Form, Line, said_of};
 use rv_cause::cause::Cause;
 use rv_misread::{StepReason, step_reason};
+use std::alloc::{AllocError, Global};
 
 const NUMBERED: &str = "{0} takes one number";
 
@@ -105,10 +106,14 @@ fn told<'a>(line: &Line<'a>, reason: StepReason) -> Cause<'a> {
     }
 }
 
-/// Why a line of this text is no step.
-pub(crate) fn bad_step<'a>(text: &str, line: &Line<'a>) -> Cause<'a> {
-    match step_reason(text) {
-        Some(reason) => told(line, reason),
-        None => line.cause(0, "this is no step"),
+/// Why a line of this text is no step. Err where memory was refused.
+pub(crate) fn bad_step<'a>(
+    alloc: Global,
+    text: &str,
+    line: &Line<'a>,
+) -> Result<Cause<'a>, AllocError> {
+    match step_reason(alloc, text)? {
+        Some(reason) => Ok(told(line, reason)),
+        None => Ok(line.cause(0, "this is no step")),
     }
 }

@@ -5,7 +5,9 @@
 mod lists;
 mod settings;
 mod shapes;
+mod steps;
 
 pub use lists::{LineReason, line_reason};
 pub use settings::{SettingsReason, bad_value, not_toml, unknown_key};
 pub use shapes::{ShapeReason, shape_reason};
+pub use steps::{StepReason, step_reason};

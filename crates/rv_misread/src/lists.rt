@@ -168,6 +168,7 @@ fn windowed_reason(unit: &str, object: &str, operation: &str, window: &str) -> O
 }
 
 // Why the words behind `allow` or `deny` are none of a list.
+#[tactic(auto, using(crate::proofs::Windows::as_named))]
 fn reason_behind(line: &str) -> Option<LineReason>
     ensures agrees { (verb : List ℕ) → is_verb verb ≡ true
         → option_map (fault_of 1) result ≡ fault_in (line_of 1 (verb ∷ words line.now)) }

@@ -19,7 +19,7 @@ pub fn run_text<R, O: Outward<R>>(
     ready: &Ready,
     stack: Stack,
     actor: usize,
-    budget: u64,
+    budget: u32,
     outward: &mut O,
 ) -> (Exit, Stack)
     requires { IsFor ready.now.table.unit stack }

@@ -57,7 +57,7 @@ pub fn run_task<R, O: Outward<R>>(
     table: &Table,
     stack: Stack,
     actor: usize,
-    requests: u64,
+    requests: u32,
     outward: &mut O,
 ) -> (Exit, Stack)
     requires { IsFor table.now.unit stack }

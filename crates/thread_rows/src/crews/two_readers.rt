@@ -79,7 +79,12 @@ fn both_ends(alloc: Global) -> Option<(Ends, Ends)> {
 }
 
 // Starts the threads of both readers. None where one gets none.
-fn begin_both(hands: &Hands, alloc: Global, control: &mut Control, crew: &mut Crew<NoDuty>) -> Option<()>
+fn begin_both(
+    hands: &Hands,
+    alloc: Global,
+    control: &mut Control,
+    crew: &mut Crew<NoDuty>,
+) -> Option<()>
     requires { IsOfTurn control.old.turn crew.old }
     ensures { IsOfTurn control.new.turn crew.new }
 {
