@@ -1,2 +1,1 @@
-mod Read
 mod Carried

@@ -4,7 +4,6 @@
 #![tactic(auto)]
 
 mod carrier;
-mod line;
 mod lines;
 mod pair;
 mod replies;
