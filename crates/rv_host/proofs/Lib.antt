@@ -14,4 +14,3 @@ pub mod Paid
 pub mod Paging
 pub mod Tabled
 pub mod Charging
-pub mod Forgotten
