@@ -8,5 +8,3 @@ pub mod Served
 pub mod Ended
 pub mod GoingOn
 pub mod Unread
-pub mod Beginning
-pub mod Least

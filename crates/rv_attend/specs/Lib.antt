@@ -6,4 +6,3 @@ pub mod Attending
 pub mod KeepingRuns
 pub mod Lasting
 pub mod Holding
-pub mod Least

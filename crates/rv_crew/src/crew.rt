@@ -4,10 +4,9 @@ ghost use Rattle.std.specs.Prelude.{◌≡◌, ◌==◌, ◌+◌, ◌≤◌, [],
 ghost use Rattle.std.specs.Vec.{vec_capacity};
 ghost use Rattle.rv_crew.specs.Teams.{IsOfTurn, no_threads};
 ghost use Rattle.rv_turn.specs.Histories.{Each};
-ghost use Rattle.rv_crew.specs.Crews.{Keeps, Joins, IsStartFault, IsClosedBy, actor_of, mark_of, with_started, given_up, with_joined, owed, owed_for};
+ghost use Rattle.rv_crew.specs.Crews.{Keeps, Joins, IsStartFault, IsClosedBy, actor_of, mark_of, with_started, given_up, with_joined, owed};
 
-use crate::job::{Duty, Job};
-use crate::kept::Kept;
+use crate::job::Job;
 pub use crate::running::STACK_BYTES;
 use crate::running::{Ended, Running};
 use rv_host::host::Host;
@@ -30,14 +29,11 @@ pub enum StartFault {
     NoMemory(Job, Port),
 }
 
-/// The threads of a host. Contracts see which ports are out and what is owed for them, which came back with what duty done, and
-/// which are lost.
-pub struct Crew<D: Duty> {
+/// The threads of a host. Contracts see which ports are out, which came back, and which are lost.
+pub struct Crew {
     pub(crate) alloc: Global,
-    pub(crate) running: Vec<Running<D>>,
+    pub(crate) running: Vec<Running>,
     joined: Vec<Finished>,
-    // Of each of these, in the same order, what was owed for it.
-    paid: Vec<Kept<D>>,
     // The actors whose ports were lost, and what each of these ports had seen but those of threads that were given up.
     pub(crate) lost: Vec<u64>,
     notes: Vec<Note>,
@@ -47,31 +43,28 @@ pub struct Crew<D: Duty> {
     pub(crate) abandoned: usize,
 }
 
-impl<D: Duty> Model for Crew<D> {
+impl Model for Crew {
     ghost use Rattle.std.specs.Coded.{codes};
     ghost use Rattle.std.specs.Prelude.{map};
     ghost use Rattle.rv_behind.specs.contracts.event.Event as e;
-    ghost use Rattle.rv_crew.specs.Teams.{EachTwo, Pays, Team};
+    ghost use Rattle.rv_crew.specs.Teams.{Team};
 
-    ghost Value = { Team D };
+    ghost Value = { Team };
 
-    ghost coded = { Prim.hlevel (codes, e.the_row.coded, D.code) };
+    ghost coded = { Prim.hlevel (codes, e.the_row.coded) };
 
-    ghost use Rattle.rv_crew.specs.Crews.{owed, owed_for};
+    ghost use Rattle.rv_crew.specs.Crews.{owed};
 
-    ghost view = { λ c. record { running = map owed c.running.items; joined = c.joined.items; paid = map owed_for c.paid.items; lost = c.lost.items; noted = c.notes.items; refuses = c.refuses; abandoned = c.abandoned } };
-
-    ghost invariant = { λ c. EachTwo (Pays D.does) (map owed_for c.paid.items) c.joined.items };
+    ghost view = { λ c. record { running = map owed c.running.items; joined = c.joined.items; lost = c.lost.items; noted = c.notes.items; refuses = c.refuses; abandoned = c.abandoned } };
 }
 
-impl<D: Duty> Drop for Crew<D> {
+impl Drop for Crew {
     // A function of its own: a derived one is written out wherever a crew is let go, and proved there.
     fn drop(self) {
         let Crew {
             alloc: _,
             running: _,
             joined: _,
-            paid: _,
             lost: _,
             notes: _,
             refuses: _,
@@ -93,8 +86,8 @@ pub struct Closed {
 }
 
 /// A crew that wasn't closed for want of memory, with its control.
-pub struct StillOpen<D: Duty> {
-    pub crew: Crew<D>,
+pub struct StillOpen {
+    pub crew: Crew,
     pub control: Control,
 }
 
@@ -110,7 +103,7 @@ impl Drop for Closed {
     }
 }
 
-impl<D: Duty> Drop for StillOpen<D> {
+impl Drop for StillOpen {
     // A function of its own, as a crew's.
     fn drop(self) {
         let StillOpen {
@@ -120,23 +113,14 @@ impl<D: Duty> Drop for StillOpen<D> {
     }
 }
 
-// Waits for threads, the last first, and keeps what each gives, with what was owed for it.
+// Waits for threads, the last first, and keeps what each gives.
 #[tactic(auto, using(crate::proofs::Joins::joins_none))]
-fn join_each<R: Threads, D: Duty>(
-    rt: &R,
-    mut waiting: Vec<Running<D>>,
-    joined: &mut Vec<Finished>,
-    paid: &mut Vec<Kept<D>>,
-)
-    requires room { length waiting.items + vec_len joined.old ≤ vec_capacity joined.old }
-    requires kept { length waiting.items + vec_len paid.old ≤ vec_capacity paid.old }
-    ensures joins { Joins D.does joined.old.items (map owed (reverse waiting.items)) joined.new.items }
-    ensures paid { map owed_for paid.new.items ≡ map owed_for paid.old.items ++ map owed (reverse waiting.items) }
+fn join_each<R: Threads>(rt: &R, mut waiting: Vec<Running>, joined: &mut Vec<Finished>)
+    requires { length waiting.items + vec_len joined.old ≤ vec_capacity joined.old }
+    ensures { Joins joined.old.items (map owed (reverse waiting.items)) joined.new.items }
 {
     while let Some(thread) = waiting.pop() {
-        let (finished, kept) = thread.join(rt);
-        joined.push_reserved(finished);
-        paid.push_reserved(kept);
+        joined.push_reserved(thread.join(rt));
     }
 }
 
@@ -176,16 +160,15 @@ fn keep_all(ports: &[Finished])
     }
 }
 
-impl<D: Duty> Crew<D> {
+impl Crew {
     /// A crew without threads.
-    pub fn new(alloc: Global) -> Crew<D>
+    pub fn new(alloc: Global) -> Crew
         ensures { result ≡ no_threads 0 }
     {
         Crew {
             alloc,
             running: Vec::new(alloc),
             joined: Vec::new(alloc),
-            paid: Vec::new(alloc),
             lost: Vec::new(alloc),
             notes: Vec::new(alloc),
             refuses: 0,
@@ -195,7 +178,7 @@ impl<D: Duty> Crew<D> {
 
     /// A crew without threads, for tests: the start with this number makes no thread, though one could be had. Starts count
     /// from 1, whether they make a thread or none, but not those that are out of memory; 0 refuses none.
-    pub fn refusing(alloc: Global, start: u64) -> Result<Crew<D>, AllocError>
+    pub fn refusing(alloc: Global, start: u64) -> Result<Crew, AllocError>
         ensures { IfOk result (λ crew. crew ≡ no_threads start) }
     {
         let mut lost = Vec::new(alloc);
@@ -204,7 +187,6 @@ impl<D: Duty> Crew<D> {
             alloc,
             running: Vec::new(alloc),
             joined: Vec::new(alloc),
-            paid: Vec::new(alloc),
             lost,
             notes: Vec::new(alloc),
             refuses: start,
@@ -212,18 +194,10 @@ impl<D: Duty> Crew<D> {
         })
     }
 
-    /// Starts a thread that runs the job on its port, and so does this duty: the crew then has a thread that owes the port with the
-    /// duty done.
-    pub fn start<R: Threads>(
-        &mut self,
-        rt: &R,
-        job: Job,
-        duty: D,
-        port: Port,
-    ) -> Result<(), StartFault>
-        requires port { port ≡ job.port.value }
-        requires does { (f : _) → post job.run port f → D.does duty port f }
-        ensures ok { OnOk result (self.new ≡ with_started self.old port duty) }
+    /// Starts a thread that runs the job on its port.
+    pub fn start<R: Threads>(&mut self, rt: &R, job: Job, port: Port) -> Result<(), StartFault>
+        requires { port ≡ job.port.value }
+        ensures ok { OnOk result (self.new ≡ with_started self.old port) }
         ensures allowed { OnOk result ((self.old.refuses == 1) ≡ false) }
         ensures err { IfErr result (λ fault. IsStartFault self.old job port self.new fault) }
     {
@@ -235,7 +209,7 @@ impl<D: Duty> Crew<D> {
         }
         // Room for what comes back, too: so no thread is left behind for want of memory when they are joined.
         let coming = self.running.len().saturating_add(1);
-        if self.joined.reserve(coming).is_err() || self.paid.reserve(coming).is_err() {
+        if self.joined.reserve(coming).is_err() {
             return Err(StartFault::NoMemory(job, port));
         }
         let Ok(ended) = Ended::new(self.alloc) else {
@@ -246,7 +220,7 @@ impl<D: Duty> Crew<D> {
         let note = port.note();
         let is_refused = self.refuses == 1;
         self.refuses = self.refuses.saturating_sub(1);
-        match Running::begin(rt, job, duty, port, ended, is_refused) {
+        match Running::begin(rt, job, port, ended, is_refused) {
             Some(thread) => {
                 self.running.push_reserved(thread);
                 Ok(())
@@ -274,20 +248,17 @@ impl<D: Duty> Crew<D> {
         Ok(())
     }
 
-    /// Waits until each thread that was started has ended, and keeps the ports that they give back, each with its duty done.
+    /// Waits until each thread that was started has ended, and keeps the ports that they give back.
     /// Where there is no memory for these it waits for none.
-    #[tactic(auto, using(crate::proofs::Joins::joined_pay))]
     pub fn join_all<R: Threads>(&mut self, rt: &R) -> Result<(), AllocError>
-        ensures ok { OnOk result (Joins D.does self.old.joined self.old.running self.new.joined
+        ensures ok { OnOk result (Joins self.old.joined self.old.running self.new.joined
             × (self.new ≡ with_joined self.old self.new.joined)) }
         ensures err { OnErr result (self.new ≡ self.old) }
     {
-        let count = self.running.len();
-        self.joined.reserve(count)?;
-        self.paid.reserve(count)?;
+        self.joined.reserve(self.running.len())?;
         let mut waiting = mem::replace(&mut self.running, Vec::new(self.alloc));
         waiting.as_mut_slice().reverse();
-        join_each(rt, waiting, &mut self.joined, &mut self.paid);
+        join_each(rt, waiting, &mut self.joined);
         Ok(())
     }
 
@@ -301,12 +272,12 @@ impl<D: Duty> Crew<D> {
 
     /// The host, whose journal has all that the control and the ports of this crew did, and the
     /// actors whose ports came back and were lost. Of a lost port it has what it did before. The ports
-    /// are of this control. Each end of a port that came back is what its text means, and what a task asked whose duty was its
-    /// text is what that text asks, unless bodies were refused to it. Where there is no memory, crew and control come back.
-    pub fn close<R: Wait>(self, rt: &R, control: Control) -> Result<Closed, StillOpen<D>>
+    /// are of this control. Each end of a port that came back is what its text means, unless bodies
+    /// were refused to it. Where there is no memory, crew and control come back.
+    pub fn close<R: Wait>(self, rt: &R, control: Control) -> Result<Closed, StillOpen>
         requires joined { self.running ≡ [] }
         requires turn { IsOfTurn control.turn self }
-        ensures ok { IfOk result (λ closed. IsClosedBy D.does self control closed) }
+        ensures ok { IfOk result (λ closed. IsClosedBy self control closed) }
         ensures err { IfErr result (λ still. (still.crew ≡ self) × (still.control ≡ control)) }
     {
         keep_all(self.joined.as_slice());
@@ -320,7 +291,6 @@ impl<D: Duty> Crew<D> {
             alloc,
             running,
             joined,
-            paid,
             lost,
             notes,
             refuses,
@@ -344,7 +314,6 @@ impl<D: Duty> Crew<D> {
                     alloc,
                     running,
                     joined,
-                    paid,
                     lost,
                     notes,
                     refuses,

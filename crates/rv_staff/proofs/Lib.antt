@@ -1,3 +1,2 @@
 pub mod OneTurn
 pub mod Starting
-pub mod Texts

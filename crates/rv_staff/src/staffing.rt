@@ -5,7 +5,6 @@ ghost use Rattle.rv_behind.specs.Events.{catalogue_of};
 ghost use Rattle.rv_staff.specs.Giving.{GivesOne, SaidOfHire, Starts, actors_of};
 ghost use Rattle.rv_crew.specs.Hiring.{hired};
 ghost use Rattle.rv_staff.specs.Saying.{Says};
-ghost use Rattle.rv_staff.specs.declared.work.Work.{Work};
 
 use crate::hires::Hires;
 use crate::saying::{NO_MEMORY, say, say_no_thread};
@@ -48,7 +47,6 @@ fn work_of(session: &Session, actor: usize) -> Work {
 }
 
 // A thread for a line, with a channel for its raises.
-#[tactic(auto, using(crate::proofs::Starting::some_work, crate::proofs::Starting::this_work))]
 fn hire_line<H: Hires>(
     hires: &H,
     session: &mut Session,
@@ -56,7 +54,7 @@ fn hire_line<H: Hires>(
     port: Port,
 ) -> Result<(), HireFault>
     requires { port.turn ≡ session.old.staff.control.turn }
-    ensures { (work : Work) × (session.new.staff ≡ record session.old.staff { crew = hired session.old.staff.crew port work result }) }
+    ensures { session.new.staff ≡ record session.old.staff { crew = hired session.old.staff.crew port result } }
 {
     if session.channels.reserve(1).is_err() {
         return session.staff.give_up(port);
@@ -100,7 +98,6 @@ fn take_outsider(session: &mut Session, actor: usize) -> Option<Outsider>
 }
 
 // A thread for a task that belongs to another process, with the names of what is loaded by now.
-#[tactic(auto, using(crate::proofs::Starting::some_work, crate::proofs::Starting::this_work))]
 fn hire_outsider<H: Hires>(
     hires: &H,
     session: &mut Session,
@@ -108,7 +105,7 @@ fn hire_outsider<H: Hires>(
     port: Port,
 ) -> Result<(), HireFault>
     requires { port.turn ≡ session.old.staff.control.turn }
-    ensures { (work : Work) × (session.new.staff ≡ record session.old.staff { crew = hired session.old.staff.crew port work result }) }
+    ensures { session.new.staff ≡ record session.old.staff { crew = hired session.old.staff.crew port result } }
 {
     if session.enders.reserve(1).is_err() {
         return session.staff.give_up(port);
@@ -132,7 +129,6 @@ fn hire_outsider<H: Hires>(
 }
 
 // A thread for a task on its port: it serves the process that the task belongs to, or else does the task's own work.
-#[tactic(auto, using(crate::proofs::Starting::some_work, crate::proofs::Starting::this_work))]
 fn hire_task<H: Hires>(
     hires: &H,
     session: &mut Session,
@@ -140,7 +136,7 @@ fn hire_task<H: Hires>(
     port: Port,
 ) -> Result<(), HireFault>
     requires { port.turn ≡ session.old.staff.control.turn }
-    ensures { (work : Work) × (session.new.staff ≡ record session.old.staff { crew = hired session.old.staff.crew port work result }) }
+    ensures { session.new.staff ≡ record session.old.staff { crew = hired session.old.staff.crew port result } }
 {
     match take_outsider(session, actor) {
         Some(outsider) => hire_outsider(hires, session, outsider, port),
@@ -159,7 +155,7 @@ fn hire<H: Hires>(
     port: Port,
 ) -> Result<(), HireFault>
     requires { port.turn ≡ session.old.staff.control.turn }
-    ensures { (work : Work) × (session.new.staff ≡ record session.old.staff { crew = hired session.old.staff.crew port work result }) }
+    ensures { session.new.staff ≡ record session.old.staff { crew = hired session.old.staff.crew port result } }
 {
     if actor < FIRST_TASK {
         return hire_line(hires, session, actor.saturating_sub(1) as u8, port);
