@@ -1,5 +1,4 @@
 pub mod Actors
-pub mod Lasting
 pub mod Asking
 pub mod Gets
 pub mod Settles

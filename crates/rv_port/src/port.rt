@@ -21,7 +21,6 @@ use crate::bell::Bell;
 use crate::ended::Course;
 use crate::gate::{Gate, Open};
 use crate::note::Note;
-use crate::own_pass::OwnPass;
 use crate::reached::Reached;
 use crate::stacks::PortStack;
 use rv_behind::behind::Behind;
@@ -63,7 +62,7 @@ impl Drop for Port {
 
 /// A port that is done. Contracts see of it what they saw of the port.
 pub struct Finished {
-    pub(crate) pass: OwnPass,
+    pub(crate) pass: Pass<Behind>,
     is_refused: bool,
 }
 
@@ -105,7 +104,7 @@ impl Finished {
             pass,
             is_refused: _,
         } = self;
-        pass.into_pass()
+        pass
     }
 
     /// Whose port it was.
@@ -134,7 +133,7 @@ impl Finished {
 
 impl Port {
     // The port of a new pass.
-    pub(crate) fn new(pass: OwnPass, bell: Arc<Bell, Global>, stack: PortStack) -> Port
+    pub(crate) fn new(pass: Pass<Behind>, bell: Arc<Bell, Global>, stack: PortStack) -> Port
         requires given { pass.first ≡ false }
         requires limited { is_some pass.about ≡ true }
         requires fresh { pass.base ≡ [] }
