@@ -80,6 +80,7 @@ impl Control {
             given: _,
             catalogue: _,
             lists: _,
+            worded_from: _,
             stacks: _,
         } = self;
         meet_all(&mut pass, notes);
