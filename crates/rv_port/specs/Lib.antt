@@ -16,4 +16,3 @@ pub mod Ends
 pub mod Following
 pub mod Endings
 pub mod Viewing
-pub mod Budgets

@@ -4,7 +4,6 @@
 mod asker;
 mod bell;
 mod body;
-pub mod budget;
 pub mod control;
 pub mod ended;
 pub mod fault;
