@@ -6,4 +6,3 @@ pub mod Adding
 pub mod Changing
 pub mod Named
 pub mod Appending
-pub mod CoveredAnew
