@@ -75,8 +75,8 @@ rm -rf "$folder/c_audit/out"
 holds "the example builds by its own Makefile" make -C "$folder/c_audit" CFLAGS="-g $checks"
 c_audit=$folder/c_audit/out/c_audit
 
-holds "the header's stack is that of the crates" grep -q '^pub const STACK_BYTES: usize = 4 \* 1024 \* 1024;' \
-    "$top/crates/rv_unit/src/lib.rt"
+holds "the header's stack is that of the programs" grep -q '^#define RH_STACK_BYTES ((size_t)64 \* 1024 \* 1024)' "$top/include/ravenhost.h"
+holds "which is sixteen times that of the crates" grep -q '^pub const STACK_BYTES: usize = 4 \* 1024 \* 1024;' "$top/crates/rv_unit/src/lib.rt"
 
 # The deepest bodies need more stack than a first thread mostly has; c_audit has a thread of its own for that, and Ada's program not.
 ulimit -s 1048576 2>/dev/null || ulimit -s "$(ulimit -H -s)" 2>/dev/null || echo "no larger stack is to be had: deep rows may fail"

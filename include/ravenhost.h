@@ -29,9 +29,9 @@
  * - That the caller keeps to the types. `script` points to `length` bytes, which nobody writes during the call; `told` points to a text
  *   of its own, and its `bytes` to `capacity` bytes of their own, which nobody else reads or writes during the call. No pointer
  *   is null, not even where there are no bytes or values behind it (rh_text_over sees to that of a text).
- * - The caller's stack, which has to hold the reading of a script's texts: RH_STACK_BYTES do for any. The 8 MiB that a main thread
- *   mostly has are more than that; a thread of yours with less may overflow, which ends the program (examples/c_audit makes one that
- *   has them). Bodies run on a stack of their own, however deep they call.
+ * - The caller's stack, which has to hold the reading of a script's texts: it recurses as deep as a text nests, and the deepest was seen to
+ *   take 1.1 MB. RH_STACK_BYTES do for any, with room for other compilers' frames; a thread with too little overflows, which ends the
+ *   program (examples/c_audit makes one that has them). Bodies run on a stack of their own, however deep they call.
  * - The program's malloc, realloc and free: they are of one allocator, and align a block to each power of two up to 16 that divides its
  *   size. Make no call in a signal handler, or in the forked child of a process that had threads.
  * - That this file says of the exports what they are. The bench compares sizes and offsets.
@@ -48,7 +48,7 @@ extern "C" {
 #endif
 
 /* A stack that holds the reading of any script, in bytes of address space. */
-#define RH_STACK_BYTES ((size_t)4 * 1024 * 1024)
+#define RH_STACK_BYTES ((size_t)64 * 1024 * 1024)
 
 /* What a call ends with: the status that the program would have. */
 enum {

@@ -63,7 +63,7 @@ where
 
 // Unit texts are read on a thread whose stack is as wide as that of `ravenhost`.
 fn main(rt: HostRuntime) -> ExitCode {
-    let wide = thread::Builder::new().stack_size(STACK_BYTES);
+    let wide = thread::Builder::new().stack_size(16 * STACK_BYTES);
     match wide.spawn(&rt, move || carried_out(&rt, rt.alloc())) {
         Ok(thread) => ExitCode::from(thread.join(&rt)),
         Err(_) => {

@@ -442,9 +442,9 @@ fn run(rt: HostRuntime) -> io::Result<()> {
     }
 }
 
-// The bodies of a script run on a thread whose stack holds the deepest of them.
+// The texts of a script are read on a thread whose stack is as wide as that of `ravenhost`.
 fn main(rt: HostRuntime) -> io::Result<()> {
-    let wide = thread::Builder::new().stack_size(STACK_BYTES);
+    let wide = thread::Builder::new().stack_size(16 * STACK_BYTES);
     match wide.spawn(&rt, move || run(rt)) {
         Ok(thread) => thread.join(&rt),
         Err(_) => Err(io::Error::from(io::ErrorKind::OutOfMemory)),

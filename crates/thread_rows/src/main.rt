@@ -58,8 +58,8 @@ fn main(rt: HostRuntime) -> io::Result<()> {
     let hands = Hands {
         begin: Box::new(rt.alloc(), begin)?,
     };
-    // On a thread whose stack holds the deepest bodies, as in `ravenhost`.
-    let wide = thread::Builder::new().stack_size(STACK_BYTES);
+    // On a thread whose stack is as wide as that of `ravenhost`.
+    let wide = thread::Builder::new().stack_size(16 * STACK_BYTES);
     match wide.spawn(&rt, move || play_all(&rt, &hands)) {
         Ok(thread) => thread.join(&rt),
         Err(_) => Err(io::Error::from(io::ErrorKind::OutOfMemory)),
