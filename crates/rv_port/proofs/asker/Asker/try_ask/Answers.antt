@@ -28,3 +28,12 @@ invariant_of-self-2-clause-few g c = few_replied c.args.self.now.pass c.send.new
 
 pub returns-clause-reply : goal.returns-clause-reply
 returns-clause-reply g c = replied_act c.args.self.now.pass c.send.new.self c.args.letter.now.request c.send.new.letter.answer c.send.new.letter.begun c.send.new.letter.lent (Ok c.in-Ok.field-0) c.in-Ok.ensures.reply
+
+pub invariant_of-self-clause-fits : goal.invariant_of-self-clause-fits
+invariant_of-self-clause-fits g c = act_fits c.args.self.now.pass c.send.new.self (Wants.Step c.args.letter.now.request) (λ _. Gives.Answered c.send.new.letter.answer c.send.new.letter.begun c.send.new.letter.lent) c.send.result c.args.self.now.fits c.send.ensures.reply
+
+pub invariant_of-self-clause-handles : goal.invariant_of-self-clause-handles
+invariant_of-self-clause-handles g c = act_handles c.args.self.now.pass c.send.new.self (Wants.Step c.args.letter.now.request) (λ _. Gives.Answered c.send.new.letter.answer c.send.new.letter.begun c.send.new.letter.lent) c.send.result c.args.self.now.handles c.send.ensures.reply
+
+pub invariant_of-self-clause-owns : goal.invariant_of-self-clause-owns
+invariant_of-self-clause-owns g c = act_owns c.args.self.now.pass c.send.new.self (Wants.Step c.args.letter.now.request) (λ _. Gives.Answered c.send.new.letter.answer c.send.new.letter.begun c.send.new.letter.lent) c.send.result c.args.self.now.owns c.send.ensures.reply

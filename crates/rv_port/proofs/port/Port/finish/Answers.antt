@@ -7,3 +7,6 @@ pub returns-clause-quits : goal.returns-clause-quits
 returns-clause-quits g c =
     subst (λ (z : Porting). Quits (pass_of c.args.self) (pass_of z)) (sym c.finished.ensures.same)
     (subst (λ (z : Porting). Quits (pass_of z) c.quit.new.asker.pass) c.self.view_is c.quit.ensures.quits)
+
+pub finished-requires : goal.finished-requires
+finished-requires g c = record { explained = c.quit.ensures.explains c.self.invariant }
