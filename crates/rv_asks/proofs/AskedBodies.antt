@@ -9,17 +9,18 @@ use Rattle.rv_shape.specs.declared.kind.Kind.{Kind}
 use Rattle.rv_shape.specs.declared.kind.Kind.TheVariants.{Function, Procedure, Entry as EntryKind, Handler as HandlerKind}
 use Rattle.rv_shape.specs.declared.kind.Parameter.{Parameter}
 use Rattle.rv_shape.specs.declared.kind.Range.{Range}
-use Rattle.rv_shape.specs.Catalogue.{OperationNumber, numbered}
+use Rattle.rv_shape.specs.Catalogue.{OperationNumber, numbered, target}
 use Rattle.rv_shape.specs.Kinds.{holds}
 use Rattle.rv_shape.specs.Objects.{OperationShape, ProtectedShape}
 use Rattle.rv_shape.specs.Shape.{Shape}
 use Rattle.rv_code.specs.declared.expression.Callee.{Callee}
 use Rattle.rv_code.specs.Bodies.{Declaration, Handler, Body, UnitBodies}
 use Rattle.rv_code.specs.Statements.{Statements}
+use Rattle.rv_fits.specs.Calls.{such_in}
 use Rattle.rv_fits.specs.Fits.{callee_fits}
 use Rattle.rv_fits.proofs.Both.{first_of_both, second_of_both, both_hold}
 use Rattle.rv_history.specs.Fitting.{all_fit, ranges_out, results}
-use Rattle.rv_ranged.specs.Ranged.{Stand, of_operation, wanted, parameters_fit, kind_fits, result_of, stand_of, heads}
+use Rattle.rv_ranged.specs.Ranged.{Stand, of_operation, of_target, wanted, parameters_fit, kind_fits, result_of, stand_of, heads}
 use Rattle.rv_exec.specs.declared.activation.Activation.{Activation}
 use Rattle.rv_exec.specs.declared.end.Cause.TheVariants as cause
 use Rattle.rv_exec.specs.declared.end.End.{End}
@@ -38,14 +39,14 @@ use Rattle.rv_asks.proofs.Values.{component_ranges}
 use Rattle.rv_asks.proofs.Trees.{Left, IsKept, ReturnIn, EndLeft, RunEnds, asks_then, asks_here, asks_run, asks_next, run_goes}
 use Rattle.rv_asks.proofs.Suited.{StatementsSuit, DeclarationsSuit, HandlersSuit, BodySuits}
 use Rattle.rv_asks.proofs.Passed.{GivesSo, SuitsValues, four}
-use Rattle.rv_asks.proofs.AskedValues.{OutcomeLeft, ValuesIn, OutcomeIn, InnerEnds, AskingWorld, value_asks}
+use Rattle.rv_asks.proofs.AskedValues.{OutcomeLeft, ValuesIn, OutcomeIn, InnerEnds, near, AskingWorld, value_asks}
 use Rattle.rv_asks.proofs.AskedStatements.{assigned_ends, statements_ask}
 use Rattle.rv_asks.proofs.Bound.{given_back_fits, bound_kept}
 
 -- Blocks
 
 module _ (shapes : List Shape) (s : Stand) (here : List OperationNumber) (w : World) (k : AskingWorld shapes s.operations s.components here w) where
-  elaborated_asks : (ds : List Declaration) (next : OperationNumber) (a : Activation) → DeclarationsSuit shapes s ds → IsKept s a → Asks shapes (RunEnds s here) next here (elaborated w ds a)
+  elaborated_asks : (ds : List Declaration) (next : OperationNumber) (a : Activation) → DeclarationsSuit shapes (near shapes w) s ds → IsKept s a → Asks shapes (RunEnds s here) next here (elaborated w ds a)
   unfolding elaborated
   elaborated_asks [] next a m kept = (refl, kept)
   elaborated_asks (d ∷ more) next a m kept =
@@ -54,18 +55,18 @@ module _ (shapes : List Shape) (s : Stand) (here : List OperationNumber) (w : Wo
 
   -- a handler's statements run in a world of the same calls
   same_calls : (exception : Exception) → AskingWorld shapes s.operations s.components here (in_handler exception w)
-  same_calls exception = record { inner = k.inner; outer = k.outer }
+  same_calls exception = record { inner = k.inner; outer = k.outer; home = k.home }
 
   FoundSuits : Option Statements → Type 0
   FoundSuits None = Unit {0}
-  FoundSuits (Some ss) = StatementsSuit shapes s ss
+  FoundSuits (Some ss) = StatementsSuit shapes (near shapes w) s ss
 
-  found_either : (t : Bool) (ss : Statements) (o : Option Statements) → StatementsSuit shapes s ss → FoundSuits o → FoundSuits (cond t (Some ss) o)
+  found_either : (t : Bool) (ss : Statements) (o : Option Statements) → StatementsSuit shapes (near shapes w) s ss → FoundSuits o → FoundSuits (cond t (Some ss) o)
   unfolding FoundSuits
   found_either true ss o f g = f
   found_either false ss o f g = g
 
-  handler_found : (handlers : List Handler) (exception : Exception) → HandlersSuit shapes s handlers → FoundSuits (handler_of handlers exception)
+  handler_found : (handlers : List Handler) (exception : Exception) → HandlersSuit shapes (near shapes w) s handlers → FoundSuits (handler_of handlers exception)
   unfolding FoundSuits
   handler_found [] exception m = tt
   handler_found (h ∷ hs) exception m = found_either (named h.choices exception) h.statements (handler_of hs exception) m.0 (handler_found hs exception m.1)
@@ -77,7 +78,7 @@ module _ (shapes : List Shape) (s : Stand) (here : List OperationNumber) (w : Wo
   handling_asks exception (Some ss) e a later now m is f =
       asks_here shapes (RunEnds s here) later here now (meanings (in_handler exception w) ss a) is (statements_ask shapes s here (in_handler exception w) (same_calls exception) ss later a m f.1)
 
-  handled_asks : (handlers : List Handler) → HandlersSuit shapes s handlers → (later : OperationNumber) (now : List OperationNumber) (ran : End × Activation) → RunEnds s here now ran → Asks shapes (RunEnds s here) later now (handled w handlers ran)
+  handled_asks : (handlers : List Handler) → HandlersSuit shapes (near shapes w) s handlers → (later : OperationNumber) (now : List OperationNumber) (ran : End × Activation) → RunEnds s here now ran → Asks shapes (RunEnds s here) later now (handled w handlers ran)
   handled_asks handlers m later now (end.Next, a) f = f
   handled_asks handlers m later now (end.Exit, a) f = f
   handled_asks handlers m later now (end.Return v, a) f = f
@@ -86,7 +87,7 @@ module _ (shapes : List Shape) (s : Stand) (here : List OperationNumber) (w : Wo
   handled_asks handlers m later now (end.Abandoned cause.Overrun, a) f = f
   handled_asks handlers m later now (end.Abandoned (cause.Stopped is_idle), a) f = f
 
-  pub block_asks : (body : Body) (next : OperationNumber) (a : Activation) → BodySuits shapes s body → IsKept s a → Asks shapes (RunEnds s here) next here (block w body a)
+  pub block_asks : (body : Body) (next : OperationNumber) (a : Activation) → BodySuits shapes (near shapes w) s body → IsKept s a → Asks shapes (RunEnds s here) next here (block w body a)
   unfolding block
   block_asks body next a m kept =
       asks_next shapes s here next (elaborated w body.declarations a) (λ b. and_then (meanings w body.statements b) (handled w body.handlers)) (elaborated_asks body.declarations next a m.declarations kept)
@@ -133,10 +134,10 @@ outcome_in here now (HandlerKind line) ps false e values m f g = procedure_in (r
 -- Bodies of operations
 
 -- a body is one of an operation, if there is one
-abbrev pub BodyOf : List Shape → ProtectedShape → Option Body → Option OperationShape → Type 0
-BodyOf shapes object None operation = Unit {0}
-BodyOf shapes object (Some body) None = ⊥
-BodyOf shapes object (Some body) (Some operation) = (heads operation body ≡ true) × BodySuits shapes (stand_of object operation) body
+abbrev pub BodyOf : List Shape → ℕ → ProtectedShape → Option Body → Option OperationShape → Type 0
+BodyOf shapes number object None operation = Unit {0}
+BodyOf shapes number object (Some body) None = ⊥
+BodyOf shapes number object (Some body) (Some operation) = (heads operation body ≡ true) × BodySuits shapes (such_in (callee_fits shapes) number) (stand_of object operation) body
 
 no_outcome : (operation : Option OperationShape) → OutcomeIn operation (Err (cause.Raised ProgramError))
 no_outcome None = tt
@@ -159,7 +160,7 @@ module _ (shapes : List Shape) (object : ProtectedShape) (here : List OperationN
       (first_of_both (kind_fits body.is_function operation.kind) (nat_le (length operation.parameters) 4 && parameters_fit body.parameters operation.parameters) m) f.0
       (given_back_fits body.parameters operation.parameters a.slots (second_of_both (nat_le (length operation.parameters) 4) (parameters_fit body.parameters operation.parameters) sides) f.1.0 few))
 
-  body_asks : (w : World) → AskingWorld shapes object.operations object.components here w → (operation : Option OperationShape) (o : Option Body) → BodyOf shapes object o operation
+  body_asks : (w : World) → AskingWorld shapes object.operations object.components here w → (operation : Option OperationShape) (o : Option Body) → BodyOf shapes w.object object o operation
       → (next : OperationNumber) (values scalars : List ℤ) (steps : ℕ) → SuitsValues (of_operation operation) values → all_fit (component_ranges object.components) scalars ≡ true
       → Asks shapes (InnerEnds object.components operation here) next here (body_meaning w o values scalars steps)
   unfolding body_meaning
@@ -176,13 +177,14 @@ module _ (shapes : List Shape) (object : ProtectedShape) (here : List OperationN
 
   -- an object's operations, each of which has its body or none
   pub inner_asks : (bodies : UnitBodies) (number : ℕ) (outer : Callee → List ℤ → Asking Outcome)
-      → ((n : ℕ) → BodyOf shapes object (operation_of bodies number n) (numbered object.operations n))
+      → ((n : ℕ) → BodyOf shapes number object (operation_of bodies number n) (numbered object.operations n))
       → ((next : OperationNumber) (c : Callee) (values : List ℤ) → internal c ≡ None → callee_fits shapes c ≡ true → SuitsValues (wanted shapes object.operations c) values → Asks shapes (OutcomeLeft here) next here (outer c values))
+      → ((operation : ℕ) → of_operation (numbered object.operations operation) ≡ of_target (target shapes number operation))
       → (nested : ℕ) (next : OperationNumber) (operation : ℕ) (values scalars : List ℤ) (steps : ℕ) → SuitsValues (of_operation (numbered object.operations operation)) values → all_fit (component_ranges object.components) scalars ≡ true
       → Asks shapes (InnerEnds object.components (numbered object.operations operation) here) next here (inner_at bodies number outer nested operation values scalars steps)
   unfolding inner_at
-  inner_asks bodies number outer each f zero next operation values scalars steps suits fit = (refl, fit, no_overrun (numbered object.operations operation))
-  inner_asks bodies number outer each f (suc nested) next operation values scalars steps suits fit =
-      body_asks (record { inner = inner_at bodies number outer nested; outer = outer; is_task = false; handling = None })
-      (record { inner = λ later n vs cs left own comps. inner_asks bodies number outer each f nested later n vs cs left own comps; outer = f })
+  inner_asks bodies number outer each f home zero next operation values scalars steps suits fit = (refl, fit, no_overrun (numbered object.operations operation))
+  inner_asks bodies number outer each f home (suc nested) next operation values scalars steps suits fit =
+      body_asks (record { inner = inner_at bodies number outer nested; outer = outer; object = number; is_task = false; handling = None })
+      (record { inner = λ later n vs cs left own comps. inner_asks bodies number outer each f home nested later n vs cs left own comps; outer = f; home = home })
       (numbered object.operations operation) (operation_of bodies number operation) (each operation) next values scalars steps suits fit

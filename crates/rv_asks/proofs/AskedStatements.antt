@@ -32,7 +32,7 @@ use Rattle.rv_asks.proofs.Values.{within_cases, set_fits, set_slot, set_apart}
 use Rattle.rv_asks.proofs.Trees.{Left, IsKept, GotEnds, Any, ReturnIn, EndLeft, RunEnds, asks_if, asks_run, asks_next, asks_again}
 use Rattle.rv_asks.proofs.Suited.{ExpressionSuits, StatementSuits, StatementsSuit, BranchesSuit, AlternativesSuit}
 use Rattle.rv_asks.proofs.Passed.{GivesSo, suits_passed}
-use Rattle.rv_asks.proofs.AskedValues.{AskingWorld, value_asks, arguments_ask, passing_asks}
+use Rattle.rv_asks.proofs.AskedValues.{near, AskingWorld, value_asks, arguments_ask, passing_asks}
 
 module _ (s : Stand) (here : List OperationNumber) where
   -- Targets
@@ -128,7 +128,7 @@ module _ (shapes : List Shape) (s : Stand) (here : List OperationNumber) (w : Wo
   mutual
     unfolding meaning
 
-    statement_asks : (x : Statement) (next : OperationNumber) (a : Activation) → StatementSuits shapes s x → IsKept s a → Asks shapes (RunEnds s here) next here (meaning w x a)
+    statement_asks : (x : Statement) (next : OperationNumber) (a : Activation) → StatementSuits shapes (near shapes w) s x → IsKept s a → Asks shapes (RunEnds s here) next here (meaning w x a)
     statement_asks null_statement next a m kept = (refl, kept)
     statement_asks (assign target e) next a m kept =
         asks_run shapes s here (GivesSo e) next (value w e a) (λ v b. ended (assigned target v b)) (value_asks shapes s here w k e next a m.1 kept) (λ later v b g more. assigned_ends s here target v b m.0 more)
@@ -153,20 +153,20 @@ module _ (shapes : List Shape) (s : Stand) (here : List OperationNumber) (w : Wo
         (passing_asks shapes s here w k next c es (arguments w es [] a) m.0 (λ values p. suits_passed (wanted shapes s.operations c) es values m.1 p) (arguments_ask shapes s here w k es next [] a m.2 kept))
         (λ later given b p more. copied_ends s here targets 0 given b m.3 more)
 
-    pub statements_ask : (ss : Statements) (next : OperationNumber) (a : Activation) → StatementsSuit shapes s ss → IsKept s a → Asks shapes (RunEnds s here) next here (meanings w ss a)
+    pub statements_ask : (ss : Statements) (next : OperationNumber) (a : Activation) → StatementsSuit shapes (near shapes w) s ss → IsKept s a → Asks shapes (RunEnds s here) next here (meanings w ss a)
     statements_ask no_statements next a m kept = (refl, kept)
     statements_ask (and_statement x more) next a m kept =
         step_asks shapes s here next a (λ b. and_then (meaning w x b) (go_on (meanings w more)))
         (λ later b still. asks_next shapes s here later (meaning w x b) (meanings w more) (statement_asks x later b m.0 still) (λ last c then_kept. statements_ask more last c m.1 then_kept)) kept
 
-    branches_ask : (branches : Branches) (next : OperationNumber) (otherwise : Activation → Run) (a : Activation) → BranchesSuit shapes s branches
+    branches_ask : (branches : Branches) (next : OperationNumber) (otherwise : Activation → Run) (a : Activation) → BranchesSuit shapes (near shapes w) s branches
         → ((later : OperationNumber) (b : Activation) → IsKept s b → Asks shapes (RunEnds s here) later here (otherwise b)) → IsKept s a → Asks shapes (RunEnds s here) next here (first_true w branches otherwise a)
     branches_ask no_branches next otherwise a m f kept = f next a kept
     branches_ask (and_branch e ss more) next otherwise a m f kept =
         asks_run shapes s here (GivesSo e) next (value w e a) (λ v b. cond (is_true v) (meanings w ss b) (first_true w more otherwise b)) (value_asks shapes s here w k e next a m.0 kept)
         (λ later v b g still. asks_if shapes (RunEnds s here) later here (is_true v) (meanings w ss b) (first_true w more otherwise b) (statements_ask ss later b m.1 still) (branches_ask more later otherwise b m.2 f still))
 
-    alternatives_ask : (alternatives : Alternatives) (next : OperationNumber) (v : ℤ) (a : Activation) → AlternativesSuit shapes s alternatives → IsKept s a → Asks shapes (RunEnds s here) next here (selected w alternatives v a)
+    alternatives_ask : (alternatives : Alternatives) (next : OperationNumber) (v : ℤ) (a : Activation) → AlternativesSuit shapes (near shapes w) s alternatives → IsKept s a → Asks shapes (RunEnds s here) next here (selected w alternatives v a)
     alternatives_ask no_alternatives next v a m kept = (refl, kept)
     alternatives_ask (and_alternative choices ss more) next v a m kept =
         asks_if shapes (RunEnds s here) next here (covered choices v) (meanings w ss a) (selected w more v a) (statements_ask ss next a m.0 kept) (alternatives_ask more next v a m.1 kept)

@@ -8,10 +8,11 @@ use Rattle.rv_event.specs.declared.entry.Exception.TheVariants.{ConstraintError}
 use Rattle.rv_shape.specs.declared.kind.Component.{Component}
 use Rattle.rv_shape.specs.declared.kind.Parameter.{Parameter}
 use Rattle.rv_shape.specs.declared.kind.Range.{Range}
-use Rattle.rv_shape.specs.Catalogue.{OperationNumber, numbered}
+use Rattle.rv_shape.specs.Catalogue.{OperationNumber, numbered, target}
 use Rattle.rv_shape.specs.Kinds.{holds}
 use Rattle.rv_shape.specs.Objects.{OperationShape}
 use Rattle.rv_shape.specs.Shape.{Shape}
+use Rattle.rv_code.specs.Callees.{of_object}
 use Rattle.rv_code.specs.declared.expression.Callee.{Callee}
 use Rattle.rv_code.specs.declared.expression.Callee.TheVariants as callee
 use Rattle.rv_code.specs.declared.expression.Operator.{Operator}
@@ -20,9 +21,10 @@ use Rattle.rv_code.specs.declared.expression.Prefix.{Prefix}
 use Rattle.rv_code.specs.declared.expression.Prefix.TheVariants as prefix
 use Rattle.rv_code.specs.Expressions.{Expression, literal, variable, component, prefixed, chain, call, Expressions, no_expressions, and_expression, Links, no_links, and_link}
 use Rattle.rv_code.specs.Expressions as code
+use Rattle.rv_fits.specs.Calls.{such_in}
 use Rattle.rv_fits.specs.Fits.{callee_fits}
 use Rattle.rv_history.specs.Fitting.{all_fit, results}
-use Rattle.rv_ranged.specs.Ranged.{covers, gives, Stand, of_operation, wanted}
+use Rattle.rv_ranged.specs.Ranged.{gives, Stand, of_operation, of_target, wanted}
 use Rattle.rv_exec.specs.declared.activation.Activation.{Activation}
 use Rattle.rv_exec.specs.declared.end.Cause.{Cause}
 use Rattle.rv_exec.specs.declared.end.Cause.TheVariants as cause
@@ -58,13 +60,18 @@ abbrev pub InnerEnds : List Component → Option OperationShape → List Operati
 InnerEnds components operation here now got =
     OutcomeLeft here now got.0 × (all_fit (component_ranges components) got.1.0 ≡ true) × OutcomeIn operation got.0
 
--- what statements call asks what fits
+-- what may be called in a world
+abbrev pub near : List Shape → World → Callee → Bool
+near shapes w = such_in (callee_fits shapes) w.object
+
+-- what statements call asks what fits, and they stand in the object of these operations
 pub record AskingWorld (shapes : List Shape) (operations : List OperationShape) (components : List Component) (here : List OperationNumber) (w : World) : Type 0 where
   pub inner : (next : OperationNumber) (operation : ℕ) (values scalars : List ℤ) (steps : ℕ) → SuitsValues (of_operation (numbered operations operation)) values
       → all_fit (component_ranges components) scalars ≡ true
       → Asks shapes (InnerEnds components (numbered operations operation) here) next here (w.inner operation values scalars steps)
   pub outer : (next : OperationNumber) (c : Callee) (values : List ℤ) → internal c ≡ None → callee_fits shapes c ≡ true → SuitsValues (wanted shapes operations c) values
       → Asks shapes (OutcomeLeft here) next here (w.outer c values)
+  pub home : (operation : ℕ) → of_operation (numbered operations operation) ≡ of_target (target shapes w.object operation)
 
 -- nothing is claimed of a value, since no range is given by such an expression
 abbrev pub Silent : ℤ → Type 0
@@ -109,6 +116,11 @@ own_wanted shapes operations (callee.Internal own) operation e = ap by_option e 
   by_option (Some n) = of_operation (numbered operations n)
 own_wanted shapes operations c operation e = absurd (cc e)
 
+-- what is called inside an object is no entry
+still_asked : (object : ℕ) (c : Callee) → internal (of_object object c) ≡ internal c
+still_asked object (callee.OwnEntry operation) = refl
+still_asked object c = refl
+
 module _ (shapes : List Shape) (s : Stand) (here : List OperationNumber) (w : World) (k : AskingWorld shapes s.operations s.components here w) where
   -- Calls
 
@@ -140,20 +152,24 @@ module _ (shapes : List Shape) (s : Stand) (here : List OperationNumber) (w : Wo
   returned_asks operation a kept later now (Ok values, (components, steps)) e = ((e.0, tt), (kept.0, e.1))
   returned_asks operation a kept later now (Err why, (components, steps)) e = (e.0, (kept.0, e.1))
 
-  called_so : (next : OperationNumber) (o : Option ℕ) (c : Callee) (values : List ℤ) (a : Activation) → internal c ≡ o → callee_fits shapes c ≡ true → SuitsValues (wanted shapes s.operations c) values
-      → IsKept s a → Asks shapes (GotEnds s Any here) next here (called_by w o c values a)
+  own_suits : (c : Callee) (values : List ℤ) → SuitsValues (wanted shapes s.operations c) values → SuitsValues (wanted shapes s.operations (of_object w.object c)) values
+  own_suits (callee.OwnEntry operation) values suits = subst (λ (o : Option (List Parameter)). SuitsValues o values) (k.home operation) suits
+  own_suits c values suits = suits
+
+  called_so : (next : OperationNumber) (o : Option ℕ) (c : Callee) (values : List ℤ) (a : Activation) → internal c ≡ o → near shapes w c ≡ true → SuitsValues (wanted shapes s.operations c) values
+      → IsKept s a → Asks shapes (GotEnds s Any here) next here (called_by w o (of_object w.object c) values a)
   called_so next (Some operation) c values a own fits suits kept =
       asks_then shapes (InnerEnds s.components (numbered s.operations operation) here) (GotEnds s Any here) next here (w.inner operation values a.components a.steps) (returned a)
       (k.inner next operation values a.components a.steps (subst (λ (o : Option (List Parameter)). SuitsValues o values) (own_wanted shapes s.operations c operation own) suits) kept.1)
       (returned_asks operation a kept)
-  called_so next None c values a outer fits suits kept = asked_spent next c values a w.is_task outer fits suits kept
+  called_so next None c values a outer fits suits kept = asked_spent next (of_object w.object c) values a w.is_task (still_asked w.object c ∙ outer) fits (own_suits c values suits) kept
 
-  called_asks : (next : OperationNumber) (c : Callee) (values : List ℤ) (a : Activation) → callee_fits shapes c ≡ true → SuitsValues (wanted shapes s.operations c) values → IsKept s a
+  called_asks : (next : OperationNumber) (c : Callee) (values : List ℤ) (a : Activation) → near shapes w c ≡ true → SuitsValues (wanted shapes s.operations c) values → IsKept s a
       → Asks shapes (GotEnds s Any here) next here (called w c values a)
   unfolding called
   called_asks next c values a fits suits kept = called_so next (internal c) c values a refl fits suits kept
 
-  pub passing_asks : (next : OperationNumber) (c : Callee) (es : Expressions) (what : Asking GotAll) → callee_fits shapes c ≡ true
+  pub passing_asks : (next : OperationNumber) (c : Callee) (es : Expressions) (what : Asking GotAll) → near shapes w c ≡ true
       → ((values : List ℤ) → Passed [] es values → SuitsValues (wanted shapes s.operations c) values)
       → Asks shapes (GotEnds s (Passed [] es) here) next here what → Asks shapes (GotEnds s Any here) next here (passing w c what)
   passing_asks next c es what fits suits f =
@@ -166,7 +182,7 @@ module _ (shapes : List Shape) (s : Stand) (here : List OperationNumber) (w : Wo
   mutual
     unfolding value
 
-    pub value_asks : (e : Expression) (next : OperationNumber) (a : Activation) → ExpressionSuits shapes s e → IsKept s a → Asks shapes (GotEnds s (GivesSo e) here) next here (value w e a)
+    pub value_asks : (e : Expression) (next : OperationNumber) (a : Activation) → ExpressionSuits shapes (near shapes w) s e → IsKept s a → Asks shapes (GotEnds s (GivesSo e) here) next here (value w e a)
     value_asks (literal n) next a m kept = ((refl, λ range e. e), kept)
     value_asks (variable slot) next a m kept = ((refl, silent (slice_index_or a.slots slot (pos 0))), kept)
     value_asks (component index) next a m kept = ((refl, silent (slice_index_or a.components index (pos 0))), kept)
@@ -181,7 +197,7 @@ module _ (shapes : List Shape) (s : Stand) (here : List OperationNumber) (w : Wo
         asks_then shapes (GotEnds s Any here) (GotEnds s Silent here) next here (passing w c (arguments w es [] a)) given
         (passing_asks next c es (arguments w es [] a) m.0 (λ values p. suits_passed (wanted shapes s.operations c) es values m.1 p) (arguments_ask es next [] a m.2 kept)) given_asks
 
-    linked_asks : (links : Links) (next : OperationNumber) (v : ℤ) (a : Activation) → LinksSuit shapes s links → IsKept s a → Asks shapes (GotEnds s Silent here) next here (linked w links v a)
+    linked_asks : (links : Links) (next : OperationNumber) (v : ℤ) (a : Activation) → LinksSuit shapes (near shapes w) s links → IsKept s a → Asks shapes (GotEnds s Silent here) next here (linked w links v a)
     linked_asks no_links next v a m kept = ((refl, silent v), kept)
     linked_asks (and_link op e more) next v a m kept =
         asks_if shapes (GotEnds s Silent here) next here (decides op v) (linked w more v a) (and_then (value w e a) (on_value fails (λ u b. on_value fails (linked w more) (result_of op v u, b))))
@@ -189,7 +205,7 @@ module _ (shapes : List Shape) (s : Stand) (here : List OperationNumber) (w : Wo
         (asks_value shapes s here (GivesSo e) Silent next (value w e a) (λ u b. on_value fails (linked w more) (result_of op v u, b)) (value_asks e next a m.0 kept)
         (λ later u b g still. value_goes shapes s here Silent Silent (linked w more) (λ last x c h kept. linked_asks more last x c m.1 kept) later here (result_of op v u, b) (result_left here op v u, still)))
 
-    pub arguments_ask : (es : Expressions) (next : OperationNumber) (before : List ℤ) (a : Activation) → ExpressionsSuit shapes s es → IsKept s a → Asks shapes (GotEnds s (Passed before es) here) next here (arguments w es before a)
+    pub arguments_ask : (es : Expressions) (next : OperationNumber) (before : List ℤ) (a : Activation) → ExpressionsSuit shapes (near shapes w) s es → IsKept s a → Asks shapes (GotEnds s (Passed before es) here) next here (arguments w es before a)
     arguments_ask no_expressions next before a m kept = ((refl, passed_none before), kept)
     arguments_ask (and_expression e es) next before a m kept =
         asks_value shapes s here (GivesSo e) (Passed before (and_expression e es)) next (value w e a) (λ v b. arguments w es (joined before v) b) (value_asks e next a m.0 kept)

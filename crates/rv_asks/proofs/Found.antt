@@ -9,11 +9,12 @@ use Rattle.rv_shape.specs.Catalogue.{Site, Target, Nowhere, OnProtected, OnSuspe
 use Rattle.rv_shape.specs.Objects.{OperationShape, ProtectedShape}
 use Rattle.rv_shape.specs.Shape.{Shape}
 use Rattle.rv_code.specs.Bodies.{Body, UnitBodies}
-use Rattle.rv_fits.specs.Calls.{body_calls, object_calls, task_calls}
+use Rattle.rv_fits.specs.Calls.{task_calls, such_in}
 use Rattle.rv_fits.specs.Fits.{callee_fits}
 use Rattle.rv_fits.proofs.Both.{first_of_both, second_of_both}
-use Rattle.rv_ranged.specs.Ranged.{stand_of, heads, body_ranged, operation_ranged, operations_ranged, object_ranged, objects_ranged, task_stand, task_ranged}
+use Rattle.rv_ranged.specs.Ranged.{of_operation, of_target, stand_of, heads, body_ranged, operation_ranged, operations_ranged, object_ranged, objects_ranged, task_stand, task_ranged}
 use Rattle.rv_exec.specs.Bodies.{flat, among, operation_of, task_of}
+use Rattle.rv_exec.proofs.KeptBodies.{operation_calls, task_found}
 use Rattle.rv_asks.specs.Asks.{AreRanged}
 use Rattle.rv_asks.proofs.Suited.{BodySuits, body_suits}
 use Rattle.rv_asks.proofs.AskedBodies.{BodyOf}
@@ -68,25 +69,42 @@ site_at shapes object operation site is = by_place (place shapes object) refl is
   by_place None p e = absurd (cc e)
   by_place (Some at) p e = by_object at p at.object refl e
 
+-- what is wanted of the operations of its object is what is wanted by their numbers
+pub home_of : (shapes : List Shape) (object operation : ℕ) (site : Site) → AtSite shapes object operation site → (n : ℕ) → of_operation (numbered site.object.operations n) ≡ of_target (target shapes object n)
+home_of shapes object operation site at n =
+    at_home (numbered site.object.operations n) at.at.unit site.object
+    ∙ (ap (λ (x : Object). of_target (at_object n at.at.unit x)) (sym at.object_is) ∙ ap (λ (o : Option UnitObject). of_target (at_unit_object n o)) (sym at.place_is)) where
+  at_home : (o : Option OperationShape) (unit : List ℕ) (found : ProtectedShape) → of_operation o ≡ of_target (at_operation unit found o)
+  at_home None unit found = refl
+  at_home (Some own) unit found = refl
+
 -- Which body it has
 
-each_body : (shapes : List Shape) (object : ProtectedShape) (operations : List OperationShape) (bs : List Body) (i : ℕ) → operations_ranged shapes object operations bs ≡ true → list_all (body_calls (callee_fits shapes)) bs ≡ true
-    → BodyOf shapes object (slice_get bs i) (slice_get operations i)
-each_body shapes object operations [] i m c = tt
-each_body shapes object [] (b ∷ bs) i m c = absurd (cc m)
-each_body shapes object (operation ∷ operations) (b ∷ bs) zero m c =
-    let here = first_of_both (operation_ranged shapes object operation b) (operations_ranged shapes object operations bs) m in
-    (first_of_both (heads operation b) (body_ranged shapes (stand_of object operation) b) here,
-    body_suits shapes (stand_of object operation) b (first_of_both (body_calls (callee_fits shapes) b) (list_all (body_calls (callee_fits shapes)) bs) c) (second_of_both (heads operation b) (body_ranged shapes (stand_of object operation) b) here))
-each_body shapes object (operation ∷ operations) (b ∷ bs) (suc i) m c =
-    each_body shapes object operations bs i (second_of_both (operation_ranged shapes object operation b) (operations_ranged shapes object operations bs) m) (second_of_both (body_calls (callee_fits shapes) b) (list_all (body_calls (callee_fits shapes)) bs) c)
+-- a body is ranged as one of this operation
+abbrev RangedOf : List Shape → ProtectedShape → Option Body → Option OperationShape → Type 0
+RangedOf shapes object None operation = Unit {0}
+RangedOf shapes object (Some body) None = ⊥
+RangedOf shapes object (Some body) (Some operation) = operation_ranged shapes object operation body ≡ true
 
-numbered_body : (shapes : List Shape) (object : ProtectedShape) (bs : List Body) (n : ℕ) → operations_ranged shapes object object.operations bs ≡ true → list_all (body_calls (callee_fits shapes)) bs ≡ true
-    → BodyOf shapes object (among (Some bs) n) (numbered object.operations n)
-numbered_body shapes object bs n m c = by_test (nat_lt n 1) (each_body shapes object object.operations bs (n - 1) m c) where
-  by_test : (k : Bool) → BodyOf shapes object (slice_get bs (n - 1)) (slice_get object.operations (n - 1)) → BodyOf shapes object (cond k None (slice_get bs (n - 1))) (cond k None (slice_get object.operations (n - 1)))
+each_body : (shapes : List Shape) (object : ProtectedShape) (operations : List OperationShape) (bs : List Body) (i : ℕ) → operations_ranged shapes object operations bs ≡ true → RangedOf shapes object (slice_get bs i) (slice_get operations i)
+each_body shapes object operations [] i m = tt
+each_body shapes object [] (b ∷ bs) i m = absurd (cc m)
+each_body shapes object (operation ∷ operations) (b ∷ bs) zero m = first_of_both (operation_ranged shapes object operation b) (operations_ranged shapes object operations bs) m
+each_body shapes object (operation ∷ operations) (b ∷ bs) (suc i) m = each_body shapes object operations bs i (second_of_both (operation_ranged shapes object operation b) (operations_ranged shapes object operations bs) m)
+
+numbered_body : (shapes : List Shape) (object : ProtectedShape) (bs : List Body) (n : ℕ) → operations_ranged shapes object object.operations bs ≡ true → RangedOf shapes object (among (Some bs) n) (numbered object.operations n)
+numbered_body shapes object bs n m = by_test (nat_lt n 1) (each_body shapes object object.operations bs (n - 1) m) where
+  by_test : (k : Bool) → RangedOf shapes object (slice_get bs (n - 1)) (slice_get object.operations (n - 1)) → RangedOf shapes object (cond k None (slice_get bs (n - 1))) (cond k None (slice_get object.operations (n - 1)))
   by_test true f = tt
   by_test false f = f
+
+-- one that calls what it may, too
+body_of : (shapes : List Shape) (number : ℕ) (object : ProtectedShape) (o : Option Body) (operation : Option OperationShape) → RangedOf shapes object o operation → task_calls (such_in (callee_fits shapes) number) o ≡ true → BodyOf shapes number object o operation
+body_of shapes number object None operation m c = tt
+body_of shapes number object (Some body) None m c = m
+body_of shapes number object (Some body) (Some operation) m c =
+    (first_of_both (heads operation body) (body_ranged shapes (stand_of object operation) body) m,
+    body_suits shapes (such_in (callee_fits shapes) number) (stand_of object operation) body c (second_of_both (heads operation body) (body_ranged shapes (stand_of object operation) body) m))
 
 -- Which object it is one of
 
@@ -105,15 +123,6 @@ objects_at shapes [] (bs ∷ lists) i m = tt
 objects_at shapes (at ∷ objects) (bs ∷ lists) zero m = first_of_both (object_ranged shapes at.object bs) (objects_ranged shapes (map (λ (at : UnitObject). at.object) objects) lists) m
 objects_at shapes (at ∷ objects) (bs ∷ lists) (suc i) m = objects_at shapes objects lists i (second_of_both (object_ranged shapes at.object bs) (objects_ranged shapes (map (λ (at : UnitObject). at.object) objects) lists) m)
 
-abbrev AllCall : List Shape → Option (List Body) → Type 0
-AllCall shapes None = Unit {0}
-AllCall shapes (Some bs) = object_calls (callee_fits shapes) bs ≡ true
-
-lists_call : (shapes : List Shape) (lists : List (List Body)) (i : ℕ) → list_all (object_calls (callee_fits shapes)) lists ≡ true → AllCall shapes (slice_get lists i)
-lists_call shapes [] i m = tt
-lists_call shapes (bs ∷ lists) zero m = first_of_both (object_calls (callee_fits shapes) bs) (list_all (object_calls (callee_fits shapes)) lists) m
-lists_call shapes (bs ∷ lists) (suc i) m = lists_call shapes lists i (second_of_both (object_calls (callee_fits shapes) bs) (list_all (object_calls (callee_fits shapes)) lists) m)
-
 module _ (shapes : List Shape) (bodies : UnitBodies) (m : AreRanged shapes bodies) where
   both_numbered : (n : ℕ) → BothRanged shapes (place shapes n) (numbered bodies.objects n)
   both_numbered n = by_test (nat_lt n 1) (objects_at shapes (all_objects shapes) bodies.objects (n - 1) (first_of_both (objects_ranged shapes (map (λ (at : UnitObject). at.object) (all_objects shapes)) bodies.objects) (list_all (task_ranged shapes) bodies.tasks) m.ranges)) where
@@ -121,39 +130,38 @@ module _ (shapes : List Shape) (bodies : UnitBodies) (m : AreRanged shapes bodie
     by_test true f = tt
     by_test false f = f
 
-  call_numbered : (n : ℕ) → AllCall shapes (numbered bodies.objects n)
-  call_numbered n = by_test (nat_lt n 1) (lists_call shapes bodies.objects (n - 1) (first_of_both (list_all (object_calls (callee_fits shapes)) bodies.objects) (list_all (task_calls (callee_fits shapes)) bodies.tasks) m.calls)) where
-    by_test : (k : Bool) → AllCall shapes (slice_get bodies.objects (n - 1)) → AllCall shapes (cond k None (slice_get bodies.objects (n - 1)))
-    by_test true f = tt
-    by_test false f = f
-
-  found_in : (at : UnitObject) (object : ProtectedShape) (n : ℕ) (o : Option (List Body)) → at.object ≡ Protected object → BothRanged shapes (Some at) o → AllCall shapes o → BodyOf shapes object (among o n) (numbered object.operations n)
-  found_in at object n None is f c = tt
-  found_in at object n (Some bs) is f c = numbered_body shapes object bs n (ap (λ (x : Object). object_ranged shapes x bs) (sym is) ∙ f) c
+  ranged_in : (at : UnitObject) (object : ProtectedShape) (n : ℕ) (o : Option (List Body)) → at.object ≡ Protected object → BothRanged shapes (Some at) o → RangedOf shapes object (among o n) (numbered object.operations n)
+  ranged_in at object n None is f = tt
+  ranged_in at object n (Some bs) is f = numbered_body shapes object bs n (ap (λ (x : Object). object_ranged shapes x bs) (sym is) ∙ f)
 
   -- each operation of an object has its body or none
-  pub bodies_of : (object operation : ℕ) (site : Site) → AtSite shapes object operation site → (n : ℕ) → BodyOf shapes site.object (operation_of bodies object n) (numbered site.object.operations n)
+  pub bodies_of : (object operation : ℕ) (site : Site) → AtSite shapes object operation site → (n : ℕ) → BodyOf shapes object site.object (operation_of bodies object n) (numbered site.object.operations n)
   bodies_of object operation site at n =
-      found_in at.at site.object n (numbered bodies.objects object) at.object_is (subst (λ (o : Option UnitObject). BothRanged shapes o (numbered bodies.objects object)) at.place_is (both_numbered object)) (call_numbered object)
+      body_of shapes object site.object (operation_of bodies object n) (numbered site.object.operations n)
+      (ranged_in at.at site.object n (numbered bodies.objects object) at.object_is (subst (λ (o : Option UnitObject). BothRanged shapes o (numbered bodies.objects object)) at.place_is (both_numbered object)))
+      (operation_calls (callee_fits shapes) bodies object n m.calls)
 
   -- Tasks
 
   abbrev pub TaskSuits : Option Body → Type 0
   TaskSuits None = Unit {0}
-  TaskSuits (Some body) = BodySuits shapes task_stand body
+  TaskSuits (Some body) = BodySuits shapes (such_in (callee_fits shapes) 0) task_stand body
 
-  tasks_at : (tasks : List (Option Body)) (i : ℕ) → list_all (task_calls (callee_fits shapes)) tasks ≡ true → list_all (task_ranged shapes) tasks ≡ true → TaskSuits (flat (slice_get tasks i))
-  tasks_at [] i c r = tt
-  tasks_at (None ∷ tasks) zero c r = tt
-  tasks_at (Some body ∷ tasks) zero c r =
-      body_suits shapes task_stand body (first_of_both (body_calls (callee_fits shapes) body) (list_all (task_calls (callee_fits shapes)) tasks) c) (first_of_both (body_ranged shapes task_stand body) (list_all (task_ranged shapes) tasks) r)
-  tasks_at (o ∷ tasks) (suc i) c r =
-      tasks_at tasks i (second_of_both (task_calls (callee_fits shapes) o) (list_all (task_calls (callee_fits shapes)) tasks) c) (second_of_both (task_ranged shapes o) (list_all (task_ranged shapes) tasks) r)
+  task_both : (o : Option Body) → task_calls (such_in (callee_fits shapes) 0) o ≡ true → task_ranged shapes o ≡ true → TaskSuits o
+  task_both None c r = tt
+  task_both (Some body) c r = body_suits shapes (such_in (callee_fits shapes) 0) task_stand body c r
+
+  tasks_at : (tasks : List (Option Body)) (i : ℕ) → list_all (task_ranged shapes) tasks ≡ true → task_ranged shapes (flat (slice_get tasks i)) ≡ true
+  tasks_at [] i r = refl
+  tasks_at (o ∷ tasks) zero r = first_of_both (task_ranged shapes o) (list_all (task_ranged shapes) tasks) r
+  tasks_at (o ∷ tasks) (suc i) r = tasks_at tasks i (second_of_both (task_ranged shapes o) (list_all (task_ranged shapes) tasks) r)
+
+  ranged_unless : (k : Bool) (o : Option Body) → task_ranged shapes o ≡ true → task_ranged shapes (cond k None o) ≡ true
+  ranged_unless true o r = refl
+  ranged_unless false o r = r
 
   pub task_suits : (actor : ℕ) → TaskSuits (task_of bodies actor)
-  task_suits actor = by_test (nat_lt actor 11)
-      (tasks_at bodies.tasks (actor - 11) (second_of_both (list_all (object_calls (callee_fits shapes)) bodies.objects) (list_all (task_calls (callee_fits shapes)) bodies.tasks) m.calls)
-      (second_of_both (objects_ranged shapes (map (λ (at : UnitObject). at.object) (all_objects shapes)) bodies.objects) (list_all (task_ranged shapes) bodies.tasks) m.ranges)) where
-    by_test : (k : Bool) → TaskSuits (flat (slice_get bodies.tasks (actor - 11))) → TaskSuits (cond k None (flat (slice_get bodies.tasks (actor - 11))))
-    by_test true f = tt
-    by_test false f = f
+  task_suits actor =
+      task_both (task_of bodies actor) (task_found (callee_fits shapes) bodies actor m.calls)
+      (ranged_unless (nat_lt actor 11) (flat (slice_get bodies.tasks (actor - 11)))
+      (tasks_at bodies.tasks (actor - 11) (second_of_both (objects_ranged shapes (map (λ (at : UnitObject). at.object) (all_objects shapes)) bodies.objects) (list_all (task_ranged shapes) bodies.tasks) m.ranges)))

@@ -114,6 +114,7 @@ is_a_time (v ∷ vs) e = first_of_both (holds time_parameter.range v) (all_fit [
 
 pub callee_suits : (shapes : List Shape) (own : List OperationShape) (holding : ℕ) (c : Callee) (values : List ℤ) → callee_fits shapes c ≡ true → SuitsValues (wanted shapes own c) values → CalleeSuits shapes holding c values
 callee_suits shapes own holding (callee.Internal operation) values e suits = tt
+callee_suits shapes own holding (callee.OwnEntry operation) values e suits = tt
 callee_suits shapes own holding (callee.Function object operation) values e suits = calls_a_function shapes object operation values (target shapes object operation) refl e suits
 callee_suits shapes own holding (callee.Procedure object operation) values e suits = calls_a_procedure shapes object operation values (target shapes object operation) refl e suits
 callee_suits shapes own holding (callee.Entry object operation) values e suits = calls_an_entry shapes object operation values (target shapes object operation) refl e suits
@@ -235,6 +236,7 @@ module _ (shapes : List Shape) (here : List OperationNumber) (left : ℕ) (value
 
   callee_may : (c : Callee) → CalleeSuits shapes (length here) c values → (is_protected c ≡ true → length here < 16) → may_ask shapes here (request_of c values) ≡ true
   callee_may (callee.Internal operation) suits few = refl
+  callee_may (callee.OwnEntry operation) suits few = refl
   callee_may (callee.Function object operation) suits few = protected_may object operation true suits (few refl)
   callee_may (callee.Procedure object operation) suits few = protected_may object operation false suits (few refl)
   callee_may (callee.Entry object operation) suits few = protected_may object operation false suits (few refl)

@@ -1,6 +1,6 @@
 -- Whole runs ask what fits.
 use Rattle.std.proofs.Common.{◌≡◌, ℕ, zero, suc, ◌+◌, ◌-◌, ◌≤◌, ◌<◌, ℤ, pos, List, [], ◌∷◌, length, map, replicate, Bool, true, false, cond, Option, Some, None, Ok, Err, refl, sym, ap, ◌∙◌, subst, arith}
-use Rattle.std.specs.Prelude.{◌&&◌, if◌then◌else◌}
+use Rattle.std.specs.Prelude.{◌&&◌, nat_lt, slice_get}
 use Rattle.rv_event.specs.declared.entry.Answer.{Answer}
 use Rattle.rv_event.specs.declared.entry.Answer.TheVariants as answer
 use Rattle.rv_event.specs.declared.entry.Exception.TheVariants.{ProgramError}
@@ -18,7 +18,7 @@ use Rattle.rv_code.specs.Bodies.{Body, UnitBodies}
 use Rattle.rv_fits.specs.Fits.{callee_fits}
 use Rattle.rv_fits.proofs.Both.{first_of_both, second_of_both, both_hold}
 use Rattle.rv_history.specs.Fitting.{all_fit, ranges_in, results, exit_fits, end_at}
-use Rattle.rv_ranged.specs.Ranged.{of_operation, wanted, task_stand}
+use Rattle.rv_ranged.specs.Ranged.{of_operation, of_target, wanted, task_stand}
 use Rattle.rv_exec.specs.declared.activation.Activation.{Activation}
 use Rattle.rv_exec.specs.declared.end.Asked.{Asked}
 use Rattle.rv_exec.specs.declared.end.Asked.TheVariants as asked
@@ -37,7 +37,7 @@ use Rattle.rv_asks.proofs.Passed.{SuitsValues}
 use Rattle.rv_asks.proofs.AskedValues.{OutcomeLeft, ValuesIn, OutcomeIn, InnerEnds, AskingWorld}
 use Rattle.rv_asks.proofs.AskedBodies.{BodyOf, block_asks, inner_asks}
 use Rattle.rv_asks.proofs.Replies.{spot, Calls, StartsBody, AskedEnds, callee_suits, reached_asks}
-use Rattle.rv_asks.proofs.Found.{AtSite, site_at, bodies_of, TaskSuits, task_suits}
+use Rattle.rv_asks.proofs.Found.{AtSite, site_at, home_of, bodies_of, TaskSuits, task_suits}
 
 -- Ends
 
@@ -59,9 +59,6 @@ end_is_fit site outcome scalars f g =
     (scalars_given (is_function site.operation.kind) (component_ranges site.object.components) scalars f) (exit_in (results site.operation.kind site.operation.parameters) outcome g)
 
 module _ (shapes : List Shape) (here : List OperationNumber) (object operation : ℕ) (site : Site) (is : target shapes object operation ≡ OnProtected site) where
-  inside : List OperationNumber
-  inside = spot object operation ∷ here
-
   completed_ends : (outcome : Outcome) → OutcomeLeft here here (seen outcome) → (scalars : List ℤ) (last : Exit) (later : OperationNumber) (r : Answer)
       → OutcomeLeft here (inside_after later (spot object operation ∷ here) (request.Complete scalars last) r) (completed outcome r)
   completed_ends outcome f scalars last later (answer.Done next) = f
@@ -98,7 +95,7 @@ module _ (shapes : List Shape) (bodies : UnitBodies) (m : AreRanged shapes bodie
       let at = site_at shapes object operation site is in
       let suits : SuitsValues (of_operation (numbered site.object.operations operation)) values = subst (λ (o : Option OperationShape). SuitsValues (of_operation o) values) (sym at.operation_is) takes in
       subst (λ (o : Option OperationShape). Asks shapes (InnerEnds site.object.components o here) next here (inner_at bodies object outer 65 operation values scalars 100000)) at.operation_is
-      (inner_asks shapes site.object here bodies object outer (bodies_of shapes bodies m object operation site at) f 65 next operation values scalars 100000 suits brings)
+      (inner_asks shapes site.object here bodies object outer (bodies_of shapes bodies m object operation site at) f (home_of shapes object operation site at) 65 next operation values scalars 100000 suits brings)
 
   outer_asks : (left : ℕ) (here : List OperationNumber) (own : List OperationShape) (next : OperationNumber) (c : Callee) (values : List ℤ) → left ≤ 16 - length here → callee_fits shapes c ≡ true → SuitsValues (wanted shapes own c) values
       → Asks shapes (OutcomeLeft here) next here (outer_at bodies left c values)
@@ -159,20 +156,24 @@ module _ (shapes : List Shape) (bodies : UnitBodies) (m : AreRanged shapes bodie
 
   -- Tasks
 
-  no_object : ProtectedShape
-  no_object = record { name = []; is_visible = false; ceiling = 0; components = []; operations = [] }
-
-  none_of : (n : ℕ) → BodyOf shapes (record { name = []; is_visible = false; ceiling = 0; components = []; operations = [] }) (operation_of bodies 0 n) (numbered [] n)
+  none_of : (n : ℕ) → BodyOf shapes 0 (record { name = []; is_visible = false; ceiling = 0; components = []; operations = [] }) (operation_of bodies 0 n) (numbered [] n)
   none_of n = tt
 
   task_outer : (next : OperationNumber) (c : Callee) (values : List ℤ) → internal c ≡ None → callee_fits shapes c ≡ true → SuitsValues (wanted shapes [] c) values → Asks shapes (OutcomeLeft []) next [] (outer_at bodies 16 c values)
   task_outer next c values outer fits suits = outer_asks 16 [] [] next c values (omega arith) fits suits
 
+  task_home : (n : ℕ) → of_operation (numbered [] n) ≡ of_target (target shapes 0 n)
+  task_home n = by_test (nat_lt n 1) where
+    by_test : (k : Bool) → of_operation (cond k None (slice_get [] (n - 1))) ≡ None
+    by_test true = refl
+    by_test false = refl
+
   task_world : AskingWorld shapes [] [] [] (world bodies task_setting)
   task_world = record {
     inner = λ next n values scalars steps suits fit.
-        inner_asks shapes (record { name = []; is_visible = false; ceiling = 0; components = []; operations = [] }) [] bodies 0 (outer_at bodies 16) none_of task_outer 65 next n values scalars steps suits fit;
+        inner_asks shapes (record { name = []; is_visible = false; ceiling = 0; components = []; operations = [] }) [] bodies 0 (outer_at bodies 16) none_of task_outer task_home 65 next n values scalars steps suits fit;
     outer = task_outer;
+    home = task_home;
   }
 
   quits_ask : (outcome : Outcome) (later : OperationNumber) (now : List OperationNumber) → Asks shapes (λ inside exit. Unit {0}) later now (quits outcome)

@@ -67,6 +67,7 @@ of_target other = None
 -- the parameters of what is called where these are the operations of the same object, if it has any
 abbrev pub wanted : List Shape → List OperationShape → Callee → Option (List Parameter)
 wanted shapes own (callee.Internal operation) = of_operation (numbered own operation)
+wanted shapes own (callee.OwnEntry operation) = of_operation (numbered own operation)
 wanted shapes own (callee.Function object operation) = of_target (target shapes object operation)
 wanted shapes own (callee.Procedure object operation) = of_target (target shapes object operation)
 wanted shapes own (callee.Entry object operation) = of_target (target shapes object operation)

@@ -73,7 +73,7 @@ pub(crate) fn suit(
     ensures { result ≡ suit (wanted units.now stand.now.operations callee.now) (expressions_view es.now.items) }
 {
     match *callee {
-        Callee::Internal(operation) => own_take(stand, operation, es),
+        Callee::Internal(operation) | Callee::OwnEntry(operation) => own_take(stand, operation, es),
         Callee::Function(object, operation)
         | Callee::Procedure(object, operation)
         | Callee::Entry(object, operation) => target_takes(units, object, operation, es),
