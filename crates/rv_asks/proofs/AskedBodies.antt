@@ -57,23 +57,20 @@ module _ (shapes : List Shape) (s : Stand) (here : List OperationNumber) (w : Wo
   same_calls : (exception : Exception) → AskingWorld shapes s.operations s.components here (in_handler exception w)
   same_calls exception = record { inner = k.inner; outer = k.outer; home = k.home }
 
-  FoundSuits : Option Statements → Type 0
+  abbrev FoundSuits : Option Statements → Type 0
   FoundSuits None = Unit {0}
   FoundSuits (Some ss) = StatementsSuit shapes (near shapes w) s ss
 
   found_either : (t : Bool) (ss : Statements) (o : Option Statements) → StatementsSuit shapes (near shapes w) s ss → FoundSuits o → FoundSuits (cond t (Some ss) o)
-  unfolding FoundSuits
   found_either true ss o f g = f
   found_either false ss o f g = g
 
   handler_found : (handlers : List Handler) (exception : Exception) → HandlersSuit shapes (near shapes w) s handlers → FoundSuits (handler_of handlers exception)
-  unfolding FoundSuits
   handler_found [] exception m = tt
   handler_found (h ∷ hs) exception m = found_either (named h.choices exception) h.statements (handler_of hs exception) m.0 (handler_found hs exception m.1)
 
   handling_asks : (exception : Exception) (o : Option Statements) (e : End) (a : Activation) (later : OperationNumber) (now : List OperationNumber) → FoundSuits o → now ≡ here → RunEnds s here now (e, a)
       → Asks shapes (RunEnds s here) later now (handling w exception o (e, a))
-  unfolding FoundSuits
   handling_asks exception None e a later now m is f = f
   handling_asks exception (Some ss) e a later now m is f =
       asks_here shapes (RunEnds s here) later here now (meanings (in_handler exception w) ss a) is (statements_ask shapes s here (in_handler exception w) (same_calls exception) ss later a m f.1)

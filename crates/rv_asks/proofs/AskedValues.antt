@@ -108,12 +108,13 @@ result_left here operator.Remainder v u = checked_left here (divided u (int_rem 
 result_left here operator.AddTime v u = bounds_left here (negsuc 999999999999999) (pos 1000000000000000) (v +ℤ u)
 result_left here other v u = (refl, λ range e. absurd (cc e))
 
+abbrev by_option : List OperationShape → Option ℕ → Option (List Parameter)
+by_option operations None = None
+by_option operations (Some n) = of_operation (numbered operations n)
+
 -- the operation of an internal call is wanted
 own_wanted : (shapes : List Shape) (operations : List OperationShape) (c : Callee) (operation : ℕ) → internal c ≡ Some operation → wanted shapes operations c ≡ of_operation (numbered operations operation)
-own_wanted shapes operations (callee.Internal own) operation e = ap by_option e where
-  by_option : Option ℕ → Option (List Parameter)
-  by_option None = None
-  by_option (Some n) = of_operation (numbered operations n)
+own_wanted shapes operations (callee.Internal own) operation e = ap (by_option operations) e
 own_wanted shapes operations c operation e = absurd (cc e)
 
 -- what is called inside an object is no entry
@@ -179,6 +180,10 @@ module _ (shapes : List Shape) (s : Stand) (here : List OperationNumber) (w : Wo
   given_asks later now (Ok values, a) e = ((e.0.0, silent (slice_index_or values 0 (pos 0))), e.1)
   given_asks later now (Err why, a) e = e
 
+  more_passed : (before : List ℤ) (e : Expression) (es : Expressions) (v : ℤ) → GivesSo e v → (now : List OperationNumber) (got : GotAll) → GotEnds s (Passed (joined before v) es) here now got → GotEnds s (Passed before (and_expression e es)) here now got
+  more_passed before e es v g now (Ok values, b) f = ((f.0.0, passed_more before e es v g values f.0.1), f.1)
+  more_passed before e es v g now (Err why, b) f = f
+
   mutual
     unfolding value
 
@@ -211,7 +216,3 @@ module _ (shapes : List Shape) (s : Stand) (here : List OperationNumber) (w : Wo
         asks_value shapes s here (GivesSo e) (Passed before (and_expression e es)) next (value w e a) (λ v b. arguments w es (joined before v) b) (value_asks e next a m.0 kept)
         (λ later v b g more. asks_more shapes (GotEnds s (Passed (joined before v) es) here) (GotEnds s (Passed before (and_expression e es)) here) later here (arguments w es (joined before v) b)
         (more_passed before e es v g) (arguments_ask es later (joined before v) b m.1 more))
-
-    more_passed : (before : List ℤ) (e : Expression) (es : Expressions) (v : ℤ) → GivesSo e v → (now : List OperationNumber) (got : GotAll) → GotEnds s (Passed (joined before v) es) here now got → GotEnds s (Passed before (and_expression e es)) here now got
-    more_passed before e es v g now (Ok values, b) f = ((f.0.0, passed_more before e es v g values f.0.1), f.1)
-    more_passed before e es v g now (Err why, b) f = f

@@ -72,6 +72,19 @@ GivenBack ranges before values = (more : List ℤ) × (values ≡ before ++ more
 abbrev out_ranges : Bool → Parameter → List Parameter → List Range
 out_ranges k p ps = map (λ (q : Parameter). q.range) (cond k (p ∷ filter (λ (q : Parameter). goes_out q.mode) ps) (filter (λ (q : Parameter). goes_out q.mode) ps))
 
+one_back : (p : Parameter) (ps : List Parameter) (before : List ℤ) (v : ℤ) (values : List ℤ) → length before < 4 → holds p.range v ≡ true → GivenBack (ranges_out ps) (joined before v) values → GivenBack (out_ranges true p ps) before values
+one_back p ps before v values less h rest =
+    (v ∷ rest.0,
+    rest.1 ∙ (ap (λ (vs : List ℤ). vs ++ rest.0) (joined_is before v less) ∙ append_assoc before (v ∷ []) rest.0),
+    both_hold (holds p.range v) (all_fit (ranges_out ps) rest.0) h rest.2)
+
+back_by_mode : (k : Bool) (owns : List Parameter) (p : Parameter) (ps : List Parameter) (slot : ℕ) (slots before : List ℤ) (v : ℤ) → length before + length (p ∷ ps) ≤ 4 → holds p.range v ≡ true
+    → ((values : List ℤ) → length values + length ps ≤ 4 → GivenBack (ranges_out ps) values (given_back owns (suc slot) slots values))
+    → GivenBack (out_ranges k p ps) before (given_back owns (suc slot) slots (cond k (joined before v) before))
+back_by_mode true owns p ps slot slots before v few h rest =
+    one_back p ps before v (given_back owns (suc slot) slots (joined before v)) (omega (arith, few)) h (rest (joined before v) (longer before v ps p few))
+back_by_mode false owns p ps slot slots before v few h rest = rest before (omega (arith, few))
+
 given_fits : (owns ps : List Parameter) (slot : ℕ) (slots before : List ℤ) → parameters_fit owns ps ≡ true → KeptFrom ps slot slots → length before + length ps ≤ 4
     → GivenBack (ranges_out ps) before (given_back owns slot slots before)
 given_fits [] [] slot slots before m f few = ([], sym (append-nil before), refl)
@@ -81,22 +94,8 @@ given_fits (own ∷ owns) (p ∷ ps) slot slots before m f few =
     let this = first_of_both (parameter_fits own p) (parameters_fit owns ps) m in
     let same = out_same own.mode p.mode (first_of_both (same_mode own.mode p.mode) (goes_in own.mode || holds p.range (first_of own.range.of own.range.low)) this) in
     subst (λ (k : Bool). GivenBack (out_ranges (goes_out p.mode) p ps) before (given_back owns (suc slot) slots (cond k (joined before (slice_index_or slots slot (pos 0))) before))) (sym same)
-    (by_mode (goes_out p.mode) (λ values few_then. given_fits owns ps (suc slot) slots values (second_of_both (parameter_fits own p) (parameters_fit owns ps) m) (kept_rest p ps slot slots f) few_then))
-  where
-    v : ℤ
-    v = slice_index_or slots slot (pos 0)
-
-    with_one : GivenBack (ranges_out ps) (joined before v) (given_back owns (suc slot) slots (joined before v)) → GivenBack (out_ranges true p ps) before (given_back owns (suc slot) slots (joined before v))
-    with_one rest =
-        let less : length before < 4 = omega (arith, few) in
-        (v ∷ rest.0,
-        rest.1 ∙ (ap (λ (vs : List ℤ). vs ++ rest.0) (joined_is before v less) ∙ append_assoc before (v ∷ []) rest.0),
-        both_hold (holds p.range v) (all_fit (ranges_out ps) rest.0) (kept_first p ps slot slots f) rest.2)
-
-    by_mode : (k : Bool) → ((values : List ℤ) → length values + length ps ≤ 4 → GivenBack (ranges_out ps) values (given_back owns (suc slot) slots values))
-        → GivenBack (out_ranges k p ps) before (given_back owns (suc slot) slots (cond k (joined before v) before))
-    by_mode true rest = with_one (rest (joined before v) (longer before v ps p few))
-    by_mode false rest = rest before (omega (arith, few))
+    (back_by_mode (goes_out p.mode) owns p ps slot slots before (slice_index_or slots slot (pos 0)) few (kept_first p ps slot slots f)
+    (λ values few_then. given_fits owns ps (suc slot) slots values (second_of_both (parameter_fits own p) (parameters_fit owns ps) m) (kept_rest p ps slot slots f) few_then))
 
 pub given_back_fits : (owns ps : List Parameter) (slots : List ℤ) → parameters_fit owns ps ≡ true → KeptSlots ps slots → length ps ≤ 4 → all_fit (ranges_out ps) (given_back owns 0 slots []) ≡ true
 given_back_fits owns ps slots m f few =
@@ -131,67 +130,70 @@ value_there (u ∷ before) v rest = value_there before v rest
 abbrev in_ranges : Bool → Parameter → List Parameter → List Range
 in_ranges k p ps = map (λ (q : Parameter). q.range) (cond k (p ∷ filter (λ (q : Parameter). goes_in q.mode) ps) (filter (λ (q : Parameter). goes_in q.mode) ps))
 
+abbrev parameter_or : Parameter → Option Parameter → Parameter
+parameter_or p None = p
+parameter_or p (Some q) = q
+
 -- a first parameter, and those behind it
 kept_all : (p : Parameter) (ps : List Parameter) (slot : ℕ) (slots : List ℤ) → holds p.range (slice_index_or slots slot (pos 0)) ≡ true → KeptFrom ps (suc slot) slots → KeptFrom (p ∷ ps) slot slots
 kept_all p ps slot slots h f zero q e =
     let same : slot ≡ slot + 0 = omega arith in
-    subst (λ (r : Parameter). holds r.range (slice_index_or slots (slot + 0) (pos 0)) ≡ true) (some_same p q e) (subst (λ (n : ℕ). holds p.range (slice_index_or slots n (pos 0)) ≡ true) same h)
-  where
-    value_or : Parameter → Option Parameter → Parameter
-    value_or r None = r
-    value_or r (Some x) = x
-
-    some_same : (r x : Parameter) → Some r ≡ Some x → r ≡ x
-    some_same r x e = ap (value_or r) e
+    let is : p ≡ q = ap (parameter_or p) e in
+    subst (λ (r : Parameter). holds r.range (slice_index_or slots (slot + 0) (pos 0)) ≡ true) is (subst (λ (n : ℕ). holds p.range (slice_index_or slots n (pos 0)) ≡ true) same h)
 kept_all p ps slot slots h f (suc i) q e =
     let same : suc slot + i ≡ slot + suc i = omega arith in
     subst (λ (n : ℕ). holds q.range (slice_index_or slots n (pos 0)) ≡ true) same (f i q e)
 
+-- the first takes a value, and stays
+first_kept : (owns : List Parameter) (p : Parameter) (ps : List Parameter) (slot given : ℕ) (values slots : List ℤ) (v u : ℤ) → slot + length (p ∷ ps) ≤ length slots → u ≡ v → holds p.range u ≡ true
+    → holds p.range (slice_index_or (bound owns (suc slot) given values (slice_set slots slot v)) slot (pos 0)) ≡ true
+first_kept owns p ps slot given values slots v u long e h =
+    let less : slot < suc slot = omega arith in
+    let there : slot < length slots = omega (arith, long) in
+    subst (λ (x : ℤ). holds p.range x ≡ true) (e ∙ sym (bound_before owns (suc slot) given values (slice_set slots slot v) slot less ∙ set_there slots slot v there)) h
+
+room_left : (p : Parameter) (ps : List Parameter) (slot : ℕ) (slots : List ℤ) (v : ℤ) → slot + length (p ∷ ps) ≤ length slots → suc slot + length ps ≤ length (slice_set slots slot v)
+room_left p ps slot slots v long = let same : length (slice_set slots slot v) ≡ length slots = length-set slots slot v in omega (arith, same, long)
+
+-- what is known of the parameters behind
+abbrev RestFits : List Parameter → List Parameter → ℕ → List ℤ → Type 0
+RestFits owns ps slot values =
+    (given : ℕ) (before rest slots : List ℤ) → given ≡ length before → values ≡ before ++ rest → all_fit (ranges_in ps) rest ≡ true → suc slot + length ps ≤ length slots
+    → KeptFrom ps (suc slot) (bound owns (suc slot) given values slots)
+
+taken : (owns : List Parameter) (p : Parameter) (ps : List Parameter) (slot given : ℕ) (before more values slots : List ℤ) (u : ℤ) → given ≡ length before → values ≡ before ++ u ∷ more → all_fit (p.range ∷ ranges_in ps) (u ∷ more) ≡ true
+    → slot + length (p ∷ ps) ≤ length slots → RestFits owns ps slot values
+    → KeptFrom (p ∷ ps) slot (bound owns (suc slot) (suc given) values (slice_set slots slot (slice_index_or values given (pos 0))))
+taken owns p ps slot given before more values slots u at is fit long rest =
+    let found : u ≡ slice_index_or values given (pos 0) = sym (ap (λ (n : ℕ). slice_index_or values n (pos 0)) at ∙ (ap (λ (vs : List ℤ). slice_index_or vs (length before) (pos 0)) is ∙ value_there before u more)) in
+    let one_more : length (before ++ u ∷ []) ≡ length before + 1 = length-append before (u ∷ []) in
+    let count : suc given ≡ length (before ++ u ∷ []) = omega (arith, at, one_more) in
+    kept_all p ps slot (bound owns (suc slot) (suc given) values (slice_set slots slot (slice_index_or values given (pos 0))))
+    (first_kept owns p ps slot (suc given) values slots (slice_index_or values given (pos 0)) u long found (first_of_both (holds p.range u) (all_fit (ranges_in ps) more) fit))
+    (rest (suc given) (before ++ u ∷ []) more (slice_set slots slot (slice_index_or values given (pos 0))) count (is ∙ sym (append_assoc before (u ∷ []) more))
+    (second_of_both (holds p.range u) (all_fit (ranges_in ps) more) fit) (room_left p ps slot slots (slice_index_or values given (pos 0)) long))
+
+bound_by_mode : (k : Bool) (owns : List Parameter) (own p : Parameter) (ps : List Parameter) (slot given : ℕ) (before rest values slots : List ℤ) → given ≡ length before → values ≡ before ++ rest → all_fit (in_ranges k p ps) rest ≡ true
+    → (k || holds p.range (first_of own.range.of own.range.low)) ≡ true → slot + length (p ∷ ps) ≤ length slots → RestFits owns ps slot values
+    → KeptFrom (p ∷ ps) slot (bound owns (suc slot) (cond k (suc given) given) values (slice_set slots slot (cond k (slice_index_or values given (pos 0)) (first_value own.range.of own.range.low))))
+bound_by_mode true owns own p ps slot given before [] values slots at is fit start long f = absurd (cc fit)
+bound_by_mode true owns own p ps slot given before (u ∷ more) values slots at is fit start long f = taken owns p ps slot given before more values slots u at is fit long f
+bound_by_mode false owns own p ps slot given before rest values slots at is fit start long f =
+    kept_all p ps slot (bound owns (suc slot) given values (slice_set slots slot (first_value own.range.of own.range.low)))
+    (first_kept owns p ps slot given values slots (first_value own.range.of own.range.low) (first_of own.range.of own.range.low) long (first_same own.range.of own.range.low) start)
+    (f given before rest (slice_set slots slot (first_value own.range.of own.range.low)) at is fit (room_left p ps slot slots (first_value own.range.of own.range.low) long))
+
 bound_fits : (owns ps : List Parameter) (slot given : ℕ) (before rest values slots : List ℤ) → parameters_fit owns ps ≡ true → given ≡ length before → values ≡ before ++ rest
     → all_fit (ranges_in ps) rest ≡ true → slot + length ps ≤ length slots → KeptFrom ps slot (bound owns slot given values slots)
-bound_fits [] [] slot given before rest values slots m at is fit long i p e = absurd (cc e)
+bound_fits [] [] slot given before rest values slots m at is fit long = λ i p e. absurd (cc e)
 bound_fits [] (p ∷ ps) slot given before rest values slots m at is fit long = absurd (cc m)
 bound_fits (own ∷ owns) [] slot given before rest values slots m at is fit long = absurd (cc m)
 bound_fits (own ∷ owns) (p ∷ ps) slot given before rest values slots m at is fit long =
     let this = first_of_both (parameter_fits own p) (parameters_fit owns ps) m in
     let same = in_same own.mode p.mode (first_of_both (same_mode own.mode p.mode) (goes_in own.mode || holds p.range (first_of own.range.of own.range.low)) this) in
     let start = second_of_both (same_mode own.mode p.mode) (goes_in own.mode || holds p.range (first_of own.range.of own.range.low)) this in
-    by_mode (goes_in own.mode) rest is (subst (λ (k : Bool). all_fit (in_ranges k p ps) rest ≡ true) (sym same) fit) start
-  where
-    rest_fit : parameters_fit owns ps ≡ true
-    rest_fit = second_of_both (parameter_fits own p) (parameters_fit owns ps) m
-
-    into : ℤ → List ℤ
-    into v = slice_set slots slot v
-
-    room : (v : ℤ) → suc slot + length ps ≤ length (into v)
-    room v = let same : length (into v) ≡ length slots = length-set slots slot v in omega (arith, same, long)
-
-    here : (v u : ℤ) (n : ℕ) → u ≡ v → holds p.range u ≡ true → holds p.range (slice_index_or (bound owns (suc slot) n values (into v)) slot (pos 0)) ≡ true
-    here v u n e h =
-        let less : slot < suc slot = omega arith in
-        let within : slot < length slots = omega (arith, long) in
-        subst (λ (x : ℤ). holds p.range x ≡ true) (e ∙ sym (bound_before owns (suc slot) n values (into v) slot less ∙ set_there slots slot v within)) h
-
-    taken : (u : ℤ) (more : List ℤ) → values ≡ before ++ u ∷ more → all_fit (p.range ∷ ranges_in ps) (u ∷ more) ≡ true
-        → KeptFrom (p ∷ ps) slot (bound owns (suc slot) (suc given) values (into (slice_index_or values given (pos 0))))
-    taken u more is fit =
-        let v : ℤ = slice_index_or values given (pos 0) in
-        let found : u ≡ v = sym (ap (λ (n : ℕ). slice_index_or values n (pos 0)) at ∙ (ap (λ (vs : List ℤ). slice_index_or vs (length before) (pos 0)) is ∙ value_there before u more)) in
-        let one_more : length (before ++ u ∷ []) ≡ length before + 1 = length-append before (u ∷ []) in
-        kept_all p ps slot (bound owns (suc slot) (suc given) values (into v))
-        (here v u (suc given) found (first_of_both (holds p.range u) (all_fit (ranges_in ps) more) fit))
-        (bound_fits owns ps (suc slot) (suc given) (before ++ u ∷ []) more values (into v) rest_fit (omega (arith, at, one_more)) (is ∙ sym (append_assoc before (u ∷ []) more))
-        (second_of_both (holds p.range u) (all_fit (ranges_in ps) more) fit) (room v))
-
-    by_mode : (k : Bool) (rest : List ℤ) → values ≡ before ++ rest → all_fit (in_ranges k p ps) rest ≡ true → (k || holds p.range (first_of own.range.of own.range.low)) ≡ true
-        → KeptFrom (p ∷ ps) slot (bound owns (suc slot) (cond k (suc given) given) values (into (cond k (slice_index_or values given (pos 0)) (first_value own.range.of own.range.low))))
-    by_mode true [] is fit start = absurd (cc fit)
-    by_mode true (u ∷ more) is fit start = taken u more is fit
-    by_mode false rest is fit start =
-        let v : ℤ = first_value own.range.of own.range.low in
-        kept_all p ps slot (bound owns (suc slot) given values (into v)) (here v (first_of own.range.of own.range.low) given (first_same own.range.of own.range.low) start)
-        (bound_fits owns ps (suc slot) given before rest values (into v) rest_fit at is fit (room v))
+    bound_by_mode (goes_in own.mode) owns own p ps slot given before rest values slots at is (subst (λ (k : Bool). all_fit (in_ranges k p ps) rest ≡ true) (sym same) fit) start long
+    (λ given_then front back slots_then count made fine some. bound_fits owns ps (suc slot) given_then front back values slots_then (second_of_both (parameter_fits own p) (parameters_fit owns ps) m) count made fine some)
 
 -- so each parameter takes a value of its range
 pub bound_kept : (owns ps : List Parameter) (values : List ℤ) → parameters_fit owns ps ≡ true → all_fit (ranges_in ps) values ≡ true → length ps ≤ 4 → KeptSlots ps (bound owns 0 0 values (replicate 132 (pos 0)))

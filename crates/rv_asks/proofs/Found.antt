@@ -28,12 +28,12 @@ pub record AtSite (shapes : List Shape) (object operation : ℕ) (site : Site) :
   pub object_is : at.object ≡ Protected site.object
   pub operation_is : numbered site.object.operations operation ≡ Some site.operation
 
-object_or : ProtectedShape → Target → ProtectedShape
+abbrev object_or : ProtectedShape → Target → ProtectedShape
 object_or object Nowhere = object
 object_or object (OnProtected site) = site.object
 object_or object (OnSuspension unit name deed) = object
 
-operation_or : OperationShape → Target → OperationShape
+abbrev operation_or : OperationShape → Target → OperationShape
 operation_or operation Nowhere = operation
 operation_or operation (OnProtected site) = site.operation
 operation_or operation (OnSuspension unit name deed) = operation

@@ -97,48 +97,55 @@ module _ (shapes : List Shape) (bodies : UnitBodies) (m : AreRanged shapes bodie
       subst (λ (o : Option OperationShape). Asks shapes (InnerEnds site.object.components o here) next here (inner_at bodies object outer 65 operation values scalars 100000)) at.operation_is
       (inner_asks shapes site.object here bodies object outer (bodies_of shapes bodies m object operation site at) f (home_of shapes object operation site at) 65 next operation values scalars 100000 suits brings)
 
-  outer_asks : (left : ℕ) (here : List OperationNumber) (own : List OperationShape) (next : OperationNumber) (c : Callee) (values : List ℤ) → left ≤ 16 - length here → callee_fits shapes c ≡ true → SuitsValues (wanted shapes own c) values
+  none_performed : (here : List OperationNumber) (values : List ℤ) (later : OperationNumber) (now : List OperationNumber) (what : Asked) → AskedEnds shapes here zero values now what
+      → Asks shapes (OutcomeLeft here) later now (performed (λ object operation is_a scalars. ended (Err (cause.Raised ProgramError))) what)
+  none_performed here values later now (asked.Given given) e = e
+  none_performed here values later now (asked.Abandoned why) e = e
+  none_performed here values later now (asked.Started object operation is_a scalars) e = let less = e.2 in absurd (omega (arith, less))
+
+  -- what is called where so many more objects may be held
+  abbrev OuterAsks : ℕ → Type 0
+  OuterAsks left =
+      (here : List OperationNumber) (own : List OperationShape) (next : OperationNumber) (c : Callee) (values : List ℤ) → left ≤ 16 - length here → callee_fits shapes c ≡ true → SuitsValues (wanted shapes own c) values
       → Asks shapes (OutcomeLeft here) next here (outer_at bodies left c values)
+
+  called_body : (left : ℕ) → OuterAsks left → (here : List OperationNumber) (values : List ℤ) → suc left ≤ 16 - length here → (object operation : ℕ) (is_a : Bool) (scalars : List ℤ) (later : OperationNumber) → StartsBody shapes values object operation is_a scalars
+      → Asks shapes (OutcomeLeft here) later (spot object operation ∷ here) (and_then (inner_at bodies object (outer_at bodies left) 65 operation values scalars 100000) (completes is_a))
+  called_body left f here values few object operation is_a scalars later e =
+      let site = e.called.site in
+      let less : left ≤ 16 - length (spot object operation ∷ here) = omega (arith, few) in
+      asks_then shapes (InnerEnds site.object.components (Some site.operation) (spot object operation ∷ here)) (OutcomeLeft here) later (spot object operation ∷ here)
+      (inner_at bodies object (outer_at bodies left) 65 operation values scalars 100000) (completes is_a)
+      (started_body (spot object operation ∷ here) object operation site e.called.is (outer_at bodies left)
+      (λ last d vs outer good own_suits. f (spot object operation ∷ here) site.object.operations last d vs less good own_suits) later values scalars e.called.takes e.brings)
+      (completes_asks shapes here object operation site e.called.is is_a e.called.kind)
+
+  body_performed : (left : ℕ) → OuterAsks left → (here : List OperationNumber) (values : List ℤ) → suc left ≤ 16 - length here → (later : OperationNumber) (now : List OperationNumber) (what : Asked) → AskedEnds shapes here (suc left) values now what
+      → Asks shapes (OutcomeLeft here) later now (performed (λ object operation is_a scalars. and_then (inner_at bodies object (outer_at bodies left) 65 operation values scalars 100000) (completes is_a)) what)
+  body_performed left f here values few later now (asked.Given given) e = e
+  body_performed left f here values few later now (asked.Abandoned why) e = e
+  body_performed left f here values few later now (asked.Started object operation is_a scalars) e =
+      asks_here shapes (OutcomeLeft here) later (spot object operation ∷ here) now (and_then (inner_at bodies object (outer_at bodies left) 65 operation values scalars 100000) (completes is_a)) e.0
+      (called_body left f here values few object operation is_a scalars later e.1)
+
+  outer_asks : (left : ℕ) → OuterAsks left
   unfolding outer_at
   outer_asks zero here own next c values few fits suits =
       asks_then shapes (AskedEnds shapes here zero values) (OutcomeLeft here) next here (reached zero c values) (performed (λ object operation is_a scalars. ended (Err (cause.Raised ProgramError))))
-      (reached_asks shapes here zero values c next few (callee_suits shapes own (length here) c values fits suits)) performed_asks
-    where
-      performed_asks : (later : OperationNumber) (now : List OperationNumber) (what : Asked) → AskedEnds shapes here zero values now what → Asks shapes (OutcomeLeft here) later now (performed (λ object operation is_a scalars. ended (Err (cause.Raised ProgramError))) what)
-      performed_asks later now (asked.Given given) e = e
-      performed_asks later now (asked.Abandoned why) e = e
-      performed_asks later now (asked.Started object operation is_a scalars) e = let less = e.2 in absurd (omega (arith, less))
+      (reached_asks shapes here zero values c next few (callee_suits shapes own (length here) c values fits suits)) (none_performed here values)
   outer_asks (suc left) here own next c values few fits suits =
       asks_then shapes (AskedEnds shapes here (suc left) values) (OutcomeLeft here) next here (reached (suc left) c values)
       (performed (λ object operation is_a scalars. and_then (inner_at bodies object (outer_at bodies left) 65 operation values scalars 100000) (completes is_a)))
-      (reached_asks shapes here (suc left) values c next few (callee_suits shapes own (length here) c values fits suits)) performed_asks
-    where
-      body_asks : (object operation : ℕ) (is_a : Bool) (scalars : List ℤ) (later : OperationNumber) → StartsBody shapes values object operation is_a scalars
-          → Asks shapes (OutcomeLeft here) later (spot object operation ∷ here) (and_then (inner_at bodies object (outer_at bodies left) 65 operation values scalars 100000) (completes is_a))
-      body_asks object operation is_a scalars later e =
-          let site = e.called.site in
-          let less : left ≤ 16 - length (spot object operation ∷ here) = omega (arith, few) in
-          asks_then shapes (InnerEnds site.object.components (Some site.operation) (spot object operation ∷ here)) (OutcomeLeft here) later (spot object operation ∷ here)
-          (inner_at bodies object (outer_at bodies left) 65 operation values scalars 100000) (completes is_a)
-          (started_body (spot object operation ∷ here) object operation site e.called.is (outer_at bodies left)
-          (λ last d vs outer good own_suits. outer_asks left (spot object operation ∷ here) site.object.operations last d vs less good own_suits) later values scalars e.called.takes e.brings)
-          (completes_asks shapes here object operation site e.called.is is_a e.called.kind)
-
-      performed_asks : (later : OperationNumber) (now : List OperationNumber) (what : Asked) → AskedEnds shapes here (suc left) values now what
-          → Asks shapes (OutcomeLeft here) later now (performed (λ object operation is_a scalars. and_then (inner_at bodies object (outer_at bodies left) 65 operation values scalars 100000) (completes is_a)) what)
-      performed_asks later now (asked.Given given) e = e
-      performed_asks later now (asked.Abandoned why) e = e
-      performed_asks later now (asked.Started object operation is_a scalars) e =
-          asks_here shapes (OutcomeLeft here) later (spot object operation ∷ here) now (and_then (inner_at bodies object (outer_at bodies left) 65 operation values scalars 100000) (completes is_a)) e.0 (body_asks object operation is_a scalars later e.1)
+      (reached_asks shapes here (suc left) values c next few (callee_suits shapes own (length here) c values fits suits)) (body_performed left (outer_asks left) here values few)
 
   -- Bodies
 
   exits_ask : (inside : List OperationNumber) (site : Site) (later : OperationNumber) (now : List OperationNumber) (got : Outcome × (List ℤ × ℕ)) → InnerEnds site.object.components (Some site.operation) inside now got
       → Asks shapes (EndsWell shapes inside (OnProtected site)) later now (exits got)
-  exits_ask inside site later now (Ok values, (scalars, steps)) e = record { fits = end_is_fit site (Ok values) scalars e.1 e.2; inside = λ go_on. e.0 }
-  exits_ask inside site later now (Err (cause.Raised exception), (scalars, steps)) e = record { fits = end_is_fit site (Err (cause.Raised exception)) scalars e.1 tt; inside = λ go_on. e.0 }
-  exits_ask inside site later now (Err cause.Overrun, (scalars, steps)) e = record { fits = end_is_fit site (Err cause.Overrun) scalars e.1 tt; inside = λ go_on. e.0 }
-  exits_ask inside site later now (Err (cause.Stopped is_idle), (scalars, steps)) e = record { fits = end_is_fit site (Err (cause.Stopped is_idle)) scalars e.1 tt; inside = λ go_on. absurd (go_on refl) }
+  exits_ask inside site later now (Ok values, (scalars, steps)) e = record { fits = end_is_fit site (Ok values) scalars e.1 e.2; stays = λ go_on. e.0 }
+  exits_ask inside site later now (Err (cause.Raised exception), (scalars, steps)) e = record { fits = end_is_fit site (Err (cause.Raised exception)) scalars e.1 tt; stays = λ go_on. e.0 }
+  exits_ask inside site later now (Err cause.Overrun, (scalars, steps)) e = record { fits = end_is_fit site (Err cause.Overrun) scalars e.1 tt; stays = λ go_on. e.0 }
+  exits_ask inside site later now (Err (cause.Stopped is_idle), (scalars, steps)) e = record { fits = end_is_fit site (Err (cause.Stopped is_idle)) scalars e.1 tt; stays = λ go_on. absurd (go_on refl) }
 
   body_runs : (at next : OperationNumber) (outer : List OperationNumber) (values scalars : List ℤ) (t : Target) → target shapes at.object at.operation ≡ t → starts_fit values scalars t ≡ true
       → Asks shapes (EndsWell shapes (at ∷ outer) t) next (at ∷ outer) (and_then (inner_at bodies at.object (outer_at bodies (16 - suc (length outer))) 65 at.operation values scalars 100000) exits)

@@ -135,7 +135,7 @@ left_scalars site scalars = if shares site then [] else scalars
 -- An exit and the scalars left are an end that fits the body; and by each exit but that by stopped the actor is in that body still.
 pub record EndsWell (shapes : List Shape) (inside : List OperationNumber) (site : Target) (now : List OperationNumber) (last : Exit × List ℤ) : Type 0 where
   pub fits : end_at (left_scalars site last.1) last.0 site ≡ true
-  pub inside : (last.0 ≡ exit.Stopped → ⊥) → now ≡ inside
+  pub stays : (last.0 ≡ exit.Stopped → ⊥) → now ≡ inside
 
 -- so a body of such bodies asks what fits, however many others it is called from
 abbrev pub BodiesAskWhatFits : Type 0
