@@ -488,21 +488,21 @@ def free(name):
 
 
 def quota(program):
-    """A noisy unit beside a good one: it is denied everything once, and the good one and the operator go on."""
+    """A noisy unit beside a good one: it is stopped behind its quota, and the good one and the operator go on."""
     settings = "@host.toml\ncapacity = 1048576\nbudget = 1000000\n"
     run = Run(program, settings + unit(PLANT) + unit(looper("Good")) + unit(free("Bad")) + "@list\nallow * * *\n@run\n",
               ("--quota", "1000", "--notes", "always"))
-    until("the denial", lambda: any("deny Bad * *]" in line for line in run.journal()))
+    until("the spent quota", lambda: len(of(run.journal(), "Bad.Pilot")) > 1500)
     ticking(run, "Good goes on", lambda journal: len(of(journal, "Good.Pilot")) > 20)
     expect("a revocation beside a quota", run.ask("append deny Good * *"), "accepted 0")
     journal = run.journal()
     numbered("the journal of a quota", journal)
-    place = [number for number, line in enumerate(journal) if "deny Bad * *]" in line]
-    expect("denials of a quota", len(place), 1)
-    expect("entries of Bad that start behind its denial", [line for line in of(journal[place[0]:], "Bad.Pilot") if "started" in line][1:], [])
+    spent = [line for line in of(journal, "Bad.Pilot") if " : " in line and not any(word in line for word in (" end ", " resume ", " quit "))]
+    expect("entries that Bad spent", len(spent), 1000)
+    expect("denials of a quota", [line for line in journal if "deny Bad" in line], [])
     out, err, status = run.end()
     lines = err.splitlines()
-    expect_that("notes of a quota", "quota: tasks of Bad added more than 1,000 entries; deny Bad * * is in force" in lines
+    expect_that("notes of a quota", "quota: Bad has spent its 1,000 entries; what it asked behind them was answered full" in lines
                 and lines[0].startswith("journal: 1,048,576 entries less 512 don't hold the quota of 1,000"), lines)
     expect_that("quit behind a quota", re.fullmatch(r"entries \d+\n", out) and status == 0, (out, status))
 
@@ -931,7 +931,7 @@ def end_status(program):
             expect_that(f"{note.strip()} with {more}", done.stdout.endswith(b"entries 2\n") and done.stderr.decode() == told and done.returncode == status,
                         (done.stdout[-80:], done.stderr, done.returncode))
     busy = unit(PLANT) + unit(free("Bad")) + "@list\nallow * * *\n@run\n"
-    for words, settings in ((("--halt-below", "2000"), "budget = 1000000\n"), (("--quota", "30"), "capacity = 60\nbudget = 1000000\n")):
+    for words, settings in ((("--halt-below", "2000"), "budget = 1000000\n"),):
         for more, due in ((("--end-status",), 5), ((), 0)):
             run = Run(program, "@host.toml\n" + settings + busy, (*words, *more))
             out = run.process.stdout.read().decode()

@@ -181,7 +181,7 @@ pub note_send : IsSend note.the_row
 note_send = search (note_inside_send, sendable)
 
 control_inside_send : IsSend control_inside.the_row
-control_inside_send = recorded_send (control_inside.the_field).row _ _ (control_inside.the_type).to_one (struct_send (shape control_inside.the_type) (global_crosses.the_field_send, (turn_crosses.the_send behind.the_row ask.the_row reply.the_row letter.the_row event.the_row limits.the_row counted behind_send, (pass_crosses.the_send behind.the_row ask.the_row reply.the_row letter.the_row event.the_row limits.the_row counted behind_send, (bell_arc_send, (list_send _ (plain_send _ _ _ _ _), (catalogue_crosses.the_send, (option_crosses.the_field_send lists.the_row lists_crosses.the_send, (stacks_send, tt)))))))))
+control_inside_send = recorded_send (control_inside.the_field).row _ _ (control_inside.the_type).to_one (struct_send (shape control_inside.the_type) (global_crosses.the_field_send, (turn_crosses.the_send behind.the_row ask.the_row reply.the_row letter.the_row event.the_row limits.the_row counted behind_send, (pass_crosses.the_send behind.the_row ask.the_row reply.the_row letter.the_row event.the_row limits.the_row counted behind_send, (bell_arc_send, (list_send _ (plain_send _ _ _ _ _), (catalogue_crosses.the_send, (option_crosses.the_field_send lists.the_row lists_crosses.the_send, (plain_send _ _ _ _ _, (stacks_send, tt))))))))))
 
 pub control_send : IsSend control.the_row
 control_send = search (control_inside_send, sendable)
