@@ -20,7 +20,7 @@ use Rattle.rv_fits.specs.Calls.{such_in}
 use Rattle.rv_fits.specs.Fits.{callee_fits}
 use Rattle.rv_fits.proofs.Both.{first_of_both, second_of_both, both_hold}
 use Rattle.rv_history.specs.Fitting.{all_fit, ranges_out, results}
-use Rattle.rv_ranged.specs.Ranged.{Stand, of_operation, of_target, wanted, parameters_fit, kind_fits, result_of, stand_of, heads}
+use Rattle.rv_ranged.specs.Ranged.{Stand, of_operation, of_target, parameters_fit, kind_fits, result_of, stand_of, heads}
 use Rattle.rv_exec.specs.declared.activation.Activation.{Activation}
 use Rattle.rv_exec.specs.declared.end.Cause.TheVariants as cause
 use Rattle.rv_exec.specs.declared.end.End.{End}
@@ -38,7 +38,7 @@ use Rattle.rv_asks.specs.Asks.{Asks}
 use Rattle.rv_asks.proofs.Values.{component_ranges}
 use Rattle.rv_asks.proofs.Trees.{Left, IsKept, ReturnIn, EndLeft, RunEnds, asks_then, asks_here, asks_run, asks_next, run_goes}
 use Rattle.rv_asks.proofs.Suited.{StatementsSuit, DeclarationsSuit, HandlersSuit, BodySuits}
-use Rattle.rv_asks.proofs.Passed.{GivesSo, SuitsValues, four}
+use Rattle.rv_asks.proofs.Passed.{GivesSo, SuitsValues, four, wanted}
 use Rattle.rv_asks.proofs.AskedValues.{OutcomeLeft, ValuesIn, OutcomeIn, InnerEnds, near, AskingWorld, value_asks}
 use Rattle.rv_asks.proofs.AskedStatements.{assigned_ends, statements_ask}
 use Rattle.rv_asks.proofs.Bound.{given_back_fits, bound_kept}

@@ -14,7 +14,7 @@ use Rattle.rv_code.specs.declared.statement.Target.{Target}
 use Rattle.rv_code.specs.Expressions.{Expression}
 use Rattle.rv_code.specs.Statements.{Statement, null_statement, assign, choice, selection, while_loop, for_loop, exit_when, returns, returns_value, raises, reraises, calls, Statements, no_statements, and_statement, Branches, no_branches, and_branch, Alternatives, no_alternatives, and_alternative}
 use Rattle.rv_fits.proofs.Both.{first_of_both, second_of_both}
-use Rattle.rv_ranged.specs.Ranged.{Stand, wanted, place_keeps, target_keeps, result_given}
+use Rattle.rv_ranged.specs.Ranged.{Stand, place_keeps, target_keeps, result_given}
 use Rattle.rv_exec.specs.declared.activation.Activation.{Activation}
 use Rattle.rv_exec.specs.declared.end.Cause.{Cause}
 use Rattle.rv_exec.specs.declared.end.Cause.TheVariants as cause
@@ -150,7 +150,7 @@ module _ (shapes : List Shape) (s : Stand) (here : List OperationNumber) (w : Wo
     statement_asks reraises next a m kept = (again_left s here w.handling, kept)
     statement_asks (calls c es targets) next a m kept =
         asks_run shapes s here Any next (passing w c (arguments w es [] a)) (λ given b. ended (copied_back targets 0 given b))
-        (passing_asks shapes s here w k next c es (arguments w es [] a) m.0 (λ values p. suits_passed (wanted shapes s.operations c) es values m.1 p) (arguments_ask shapes s here w k es next [] a m.2 kept))
+        (passing_asks shapes s here w k next c es (arguments w es [] a) m.0 (λ values p. suits_passed shapes s.operations c es values m.1 p) (arguments_ask shapes s here w k es next [] a m.2 kept))
         (λ later given b p more. copied_ends s here targets 0 given b m.3 more)
 
     pub statements_ask : (ss : Statements) (next : OperationNumber) (a : Activation) → StatementsSuit shapes (near shapes w) s ss → IsKept s a → Asks shapes (RunEnds s here) next here (meanings w ss a)

@@ -24,7 +24,7 @@ use Rattle.rv_code.specs.Expressions as code
 use Rattle.rv_fits.specs.Calls.{such_in}
 use Rattle.rv_fits.specs.Fits.{callee_fits}
 use Rattle.rv_history.specs.Fitting.{all_fit, results}
-use Rattle.rv_ranged.specs.Ranged.{gives, Stand, of_operation, of_target, wanted}
+use Rattle.rv_ranged.specs.Ranged.{gives, Stand, of_operation, of_target}
 use Rattle.rv_exec.specs.declared.activation.Activation.{Activation}
 use Rattle.rv_exec.specs.declared.end.Cause.{Cause}
 use Rattle.rv_exec.specs.declared.end.Cause.TheVariants as cause
@@ -38,7 +38,7 @@ use Rattle.rv_asks.specs.Asks.{Asks}
 use Rattle.rv_asks.proofs.Values.{covered, within_cases, component_ranges}
 use Rattle.rv_asks.proofs.Trees.{Left, IsKept, GotLeft, GotEnds, Any, asks_then, asks_more, asks_if, asks_here, value_goes, asks_value}
 use Rattle.rv_asks.proofs.Suited.{ExpressionSuits, ExpressionsSuit, LinksSuit}
-use Rattle.rv_asks.proofs.Passed.{GivesSo, Passed, SuitsValues, passed_none, passed_more, suits_passed}
+use Rattle.rv_asks.proofs.Passed.{GivesSo, Passed, SuitsValues, passed_none, passed_more, suits_passed, wanted}
 
 -- What is kept of calls
 
@@ -200,7 +200,7 @@ module _ (shapes : List Shape) (s : Stand) (here : List OperationNumber) (w : Wo
         (λ later v b g more. (within_cases (λ r. GotLeft (GivesSo (code.within inner e)) here here r) inner v (λ lies. (refl, λ range c. covered range inner v c lies)) refl, more))
     value_asks (call c es) next a m kept =
         asks_then shapes (GotEnds s Any here) (GotEnds s Silent here) next here (passing w c (arguments w es [] a)) given
-        (passing_asks next c es (arguments w es [] a) m.0 (λ values p. suits_passed (wanted shapes s.operations c) es values m.1 p) (arguments_ask es next [] a m.2 kept)) given_asks
+        (passing_asks next c es (arguments w es [] a) m.0 (λ values p. suits_passed shapes s.operations c es values m.1 p) (arguments_ask es next [] a m.2 kept)) given_asks
 
     linked_asks : (links : Links) (next : OperationNumber) (v : ℤ) (a : Activation) → LinksSuit shapes (near shapes w) s links → IsKept s a → Asks shapes (GotEnds s Silent here) next here (linked w links v a)
     linked_asks no_links next v a m kept = ((refl, silent v), kept)

@@ -5,11 +5,16 @@ use Rattle.std.proofs.lemmas.List.{length-append}
 use Rattle.std.proofs.lemmas.Bool.Decides.{nat_tests}
 use Rattle.rv_shape.specs.declared.kind.Parameter.{Parameter}
 use Rattle.rv_shape.specs.declared.kind.Range.{Range}
+use Rattle.rv_shape.specs.Catalogue.{numbered, target}
 use Rattle.rv_shape.specs.Kinds.{holds, goes_in}
+use Rattle.rv_shape.specs.Objects.{OperationShape}
+use Rattle.rv_shape.specs.Shape.{Shape}
+use Rattle.rv_code.specs.declared.expression.Callee.{Callee}
+use Rattle.rv_code.specs.declared.expression.Callee.TheVariants as callee
 use Rattle.rv_code.specs.Expressions.{Expression, Expressions, no_expressions, and_expression}
 use Rattle.rv_history.specs.Fitting.{all_fit, ranges_in}
 use Rattle.rv_fits.proofs.Both.{first_of_both, second_of_both, both_hold}
-use Rattle.rv_ranged.specs.Ranged.{gives, all_give, given_ranges, suit}
+use Rattle.rv_ranged.specs.Ranged.{gives, all_give, given_ranges, time_parameter, of_operation, of_target, take, suit}
 use Rattle.rv_exec.specs.Activations.{joined}
 
 -- an expression gave a value of each range that it gives values of alone
@@ -60,11 +65,30 @@ no_more (p ∷ ps) = by_mode (goes_in p.mode) (no_more ps) where
 pub four : (n : ℕ) → nat_le n 4 ≡ true → n ≤ 4
 four n e = grind (arith, nat_tests)
 
--- so arguments that suit gave values that do
-pub suits_passed : (wanted : Option (List Parameter)) (es : Expressions) (values : List ℤ) → suit wanted es ≡ true → Passed [] es values → SuitsValues wanted values
-suits_passed None es values e p = tt
-suits_passed (Some ps) es values e p =
+take_passed : (wanted : Option (List Parameter)) (es : Expressions) (values : List ℤ) → take wanted es ≡ true → Passed [] es values → SuitsValues wanted values
+take_passed None es values e p = tt
+take_passed (Some ps) es values e p =
     let few = four (length ps) (first_of_both (nat_le (length ps) 4) (all_give (given_ranges ps) es) e) in
     let less = no_more ps in
     let got = p (given_ranges ps) (second_of_both (nat_le (length ps) 4) (all_give (given_ranges ps) es) e) (omega (arith, few, less)) in
     subst (λ (vs : List ℤ). all_fit (ranges_in ps) vs ≡ true) (sym got.1) got.2
+
+-- the parameters of what is called, where these are the operations of the same object
+abbrev pub wanted : List Shape → List OperationShape → Callee → Option (List Parameter)
+wanted shapes own (callee.Internal operation) = of_operation (numbered own operation)
+wanted shapes own (callee.OwnEntry operation) = of_operation (numbered own operation)
+wanted shapes own (callee.Function object operation) = of_target (target shapes object operation)
+wanted shapes own (callee.Procedure object operation) = of_target (target shapes object operation)
+wanted shapes own (callee.Entry object operation) = of_target (target shapes object operation)
+wanted shapes own callee.DelayUntil = Some (time_parameter ∷ [])
+wanted shapes own other = None
+
+-- so arguments that suit gave values that do
+pub suits_passed : (shapes : List Shape) (own : List OperationShape) (c : Callee) (es : Expressions) (values : List ℤ) → suit shapes own c es ≡ true → Passed [] es values → SuitsValues (wanted shapes own c) values
+suits_passed shapes own (callee.Internal operation) es values e p = take_passed (of_operation (numbered own operation)) es values e p
+suits_passed shapes own (callee.OwnEntry operation) es values e p = take_passed (of_operation (numbered own operation)) es values e p
+suits_passed shapes own (callee.Function object operation) es values e p = take_passed (of_target (target shapes object operation)) es values e p
+suits_passed shapes own (callee.Procedure object operation) es values e p = take_passed (of_target (target shapes object operation)) es values e p
+suits_passed shapes own (callee.Entry object operation) es values e p = take_passed (of_target (target shapes object operation)) es values e p
+suits_passed shapes own callee.DelayUntil es values e p = take_passed (Some (time_parameter ∷ [])) es values e p
+suits_passed shapes own c es values e p = tt

@@ -24,7 +24,7 @@ use Rattle.rv_fits.specs.Fits.{calls_function, calls_procedure, calls_entry, sus
 use Rattle.rv_fits.specs.Fits as fitting
 use Rattle.rv_fits.proofs.Both.{first_of_both, both_hold}
 use Rattle.rv_history.specs.Fitting.{all_fit, ranges_in, call_fits, is_time}
-use Rattle.rv_ranged.specs.Ranged.{time_parameter, of_target, wanted}
+use Rattle.rv_ranged.specs.Ranged.{time_parameter, of_target}
 use Rattle.rv_exec.specs.declared.end.Asked.{Asked}
 use Rattle.rv_exec.specs.declared.end.Asked.TheVariants as asked
 use Rattle.rv_exec.specs.declared.end.Cause.TheVariants as cause
@@ -34,7 +34,7 @@ use Rattle.rv_exec.specs.Calls.{is_protected, request_of, refusal, stops, gives,
 use Rattle.rv_asks.specs.Asks.{are_of_object, is_good, inside_after, next_after, may_ask, Asks}
 use Rattle.rv_asks.proofs.Values.{component_ranges}
 use Rattle.rv_asks.proofs.Trees.{Left}
-use Rattle.rv_asks.proofs.Passed.{SuitsValues}
+use Rattle.rv_asks.proofs.Passed.{SuitsValues, wanted}
 
 abbrev pub spot : ℕ → ℕ → OperationNumber
 spot object operation = record { object = object; operation = operation }

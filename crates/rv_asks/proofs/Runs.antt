@@ -18,7 +18,7 @@ use Rattle.rv_code.specs.Bodies.{Body, UnitBodies}
 use Rattle.rv_fits.specs.Fits.{callee_fits}
 use Rattle.rv_fits.proofs.Both.{first_of_both, second_of_both, both_hold}
 use Rattle.rv_history.specs.Fitting.{all_fit, ranges_in, results, exit_fits, end_at}
-use Rattle.rv_ranged.specs.Ranged.{of_operation, of_target, wanted, task_stand}
+use Rattle.rv_ranged.specs.Ranged.{of_operation, of_target, task_stand}
 use Rattle.rv_exec.specs.declared.activation.Activation.{Activation}
 use Rattle.rv_exec.specs.declared.end.Asked.{Asked}
 use Rattle.rv_exec.specs.declared.end.Asked.TheVariants as asked
@@ -33,7 +33,7 @@ use Rattle.rv_exec.specs.Tasks.{task_setting, quits, over, task_meaning, fired}
 use Rattle.rv_asks.specs.Asks.{AreRanged, Asks, inside_after, next_after, is_good, are_of_object, starts_fit, left_scalars, EndsWell, may_handle, BodiesAskWhatFits, TasksAskWhatFits, LinesAskWhatFits}
 use Rattle.rv_asks.proofs.Values.{component_ranges}
 use Rattle.rv_asks.proofs.Trees.{Left, RunEnds, asks_then, asks_more, asks_here}
-use Rattle.rv_asks.proofs.Passed.{SuitsValues}
+use Rattle.rv_asks.proofs.Passed.{SuitsValues, wanted}
 use Rattle.rv_asks.proofs.AskedValues.{OutcomeLeft, ValuesIn, OutcomeIn, InnerEnds, AskingWorld}
 use Rattle.rv_asks.proofs.AskedBodies.{BodyOf, block_asks, inner_asks}
 use Rattle.rv_asks.proofs.Replies.{spot, Calls, StartsBody, AskedEnds, callee_suits, reached_asks}

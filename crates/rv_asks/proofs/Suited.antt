@@ -9,7 +9,7 @@ use Rattle.rv_code.specs.Statements.{Statement, null_statement, assign, choice, 
 use Rattle.rv_code.specs.Bodies.{Declaration, Handler, Body}
 use Rattle.rv_fits.specs.Calls.{expression_calls, expressions_call, links_call, statement_calls, statements_call, branches_call, alternatives_call, declaration_calls, handler_calls, body_calls}
 use Rattle.rv_fits.proofs.Both.{first_of_both, second_of_both}
-use Rattle.rv_ranged.specs.Ranged.{Stand, suit, wanted, expression_ranged, expressions_ranged, links_ranged, target_keeps, result_given, statement_ranged, statements_ranged, branches_ranged, alternatives_ranged, declaration_ranged, handler_ranged, body_ranged}
+use Rattle.rv_ranged.specs.Ranged.{Stand, suit, expression_ranged, expressions_ranged, links_ranged, target_keeps, result_given, statement_ranged, statements_ranged, branches_ranged, alternatives_ranged, declaration_ranged, handler_ranged, body_ranged}
 
 module _ (shapes : List Shape) (such : Callee → Bool) (s : Stand) where
   abbrev mutual
@@ -20,7 +20,7 @@ module _ (shapes : List Shape) (such : Callee → Bool) (s : Stand) where
     ExpressionSuits (prefixed op e) = ExpressionSuits e
     ExpressionSuits (chain e ls) = ExpressionSuits e × LinksSuit ls
     ExpressionSuits (within range e) = ExpressionSuits e
-    ExpressionSuits (call c es) = (such c ≡ true) × (suit (wanted shapes s.operations c) es ≡ true) × ExpressionsSuit es
+    ExpressionSuits (call c es) = (such c ≡ true) × (suit shapes s.operations c es ≡ true) × ExpressionsSuit es
 
     pub ExpressionsSuit : Expressions → Type 0
     ExpressionsSuit no_expressions = Unit {0}
@@ -45,7 +45,7 @@ module _ (shapes : List Shape) (such : Callee → Bool) (s : Stand) where
     StatementSuits (raises exception) = Unit {0}
     StatementSuits reraises = Unit {0}
     StatementSuits (calls c es targets) =
-        (such c ≡ true) × (suit (wanted shapes s.operations c) es ≡ true) × ExpressionsSuit es × (list_all (target_keeps s) targets ≡ true)
+        (such c ≡ true) × (suit shapes s.operations c es ≡ true) × ExpressionsSuit es × (list_all (target_keeps s) targets ≡ true)
 
     pub StatementsSuit : Statements → Type 0
     StatementsSuit no_statements = Unit {0}
@@ -71,8 +71,8 @@ module _ (shapes : List Shape) (such : Callee → Bool) (s : Stand) where
     expression_suits (within range e) m r = expression_suits e m r
     expression_suits (call c es) m r =
         (first_of_both (such c) (expressions_call such es) m,
-        first_of_both (suit (wanted shapes s.operations c) es) (expressions_ranged shapes s es) r,
-        expressions_suit es (second_of_both (such c) (expressions_call such es) m) (second_of_both (suit (wanted shapes s.operations c) es) (expressions_ranged shapes s es) r))
+        first_of_both (suit shapes s.operations c es) (expressions_ranged shapes s es) r,
+        expressions_suit es (second_of_both (such c) (expressions_call such es) m) (second_of_both (suit shapes s.operations c es) (expressions_ranged shapes s es) r))
 
     expressions_suit : (es : Expressions) → expressions_call such es ≡ true → expressions_ranged shapes s es ≡ true → ExpressionsSuit es
     expressions_suit no_expressions m r = tt
@@ -115,9 +115,9 @@ module _ (shapes : List Shape) (such : Callee → Bool) (s : Stand) where
     statement_suits (raises exception) m r = tt
     statement_suits reraises m r = tt
     statement_suits (calls c es targets) m r =
-        let behind = second_of_both (suit (wanted shapes s.operations c) es) (expressions_ranged shapes s es && list_all (target_keeps s) targets) r in
+        let behind = second_of_both (suit shapes s.operations c es) (expressions_ranged shapes s es && list_all (target_keeps s) targets) r in
         (first_of_both (such c) (expressions_call such es) m,
-        first_of_both (suit (wanted shapes s.operations c) es) (expressions_ranged shapes s es && list_all (target_keeps s) targets) r,
+        first_of_both (suit shapes s.operations c es) (expressions_ranged shapes s es && list_all (target_keeps s) targets) r,
         expressions_suit es (second_of_both (such c) (expressions_call such es) m) (first_of_both (expressions_ranged shapes s es) (list_all (target_keeps s) targets) behind),
         second_of_both (expressions_ranged shapes s es) (list_all (target_keeps s) targets) behind)
 

@@ -37,9 +37,9 @@ GotLeft P here now (Err why) = Left here now why
 abbrev pub GotEnds : {A : Type 0} → Stand → (A → Type 0) → List OperationNumber → List OperationNumber → Result A Cause × Activation → Type 0
 GotEnds s P here now got = GotLeft P here now got.0 × IsKept s got.1
 
--- nothing is said of it
-abbrev pub Any : {A : Type 0} → A → Type 0
-Any v = Unit {0}
+-- nothing is said of them
+abbrev pub Any : List ℤ → Type 0
+Any values = Unit {0}
 
 abbrev pub ReturnIn : Option Range → Option ℤ → Type 0
 ReturnIn None v = Unit {0}

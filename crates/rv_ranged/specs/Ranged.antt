@@ -64,20 +64,21 @@ abbrev pub of_target : Target → Option (List Parameter)
 of_target (OnProtected site) = Some site.operation.parameters
 of_target other = None
 
--- the parameters of what is called where these are the operations of the same object, if it has any
-abbrev pub wanted : List Shape → List OperationShape → Callee → Option (List Parameter)
-wanted shapes own (callee.Internal operation) = of_operation (numbered own operation)
-wanted shapes own (callee.OwnEntry operation) = of_operation (numbered own operation)
-wanted shapes own (callee.Function object operation) = of_target (target shapes object operation)
-wanted shapes own (callee.Procedure object operation) = of_target (target shapes object operation)
-wanted shapes own (callee.Entry object operation) = of_target (target shapes object operation)
-wanted shapes own callee.DelayUntil = Some (time_parameter ∷ [])
-wanted shapes own other = None
-
 -- arguments give such parameters values of their ranges; there are at most four (own)
-abbrev pub suit : Option (List Parameter) → Expressions → Bool
-suit None es = true
-suit (Some parameters) es = nat_le (length parameters) 4 && all_give (given_ranges parameters) es
+abbrev pub take : Option (List Parameter) → Expressions → Bool
+take None es = false
+take (Some parameters) es = nat_le (length parameters) 4 && all_give (given_ranges parameters) es
+
+-- arguments suit what is called, where these are the operations of the same object, if it has any; those of a suspension object and
+-- Clock take no values
+abbrev pub suit : List Shape → List OperationShape → Callee → Expressions → Bool
+suit shapes own (callee.Internal operation) es = take (of_operation (numbered own operation)) es
+suit shapes own (callee.OwnEntry operation) es = take (of_operation (numbered own operation)) es
+suit shapes own (callee.Function object operation) es = take (of_target (target shapes object operation)) es
+suit shapes own (callee.Procedure object operation) es = take (of_target (target shapes object operation)) es
+suit shapes own (callee.Entry object operation) es = take (of_target (target shapes object operation)) es
+suit shapes own callee.DelayUntil es = take (Some (time_parameter ∷ [])) es
+suit shapes own other es = true
 
 -- Where code stands
 
@@ -99,7 +100,7 @@ abbrev mutual
   expression_ranged shapes s (prefixed op e) = expression_ranged shapes s e
   expression_ranged shapes s (chain e ls) = expression_ranged shapes s e && links_ranged shapes s ls
   expression_ranged shapes s (within range e) = expression_ranged shapes s e
-  expression_ranged shapes s (call c es) = suit (wanted shapes s.operations c) es && expressions_ranged shapes s es
+  expression_ranged shapes s (call c es) = suit shapes s.operations c es && expressions_ranged shapes s es
 
   pub expressions_ranged : List Shape → Stand → Expressions → Bool
   expressions_ranged shapes s no_expressions = true
@@ -150,7 +151,7 @@ abbrev mutual
   statement_ranged shapes s (raises exception) = true
   statement_ranged shapes s reraises = true
   statement_ranged shapes s (calls c es kept) =
-      suit (wanted shapes s.operations c) es && (expressions_ranged shapes s es && list_all (target_keeps s) kept)
+      suit shapes s.operations c es && (expressions_ranged shapes s es && list_all (target_keeps s) kept)
 
   pub statements_ranged : List Shape → Stand → Statements → Bool
   statements_ranged shapes s no_statements = true

@@ -1,10 +1,9 @@
 //! What calls are given (6.4.1).
 
-ghost use Rattle.std.specs.Prelude.{◌≡◌, ◌&&◌, nat_le, length, Some};
-ghost use Rattle.std.specs.Option.{option_map};
+ghost use Rattle.std.specs.Prelude.{◌≡◌, Some};
 ghost use Rattle.rv_shape.specs.Catalogue.{numbered, target};
 ghost use Rattle.rv_code.specs.ExpressionView.{expressions_view};
-ghost use Rattle.rv_ranged.specs.Ranged.{all_give, given_ranges, of_operation, of_target, wanted, suit};
+ghost use Rattle.rv_ranged.specs.Ranged.{all_give, given_ranges, of_operation, of_target, take, suit};
 
 use crate::range::{gives, time_parameter};
 use crate::stand::Stand;
@@ -38,28 +37,28 @@ fn all_give(parameters: &[Parameter], es: &Vec<Expression>) -> bool
 
 // Whether arguments give such parameters values of their ranges.
 fn take(parameters: &[Parameter], es: &Vec<Expression>) -> bool
-    ensures { result ≡ suit (Some parameters.now) (expressions_view es.now.items) }
+    ensures { result ≡ take (Some parameters.now) (expressions_view es.now.items) }
 {
     parameters.len() <= MOST_GIVEN && all_give(parameters, es)
 }
 
 // The same for an operation of the same object.
 fn own_take(stand: &Stand<'_>, operation: usize, es: &Vec<Expression>) -> bool
-    ensures { result ≡ suit (of_operation (numbered stand.now.operations operation)) (expressions_view es.now.items) }
+    ensures { result ≡ take (of_operation (numbered stand.now.operations operation)) (expressions_view es.now.items) }
 {
     match operation_at(stand.operations, operation) {
         Some(operation) => take(operation.parameters(), es),
-        None => true,
+        None => false,
     }
 }
 
 // The same for an operation of a number.
 fn target_takes(units: &Units<'_>, object: usize, operation: usize, es: &Vec<Expression>) -> bool
-    ensures { result ≡ suit (of_target (target units.now object operation)) (expressions_view es.now.items) }
+    ensures { result ≡ take (of_target (target units.now object operation)) (expressions_view es.now.items) }
 {
     match units.callee(object, operation) {
         Called::Protected(_, _, operation) => take(operation.parameters(), es),
-        _ => true,
+        _ => false,
     }
 }
 
@@ -70,7 +69,7 @@ pub(crate) fn suit(
     units: &Units<'_>,
     stand: &Stand<'_>,
 ) -> bool
-    ensures { result ≡ suit (wanted units.now stand.now.operations callee.now) (expressions_view es.now.items) }
+    ensures { result ≡ suit units.now stand.now.operations callee.now (expressions_view es.now.items) }
 {
     match *callee {
         Callee::Internal(operation) | Callee::OwnEntry(operation) => own_take(stand, operation, es),

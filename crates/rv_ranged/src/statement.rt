@@ -4,7 +4,7 @@ ghost use Rattle.std.specs.Prelude.{◌≡◌, ◌&&◌, nat_le, length};
 ghost use Rattle.std.specs.List.{list_all};
 ghost use Rattle.rv_code.specs.ExpressionView.{expression_view, expressions_view};
 ghost use Rattle.rv_code.specs.StatementView.{statement_view, statements_view, branch_view, branches_view, alternatives_view};
-ghost use Rattle.rv_ranged.specs.Ranged.{expression_ranged, expressions_ranged, result_given, statement_ranged, statements_ranged, suit, target_keeps, wanted, branches_ranged, alternatives_ranged};
+ghost use Rattle.rv_ranged.specs.Ranged.{expression_ranged, expressions_ranged, result_given, statement_ranged, statements_ranged, suit, target_keeps, branches_ranged, alternatives_ranged};
 
 use crate::arguments::suit;
 use crate::expression::{expression_ranged, expressions_ranged};
@@ -40,7 +40,7 @@ fn call_ranged(
     units: &Units<'_>,
     stand: &Stand<'_>,
 ) -> bool
-    ensures { result ≡ (suit (wanted units.now stand.now.operations callee.now) (expressions_view given.now.items)
+    ensures { result ≡ (suit units.now stand.now.operations callee.now (expressions_view given.now.items)
         && (expressions_ranged units.now stand.now (expressions_view given.now.items) && list_all (target_keeps stand.now) targets.now.items)) }
 {
     suit(callee, given, units, stand)
