@@ -5,6 +5,7 @@
 mod arguments;
 mod body;
 mod expression;
+pub mod laws;
 mod operation;
 mod range;
 mod stand;
