@@ -170,6 +170,9 @@ package Ravenhost is
    function Halt (Of_Host : in out Host) return Kind
      with Import, Convention => C, External_Name => "rh_halt";
 
+   function Archive (Of_Host : in out Host; Number : Interfaces.C.size_t) return Kind
+     with Import, Convention => C, External_Name => "rh_archive";
+
    function Find_Actor
      (Of_Host : in out Host;
       Name    : Interfaces.C.char_array;

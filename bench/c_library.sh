@@ -9,7 +9,7 @@
 # - ada/tell.adb says the same of the rows, where gnatmake is;
 # - each row that is played without settings, unit texts and faults goes through a handle too, call by call, and its journal is the row's;
 # - each call of a handle gives what is due, with each allocation refused in turn; what is refused changes nothing;
-# - examples/c_host and examples/ada_host print their journal, and examples/c_plant runs 20 times, its journals legal;
+# - examples/c_host and examples/ada_host print their journal, and examples/c_plant and examples/ada_plant run 20 times, their journals legal;
 # - sizes and offsets of the Ada package are the header's.
 # Statuses: 0 as due, 1 something isn't, 2 the library can't be built, 127 a tool is missing. Needs rt, make, cc, ar, nm, pkg-config,
 # awk and cmp.
@@ -75,8 +75,8 @@ rm -rf "$folder/c_audit/out"
 holds "the example builds by its own Makefile" make -C "$folder/c_audit" CFLAGS="-g $checks"
 c_audit=$folder/c_audit/out/c_audit
 
-holds "the header's stack is that of the crates" grep -q '^pub const STACK_BYTES: usize = 512 \* 1024 \* 1024;' \
-    "$top/crates/rv_exec/src/machine.rt"
+holds "the header's stack is that of the crates" grep -q '^pub const STACK_BYTES: usize = 4 \* 1024 \* 1024;' \
+    "$top/crates/rv_unit/src/lib.rt"
 
 # The deepest bodies need more stack than a first thread mostly has; c_audit has a thread of its own for that, and Ada's program not.
 ulimit -s 1048576 2>/dev/null || ulimit -s "$(ulimit -H -s)" 2>/dev/null || echo "no larger stack is to be had: deep rows may fail"
@@ -196,6 +196,8 @@ static int order(const char *line, const struct words *words)
             rh_tick(&host, (uint32_t)number);
     } else if (strcmp(deed, "halt") == 0)
         rh_halt(&host);
+    else if (strcmp(deed, "archive") == 0)
+        rh_archive(&host, (size_t)number);
     else if (strcmp(deed, "append") == 0)
         rh_append_line(&host, behind(line, 2), strlen(behind(line, 2)), &told);
     else if (strcmp(deed, "remove") == 0)
@@ -625,12 +627,37 @@ static void layout(void)
     rh_free(&handle.host);
 }
 
+/* An archive gives the places of the first entries back, and their lines are told no more. */
+static void archives(void)
+{
+    static char lines[4096];
+    rh_host small = rh_none();
+    rh_state state;
+    rh_text told = rh_text_over(lines, sizeof lines);
+    size_t next = 0;
+    int32_t got;
+    check(rh_archive(&small, 1) == RH_NO_HOST, "an archive of no host", 0);
+    check(rh_create(16, 1, &small) == RH_DONE, "a host", 0);
+    while ((got = rh_tick(&small, 1)) == RH_ACCEPTED)
+        ;
+    check(got == RH_FULL, "a full journal", got);
+    check(rh_state_of(&small, &state) == RH_DONE && state.used > 8 && state.room == 0, "the state of a full one", (long)state.used);
+    check(rh_archive(&small, 0) == RH_MISUSE && rh_archive(&small, state.used + 1) == RH_MISUSE, "archives that don't fit", 0);
+    check(rh_archive(&small, 8) == RH_ACCEPTED && rh_archive(&small, 8) == RH_MISUSE, "an archive, and the same again", 0);
+    check(rh_tick(&small, 1) == RH_ACCEPTED, "room behind an archive", 0);
+    check(rh_journal(&small, 8, &next, &told) == RH_DONE && next == 8 && told.length == 0, "what was given up", (long)next);
+    check(rh_journal(&small, 9, &next, &told) == RH_DONE && next == state.used + 3 && told.length > 0 && lines[0] == '9', "what is there",
+          (long)next);
+    rh_free(&small);
+}
+
 int main(void)
 {
     long number = 0;
     int more = 1;
     run();
     layout();
+    archives();
     while (more && faults == 0) {
         left = number++;
         run();
@@ -747,6 +774,11 @@ END
         && gnatmake -q -gnat12 -gnatwae -I'$top/ada' '$top/examples/ada_host/ada_host.adb' -largs '$library'"
     told "sizes and offsets of the Ada package" 0 "$folder/due_sizes" "$folder/nothing" "$folder/ada/sizes"
     told "examples/ada_host" 0 "$folder/due_journal" "$folder/nothing" "$folder/ada/ada_host"
+    holds "examples/ada_plant builds" sh -c "cd '$folder/ada' && gnatmake -q -gnat12 -gnatwae -I'$top/ada' -I'$top/examples/ada_plant' \
+        '$top/examples/ada_plant/ada_plant.adb' -largs '$library'"
+    for _ in $(seq 20); do
+        told "examples/ada_plant" 0 "$folder/due_plant" "$folder/nothing" timeout 60 "$folder/ada/ada_plant"
+    done
 fi
 
 cat >"$folder/buffers.c" <<'END'

@@ -29,9 +29,9 @@
  * - That the caller keeps to the types. `script` points to `length` bytes, which nobody writes during the call; `told` points to a text
  *   of its own, and its `bytes` to `capacity` bytes of their own, which nobody else reads or writes during the call. No pointer
  *   is null, not even where there are no bytes or values behind it (rh_text_over sees to that of a text).
- * - The caller's stack, which has to hold the bodies that a play runs: docs/THREADS.md, 'What a thread's stack must hold'. The 8 MiB
- *   that a main thread mostly has do for bodies a few calls deep; a deeper one overflows them, which ends the program. So play scripts
- *   that aren't yours in a thread with RH_STACK_BYTES of stack, as examples/c_audit does.
+ * - The caller's stack, which has to hold the reading of a script's texts: RH_STACK_BYTES do for any. The 8 MiB that a main thread
+ *   mostly has are more than that; a thread of yours with less may overflow, which ends the program (examples/c_audit makes one that
+ *   has them). Bodies run on a stack of their own, however deep they call.
  * - The program's malloc, realloc and free: they are of one allocator, and align a block to each power of two up to 16 that divides its
  *   size. Make no call in a signal handler, or in the forked child of a process that had threads.
  * - That this file says of the exports what they are. The bench compares sizes and offsets.
@@ -47,8 +47,8 @@
 extern "C" {
 #endif
 
-/* A stack that holds any bodies that a script may have, in bytes of address space. */
-#define RH_STACK_BYTES ((size_t)512 * 1024 * 1024)
+/* A stack that holds the reading of any script, in bytes of address space. */
+#define RH_STACK_BYTES ((size_t)4 * 1024 * 1024)
 
 /* What a call ends with: the status that the program would have. */
 enum {
@@ -197,6 +197,11 @@ int32_t rh_remove_line(rh_host *host, size_t number);
 int32_t rh_tick(rh_host *host, uint32_t ticks);
 int32_t rh_halt(rh_host *host);
 
+/* Gives up the first entries of the journal, so many in all, by the operator: rh_journal tells them no more, and as many more have room.
+ * So take their lines before. RH_MISUSE where the number isn't above that of the last archive, there are fewer entries, or the number and
+ * the capacity are 10^12 or more together. */
+int32_t rh_archive(rh_host *host, size_t number);
+
 /* The number of a task by its name, `Unit.Task`; of an operation by that of its object, `Unit.Object`, and its own. RH_DONE, or
  * RH_UNKNOWN_NAME, and then nothing is written. Numbers stay when more is loaded. */
 int32_t rh_find_actor(rh_host *host, const char *name, size_t length, size_t *actor);
@@ -222,7 +227,7 @@ int32_t rh_fire(rh_host *host, uint32_t line, rh_answer *answer);
 int32_t rh_delay_until(rh_host *host, size_t actor, int64_t tick, rh_answer *answer);
 
 /* The lines of the journal from a number on, which counts from 1: those of up to 50 entries. next gets the number behind them, which is the
- * same number where there are none yet. RH_DONE; else nothing is told. Where length is more than capacity, call again with more room. */
+ * same number where there are none yet, or none any more (rh_archive). RH_DONE; else nothing is told. Where length is more than capacity, call again with more room. */
 int32_t rh_journal(rh_host *host, size_t from, size_t *next, rh_text *lines);
 
 /* RH_DONE, and the state. */

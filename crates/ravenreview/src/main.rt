@@ -12,8 +12,8 @@ mod wishing;
 
 use explaining::answer;
 use line::{asked, words_of};
-use rv_exec::machine::STACK_BYTES;
 use rv_fault::Failure;
+use rv_unit::STACK_BYTES;
 use status::{NO_MEANS, Stop, status_of};
 use std::alloc::Global;
 use std::process::ExitCode;

@@ -3,7 +3,7 @@
 ghost use Rattle.std.specs.Prelude.{◌≡◌, ◌≢◌, ◌+◌, pos, None, Some, IsSome, MatchOption, length, if◌then◌else◌};
 ghost use Rattle.rv_access.specs.declared.change.Change.TheVariants as Changes;
 ghost use Rattle.rv_event.specs.Past.{halted};
-ghost use Rattle.rv_event.specs.declared.entry.Request.TheVariants.{Clock, DelayUntil, Fire, Halt, Quit, Resume, Settle, Tick};
+ghost use Rattle.rv_event.specs.declared.entry.Request.TheVariants.{Archive, Clock, DelayUntil, Fire, Halt, Quit, Resume, Settle, Tick};
 ghost use Rattle.rv_history.specs.History.{version};
 ghost use Rattle.rv_history.specs.Legal as legal;
 ghost use Rattle.rv_history.specs.Limits.{limits_with};
@@ -121,6 +121,14 @@ pub extern "C" fn rh_halt(alloc: Global, host: &mut Handle) -> i32
     ensures { Orders Halt host.old.value host.new.value result }
 {
     rv_c_host::command(alloc, host, &Request::Halt)
+}
+
+/// The first entries of the journal, so many, are given up.
+#[unsafe(no_mangle)]
+pub extern "C" fn rh_archive(alloc: Global, host: &mut Handle, number: usize) -> i32
+    ensures { Orders (Archive number) host.old.value host.new.value result }
+{
+    rv_c_host::command(alloc, host, &Request::Archive(number))
 }
 
 /// As `rv_c_host::find_actor`.
