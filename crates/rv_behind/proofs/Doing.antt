@@ -33,6 +33,7 @@ use Rattle.rv_code.specs.declared.expression.Callee.{Callee}
 use Rattle.rv_fits.proofs.Both.{first_of_both, second_of_both, both_hold}
 use Rattle.rv_fits.proofs.Keeps.{calls_keep, alone_calls}
 use Rattle.rv_fits.specs.Calls.{object_calls, task_calls, such_in, objects_call, calls_from}
+use Rattle.rv_ranged.specs.Ranged.{ranges_fit}
 use Rattle.rv_fits.specs.Fits.{are_of, callee_fits, calls_fit, numbered_as, unit_calls_fit}
 use Rattle.rv_code.specs.BodyView.{unit_view}
 use Rattle.rv_code.specs.declared.body.UnitBodies.{UnitBodies}
@@ -385,10 +386,11 @@ pub brings_more : (h k : History) (bodies more : Bodies) (shape : Shape) (unit :
     → is_some (recorded r) ≡ true → units_of more ≡ units_of bodies ++ unit ∷ [] → AreBrought k more
 brings_more h k bodies more shape unit r l b new e kept is =
     let these : are_of h.shapes shape (unit_view unit) ≡ true = ap (λ (z : List Shape). are_of z shape (unit_view unit)) (sym (catalogue_log h (units_of bodies) l)) ∙ new in
+    let calls = first_of_both (numbered_as shape (unit_view unit) && unit_calls_fit h.shapes shape (unit_view unit)) (ranges_fit (h.shapes ++ shape ∷ []) shape.objects (unit_view unit)) these in
     record {
       count = brought_more h k (units_of bodies) (units_of more) shape unit r b.count e kept is;
-      numbered = numbered_more h k bodies more shape unit r b.numbered (first_of_both (numbered_as shape (unit_view unit)) (unit_calls_fit h.shapes shape (unit_view unit)) these) e kept is;
-      fit = fits_more h k bodies more shape unit r b.numbered b.fit (second_of_both (numbered_as shape (unit_view unit)) (unit_calls_fit h.shapes shape (unit_view unit)) these) e kept is;
+      numbered = numbered_more h k bodies more shape unit r b.numbered (first_of_both (numbered_as shape (unit_view unit)) (unit_calls_fit h.shapes shape (unit_view unit)) calls) e kept is;
+      fit = fits_more h k bodies more shape unit r b.numbered b.fit (second_of_both (numbered_as shape (unit_view unit)) (unit_calls_fit h.shapes shape (unit_view unit)) calls) e kept is;
     }
 
 pub brings_same : (h k : History) (bodies : Bodies) (shape : Shape) (r : Answer) → AreBrought h bodies → k ≡ after_load h shape r → is_some (recorded r) ≡ false → AreBrought k bodies

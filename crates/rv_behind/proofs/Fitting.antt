@@ -1,11 +1,13 @@
 -- Behind an act all bodies fit the units still.
 use Rattle.std.proofs.Common.{◌≡◌, ⊎_elim, Bool, true, List, [], ◌∷◌, ◌++◌, reverse, map, Some, None, sym, ap, ◌∙◌, subst}
 use Rattle.std.proofs.lemmas.List.{reverse-append}
+use Rattle.std.specs.Prelude.{◌&&◌}
 use Rattle.rv_shape.specs.Shape.{Shape}
 use Rattle.rv_code.specs.BodyView.{unit_view}
 use Rattle.rv_code.specs.declared.body.UnitBodies.{UnitBodies}
 use Rattle.rv_exec.specs.Bodies.{all_of}
 use Rattle.rv_fits.proofs.Both.{first_of_both, second_of_both}
+use Rattle.rv_ranged.specs.Ranged.{ranges_fit}
 use Rattle.rv_fits.specs.Fits.{calls_fit, numbered_as, unit_calls_fit}
 use Rattle.rv_behind.specs.Acting.{all_numbered, BodiesFit, BodiesStayFit, fits_behind}
 use Rattle.rv_behind.specs.Adding.{MayAdd, due_adds}
@@ -30,9 +32,10 @@ newest_first p log e = ap p (reverse-append log (e ∷ []))
 load_fits : (log : List Event) (shape : Shape) (unit : UnitBodies) → fits_behind log shape unit ≡ true → BodiesFit log → BodiesFit (log ++ Loads shape (Some unit) ∷ [])
 load_fits log shape unit new f =
     let numbered : Bool = numbered_as shape (unit_view unit) in
-    let calls : Bool = unit_calls_fit (catalogue_of log) shape (unit_view unit) in (
-      newest_first back_numbered log (Loads shape (Some unit)) ∙ one_more_numbered (catalogue_of log) shape (units_at log) unit f.0 (first_of_both numbered calls new),
-      newest_first back_fits log (Loads shape (Some unit)) ∙ one_more_fits (catalogue_of log) shape (units_at log) unit f.0 f.1 (second_of_both numbered calls new),
+    let calls : Bool = unit_calls_fit (catalogue_of log) shape (unit_view unit) in
+    let both : (numbered && calls) ≡ true = first_of_both (numbered && calls) (ranges_fit (catalogue_of log ++ shape ∷ []) shape.objects (unit_view unit)) new in (
+      newest_first back_numbered log (Loads shape (Some unit)) ∙ one_more_numbered (catalogue_of log) shape (units_at log) unit f.0 (first_of_both numbered calls both),
+      newest_first back_fits log (Loads shape (Some unit)) ∙ one_more_fits (catalogue_of log) shape (units_at log) unit f.0 f.1 (second_of_both numbered calls both),
     )
 
 event_fits : (log : List Event) (e : Event) (ask : Ask) → MayAdd log e ask → BodiesFit log → BodiesFit (log ++ e ∷ [])
