@@ -150,12 +150,13 @@ module _ (shapes : List Shape) (object : ProtectedShape) (here : List OperationN
   closed_asks operation body m later now (e, a) f =
       let values = given_back body.parameters 0 a.slots [] in
       let sides = second_of_both (kind_fits body.is_function operation.kind) (nat_le (length operation.parameters) 4 && parameters_fit body.parameters operation.parameters) m in
-      let few = four (length operation.parameters) (first_of_both (nat_le (length operation.parameters) 4) (parameters_fit body.parameters operation.parameters) sides) in
-      (outcome_left here now (result_of operation.kind) body.is_function e values f.0,
-      f.1.1,
-      outcome_in here now operation.kind operation.parameters body.is_function e values
-      (first_of_both (kind_fits body.is_function operation.kind) (nat_le (length operation.parameters) 4 && parameters_fit body.parameters operation.parameters) m) f.0
-      (given_back_fits body.parameters operation.parameters a.slots (second_of_both (nat_le (length operation.parameters) 4) (parameters_fit body.parameters operation.parameters) sides) f.1.0 few))
+      let few = four (length operation.parameters) (first_of_both (nat_le (length operation.parameters) 4) (parameters_fit body.parameters operation.parameters) sides) in (
+        outcome_left here now (result_of operation.kind) body.is_function e values f.0,
+        f.1.1,
+        outcome_in here now operation.kind operation.parameters body.is_function e values
+            (first_of_both (kind_fits body.is_function operation.kind) (nat_le (length operation.parameters) 4 && parameters_fit body.parameters operation.parameters) m) f.0
+            (given_back_fits body.parameters operation.parameters a.slots (second_of_both (nat_le (length operation.parameters) 4) (parameters_fit body.parameters operation.parameters) sides) f.1.0 few),
+      )
 
   body_asks : (w : World) → AskingWorld shapes object.operations object.components here w → (operation : Option OperationShape) (o : Option Body) → BodyOf shapes w.object object o operation
       → (next : OperationNumber) (values scalars : List ℤ) (steps : ℕ) → SuitsValues (of_operation operation) values → all_fit (component_ranges object.components) scalars ≡ true

@@ -89,17 +89,17 @@ module _ (shapes : List Shape) (s : Stand) (here : List OperationNumber) where
   unfolding step
   step_asks next a go f kept = less_asks next a.steps a go f kept
 
-  turns_ask : {P : ℤ → Type 0} (n : ℕ) (condition : Activation → Asking Got) (body : Activation → Run) (next : OperationNumber) (a : Activation)
+  turns_ask : (P : ℤ → Type 0) (n : ℕ) (condition : Activation → Asking Got) (body : Activation → Run) (next : OperationNumber) (a : Activation)
       → ((later : OperationNumber) (b : Activation) → IsKept s b → Asks shapes (GotEnds s P here) later here (condition b))
       → ((later : OperationNumber) (b : Activation) → IsKept s b → Asks shapes (RunEnds s here) later here (body b))
       → IsKept s a → Asks shapes (RunEnds s here) next here (turns n condition body a)
   unfolding turns
-  turns_ask {P = P} zero condition body next a f g kept = (refl, kept)
-  turns_ask {P = P} (suc n) condition body next a f g kept =
+  turns_ask P zero condition body next a f g kept = (refl, kept)
+  turns_ask P (suc n) condition body next a f g kept =
       asks_run shapes s here P next (condition a) (λ v b. cond (is_true v) (step b (λ c. and_then (body c) (again (turns n condition body)))) (ended (end.Next, b))) (f next a kept)
       (λ later v b p still. asks_if shapes (RunEnds s here) later here (is_true v) (step b (λ c. and_then (body c) (again (turns n condition body)))) (ended (end.Next, b))
       (step_asks later b (λ c. and_then (body c) (again (turns n condition body)))
-      (λ last c more. asks_again shapes s here last (body c) (turns n condition body) (g last c more) (λ x d kept_then. turns_ask {P = P} n condition body x d f g kept_then)) still)
+      (λ last c more. asks_again shapes s here last (body c) (turns n condition body) (g last c more) (λ x d kept_then. turns_ask P n condition body x d f g kept_then)) still)
       (refl, still))
 
   values_ask : (n : ℕ) (is_reverse : Bool) (low high : ℤ) (slot : ℕ) (body : Activation → Run) (next : OperationNumber) (a : Activation) → nat_le (length s.parameters) slot ≡ true
@@ -136,7 +136,7 @@ module _ (shapes : List Shape) (s : Stand) (here : List OperationNumber) (w : Wo
     statement_asks (selection e alternatives) next a m kept =
         asks_run shapes s here (GivesSo e) next (value w e a) (selected w alternatives) (value_asks shapes s here w k e next a m.0 kept) (λ later v b g more. alternatives_ask alternatives later v b m.1 more)
     statement_asks (while_loop e ss) next a m kept =
-        turns_ask shapes s here {P = GivesSo e} (suc (steps_left a)) (value w e) (meanings w ss) next a (λ later b more. value_asks shapes s here w k e later b m.0 more) (λ later b more. statements_ask ss later b m.1 more) kept
+        turns_ask shapes s here (GivesSo e) (suc (steps_left a)) (value w e) (meanings w ss) next a (λ later b more. value_asks shapes s here w k e later b m.0 more) (λ later b more. statements_ask ss later b m.1 more) kept
     statement_asks (for_loop slot is_reverse range low high ss) next a m kept =
         asks_run shapes s here (GivesSo low) next (value w low a) (λ v b. and_then (value w high b) (on_value abandons (for_each is_reverse range slot (meanings w ss) v))) (value_asks shapes s here w k low next a m.1 kept)
         (λ later v b g more. asks_run shapes s here (GivesSo high) later (value w high b) (for_each is_reverse range slot (meanings w ss) v) (value_asks shapes s here w k high later b m.2 more)

@@ -93,7 +93,7 @@ bound_left here false v = refl
 prefix_left : (here : List OperationNumber) (op : Prefix) (v : ℤ) → GotLeft Silent here here (prefix_of op v)
 prefix_left here prefix.Negate v = checked_left here (whole (neg_ℤ v))
 prefix_left here prefix.Absolute v = checked_left here (whole (pos (unsigned_abs v)))
-prefix_left here prefix.Not v = (refl, silent (truth (cond (is_true v) false true)))
+prefix_left here prefix.Not v = (refl, λ range e. absurd (cc e))
 
 bounds_left : (here : List OperationNumber) (low high v : ℤ) → GotLeft Silent here here (in_bounds low high v)
 bounds_left here low high v = bound_left here (int_le low v && int_le v high) v

@@ -73,10 +73,11 @@ abbrev out_ranges : Bool → Parameter → List Parameter → List Range
 out_ranges k p ps = map (λ (q : Parameter). q.range) (cond k (p ∷ filter (λ (q : Parameter). goes_out q.mode) ps) (filter (λ (q : Parameter). goes_out q.mode) ps))
 
 one_back : (p : Parameter) (ps : List Parameter) (before : List ℤ) (v : ℤ) (values : List ℤ) → length before < 4 → holds p.range v ≡ true → GivenBack (ranges_out ps) (joined before v) values → GivenBack (out_ranges true p ps) before values
-one_back p ps before v values less h rest =
-    (v ∷ rest.0,
-    rest.1 ∙ (ap (λ (vs : List ℤ). vs ++ rest.0) (joined_is before v less) ∙ append_assoc before (v ∷ []) rest.0),
-    both_hold (holds p.range v) (all_fit (ranges_out ps) rest.0) h rest.2)
+one_back p ps before v values less h rest = (
+  v ∷ rest.0,
+  rest.1 ∙ (ap (λ (vs : List ℤ). vs ++ rest.0) (joined_is before v less) ∙ append_assoc before (v ∷ []) rest.0),
+  both_hold (holds p.range v) (all_fit (ranges_out ps) rest.0) h rest.2,
+)
 
 back_by_mode : (k : Bool) (owns : List Parameter) (p : Parameter) (ps : List Parameter) (slot : ℕ) (slots before : List ℤ) (v : ℤ) → length before + length (p ∷ ps) ≤ 4 → holds p.range v ≡ true
     → ((values : List ℤ) → length values + length ps ≤ 4 → GivenBack (ranges_out ps) values (given_back owns (suc slot) slots values))
@@ -100,7 +101,7 @@ given_fits (own ∷ owns) (p ∷ ps) slot slots before m f few =
 pub given_back_fits : (owns ps : List Parameter) (slots : List ℤ) → parameters_fit owns ps ≡ true → KeptSlots ps slots → length ps ≤ 4 → all_fit (ranges_out ps) (given_back owns 0 slots []) ≡ true
 given_back_fits owns ps slots m f few =
     let got = given_fits owns ps 0 slots [] m
-      (λ i p e. let same : i ≡ 0 + i = omega arith in subst (λ (n : ℕ). holds p.range (slice_index_or slots n (pos 0)) ≡ true) same (f i p e)) (omega (arith, few)) in
+    (λ i p e. let same : i ≡ 0 + i = omega arith in subst (λ (n : ℕ). holds p.range (slice_index_or slots n (pos 0)) ≡ true) same (f i p e)) (omega (arith, few)) in
     subst (λ (vs : List ℤ). all_fit (ranges_out ps) vs ≡ true) (sym got.1) got.2
 
 -- What is taken

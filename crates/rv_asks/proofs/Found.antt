@@ -74,9 +74,9 @@ pub home_of : (shapes : List Shape) (object operation : ℕ) (site : Site) → A
 home_of shapes object operation site at n =
     at_home (numbered site.object.operations n) at.at.unit site.object
     ∙ (ap (λ (x : Object). of_target (at_object n at.at.unit x)) (sym at.object_is) ∙ ap (λ (o : Option UnitObject). of_target (at_unit_object n o)) (sym at.place_is)) where
-  at_home : (o : Option OperationShape) (unit : List ℕ) (found : ProtectedShape) → of_operation o ≡ of_target (at_operation unit found o)
-  at_home None unit found = refl
-  at_home (Some own) unit found = refl
+      at_home : (o : Option OperationShape) (unit : List ℕ) (found : ProtectedShape) → of_operation o ≡ of_target (at_operation unit found o)
+      at_home None unit found = refl
+      at_home (Some own) unit found = refl
 
 -- Which body it has
 
@@ -102,9 +102,10 @@ numbered_body shapes object bs n m = by_test (nat_lt n 1) (each_body shapes obje
 body_of : (shapes : List Shape) (number : ℕ) (object : ProtectedShape) (o : Option Body) (operation : Option OperationShape) → RangedOf shapes object o operation → task_calls (such_in (callee_fits shapes) number) o ≡ true → BodyOf shapes number object o operation
 body_of shapes number object None operation m c = tt
 body_of shapes number object (Some body) None m c = m
-body_of shapes number object (Some body) (Some operation) m c =
-    (first_of_both (heads operation body) (body_ranged shapes (stand_of object operation) body) m,
-    body_suits shapes (such_in (callee_fits shapes) number) (stand_of object operation) body c (second_of_both (heads operation body) (body_ranged shapes (stand_of object operation) body) m))
+body_of shapes number object (Some body) (Some operation) m c = (
+  first_of_both (heads operation body) (body_ranged shapes (stand_of object operation) body) m,
+  body_suits shapes (such_in (callee_fits shapes) number) (stand_of object operation) body c (second_of_both (heads operation body) (body_ranged shapes (stand_of object operation) body) m),
+)
 
 -- Which object it is one of
 

@@ -50,10 +50,11 @@ passed_more before e es v g values p (range ∷ ranges) given few =
     let less : length before < 4 = omega (arith, few) in
     let is = joined_is before v less in
     let long : length (joined before v) ≡ length before + 1 = ap length is ∙ one_longer before v in
-    let rest = p ranges (second_of_both (gives range e) (all_give ranges es) given) (omega (arith, long, few)) in
-    (v ∷ rest.0,
-    rest.1 ∙ (ap (λ (vs : List ℤ). vs ++ rest.0) is ∙ append_assoc before (v ∷ []) rest.0),
-    both_hold (holds range v) (all_fit ranges rest.0) (g range (first_of_both (gives range e) (all_give ranges es) given)) rest.2)
+    let rest = p ranges (second_of_both (gives range e) (all_give ranges es) given) (omega (arith, long, few)) in (
+      v ∷ rest.0,
+      rest.1 ∙ (ap (λ (vs : List ℤ). vs ++ rest.0) is ∙ append_assoc before (v ∷ []) rest.0),
+      both_hold (holds range v) (all_fit ranges rest.0) (g range (first_of_both (gives range e) (all_give ranges es) given)) rest.2,
+    )
 
 no_more : (ps : List Parameter) → length (given_ranges ps) ≤ length ps
 no_more [] = omega arith

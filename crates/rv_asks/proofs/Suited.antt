@@ -65,49 +65,57 @@ module _ (shapes : List Shape) (such : Callee → Bool) (s : Stand) where
     expression_suits (variable slot) m r = tt
     expression_suits (component index) m r = tt
     expression_suits (prefixed op e) m r = expression_suits e m r
-    expression_suits (chain e ls) m r =
-        (expression_suits e (first_of_both (expression_calls such e) (links_call such ls) m) (first_of_both (expression_ranged shapes s e) (links_ranged shapes s ls) r),
-        links_suit ls (second_of_both (expression_calls such e) (links_call such ls) m) (second_of_both (expression_ranged shapes s e) (links_ranged shapes s ls) r))
+    expression_suits (chain e ls) m r = (
+      expression_suits e (first_of_both (expression_calls such e) (links_call such ls) m) (first_of_both (expression_ranged shapes s e) (links_ranged shapes s ls) r),
+      links_suit ls (second_of_both (expression_calls such e) (links_call such ls) m) (second_of_both (expression_ranged shapes s e) (links_ranged shapes s ls) r),
+    )
     expression_suits (within range e) m r = expression_suits e m r
-    expression_suits (call c es) m r =
-        (first_of_both (such c) (expressions_call such es) m,
-        first_of_both (suit shapes s.operations c es) (expressions_ranged shapes s es) r,
-        expressions_suit es (second_of_both (such c) (expressions_call such es) m) (second_of_both (suit shapes s.operations c es) (expressions_ranged shapes s es) r))
+    expression_suits (call c es) m r = (
+      first_of_both (such c) (expressions_call such es) m,
+      first_of_both (suit shapes s.operations c es) (expressions_ranged shapes s es) r,
+      expressions_suit es (second_of_both (such c) (expressions_call such es) m) (second_of_both (suit shapes s.operations c es) (expressions_ranged shapes s es) r),
+    )
 
     expressions_suit : (es : Expressions) → expressions_call such es ≡ true → expressions_ranged shapes s es ≡ true → ExpressionsSuit es
     expressions_suit no_expressions m r = tt
-    expressions_suit (and_expression e es) m r =
-        (expression_suits e (first_of_both (expression_calls such e) (expressions_call such es) m) (first_of_both (expression_ranged shapes s e) (expressions_ranged shapes s es) r),
-        expressions_suit es (second_of_both (expression_calls such e) (expressions_call such es) m) (second_of_both (expression_ranged shapes s e) (expressions_ranged shapes s es) r))
+    expressions_suit (and_expression e es) m r = (
+      expression_suits e (first_of_both (expression_calls such e) (expressions_call such es) m) (first_of_both (expression_ranged shapes s e) (expressions_ranged shapes s es) r),
+      expressions_suit es (second_of_both (expression_calls such e) (expressions_call such es) m) (second_of_both (expression_ranged shapes s e) (expressions_ranged shapes s es) r),
+    )
 
     links_suit : (ls : Links) → links_call such ls ≡ true → links_ranged shapes s ls ≡ true → LinksSuit ls
     links_suit no_links m r = tt
-    links_suit (and_link op e ls) m r =
-        (expression_suits e (first_of_both (expression_calls such e) (links_call such ls) m) (first_of_both (expression_ranged shapes s e) (links_ranged shapes s ls) r),
-        links_suit ls (second_of_both (expression_calls such e) (links_call such ls) m) (second_of_both (expression_ranged shapes s e) (links_ranged shapes s ls) r))
+    links_suit (and_link op e ls) m r = (
+      expression_suits e (first_of_both (expression_calls such e) (links_call such ls) m) (first_of_both (expression_ranged shapes s e) (links_ranged shapes s ls) r),
+      links_suit ls (second_of_both (expression_calls such e) (links_call such ls) m) (second_of_both (expression_ranged shapes s e) (links_ranged shapes s ls) r),
+    )
 
   mutual
     statement_suits : (x : Statement) → statement_calls such x ≡ true → statement_ranged shapes s x ≡ true → StatementSuits x
     statement_suits null_statement m r = tt
     statement_suits (assign target e) m r =
         (first_of_both (target_keeps s target) (expression_ranged shapes s e) r, expression_suits e m (second_of_both (target_keeps s target) (expression_ranged shapes s e) r))
-    statement_suits (choice bs otherwise) m r =
-        (branches_suit bs (first_of_both (branches_call such bs) (statements_call such otherwise) m) (first_of_both (branches_ranged shapes s bs) (statements_ranged shapes s otherwise) r),
-        statements_suit otherwise (second_of_both (branches_call such bs) (statements_call such otherwise) m) (second_of_both (branches_ranged shapes s bs) (statements_ranged shapes s otherwise) r))
-    statement_suits (selection e more) m r =
-        (expression_suits e (first_of_both (expression_calls such e) (alternatives_call such more) m) (first_of_both (expression_ranged shapes s e) (alternatives_ranged shapes s more) r),
-        alternatives_suit more (second_of_both (expression_calls such e) (alternatives_call such more) m) (second_of_both (expression_ranged shapes s e) (alternatives_ranged shapes s more) r))
-    statement_suits (while_loop e ss) m r =
-        (expression_suits e (first_of_both (expression_calls such e) (statements_call such ss) m) (first_of_both (expression_ranged shapes s e) (statements_ranged shapes s ss) r),
-        statements_suit ss (second_of_both (expression_calls such e) (statements_call such ss) m) (second_of_both (expression_ranged shapes s e) (statements_ranged shapes s ss) r))
+    statement_suits (choice bs otherwise) m r = (
+      branches_suit bs (first_of_both (branches_call such bs) (statements_call such otherwise) m) (first_of_both (branches_ranged shapes s bs) (statements_ranged shapes s otherwise) r),
+      statements_suit otherwise (second_of_both (branches_call such bs) (statements_call such otherwise) m) (second_of_both (branches_ranged shapes s bs) (statements_ranged shapes s otherwise) r),
+    )
+    statement_suits (selection e more) m r = (
+      expression_suits e (first_of_both (expression_calls such e) (alternatives_call such more) m) (first_of_both (expression_ranged shapes s e) (alternatives_ranged shapes s more) r),
+      alternatives_suit more (second_of_both (expression_calls such e) (alternatives_call such more) m) (second_of_both (expression_ranged shapes s e) (alternatives_ranged shapes s more) r),
+    )
+    statement_suits (while_loop e ss) m r = (
+      expression_suits e (first_of_both (expression_calls such e) (statements_call such ss) m) (first_of_both (expression_ranged shapes s e) (statements_ranged shapes s ss) r),
+      statements_suit ss (second_of_both (expression_calls such e) (statements_call such ss) m) (second_of_both (expression_ranged shapes s e) (statements_ranged shapes s ss) r),
+    )
     statement_suits (for_loop slot is_reverse range low high ss) m r =
         let bounds = first_of_both (expression_calls such low && expression_calls such high) (statements_call such ss) m in
         let behind = second_of_both (nat_le (length s.parameters) slot) (expression_ranged shapes s low && (expression_ranged shapes s high && statements_ranged shapes s ss)) r in
-        let last = second_of_both (expression_ranged shapes s low) (expression_ranged shapes s high && statements_ranged shapes s ss) behind in
-        (first_of_both (nat_le (length s.parameters) slot) (expression_ranged shapes s low && (expression_ranged shapes s high && statements_ranged shapes s ss)) r,
-        expression_suits low (first_of_both (expression_calls such low) (expression_calls such high) bounds) (first_of_both (expression_ranged shapes s low) (expression_ranged shapes s high && statements_ranged shapes s ss) behind),
-        expression_suits high (second_of_both (expression_calls such low) (expression_calls such high) bounds) (first_of_both (expression_ranged shapes s high) (statements_ranged shapes s ss) last),
-        statements_suit ss (second_of_both (expression_calls such low && expression_calls such high) (statements_call such ss) m) (second_of_both (expression_ranged shapes s high) (statements_ranged shapes s ss) last))
+        let last = second_of_both (expression_ranged shapes s low) (expression_ranged shapes s high && statements_ranged shapes s ss) behind in (
+          first_of_both (nat_le (length s.parameters) slot) (expression_ranged shapes s low && (expression_ranged shapes s high && statements_ranged shapes s ss)) r,
+          expression_suits low (first_of_both (expression_calls such low) (expression_calls such high) bounds) (first_of_both (expression_ranged shapes s low) (expression_ranged shapes s high && statements_ranged shapes s ss) behind),
+          expression_suits high (second_of_both (expression_calls such low) (expression_calls such high) bounds) (first_of_both (expression_ranged shapes s high) (statements_ranged shapes s ss) last),
+          statements_suit ss (second_of_both (expression_calls such low && expression_calls such high) (statements_call such ss) m) (second_of_both (expression_ranged shapes s high) (statements_ranged shapes s ss) last),
+        )
     statement_suits (exit_when e) m r = expression_suits e m r
     statement_suits returns m r = tt
     statement_suits (returns_value e) m r =
@@ -115,32 +123,36 @@ module _ (shapes : List Shape) (such : Callee → Bool) (s : Stand) where
     statement_suits (raises exception) m r = tt
     statement_suits reraises m r = tt
     statement_suits (calls c es targets) m r =
-        let behind = second_of_both (suit shapes s.operations c es) (expressions_ranged shapes s es && list_all (target_keeps s) targets) r in
-        (first_of_both (such c) (expressions_call such es) m,
-        first_of_both (suit shapes s.operations c es) (expressions_ranged shapes s es && list_all (target_keeps s) targets) r,
-        expressions_suit es (second_of_both (such c) (expressions_call such es) m) (first_of_both (expressions_ranged shapes s es) (list_all (target_keeps s) targets) behind),
-        second_of_both (expressions_ranged shapes s es) (list_all (target_keeps s) targets) behind)
+        let behind = second_of_both (suit shapes s.operations c es) (expressions_ranged shapes s es && list_all (target_keeps s) targets) r in (
+          first_of_both (such c) (expressions_call such es) m,
+          first_of_both (suit shapes s.operations c es) (expressions_ranged shapes s es && list_all (target_keeps s) targets) r,
+          expressions_suit es (second_of_both (such c) (expressions_call such es) m) (first_of_both (expressions_ranged shapes s es) (list_all (target_keeps s) targets) behind),
+          second_of_both (expressions_ranged shapes s es) (list_all (target_keeps s) targets) behind,
+        )
 
     pub statements_suit : (ss : Statements) → statements_call such ss ≡ true → statements_ranged shapes s ss ≡ true → StatementsSuit ss
     statements_suit no_statements m r = tt
-    statements_suit (and_statement x ss) m r =
-        (statement_suits x (first_of_both (statement_calls such x) (statements_call such ss) m) (first_of_both (statement_ranged shapes s x) (statements_ranged shapes s ss) r),
-        statements_suit ss (second_of_both (statement_calls such x) (statements_call such ss) m) (second_of_both (statement_ranged shapes s x) (statements_ranged shapes s ss) r))
+    statements_suit (and_statement x ss) m r = (
+      statement_suits x (first_of_both (statement_calls such x) (statements_call such ss) m) (first_of_both (statement_ranged shapes s x) (statements_ranged shapes s ss) r),
+      statements_suit ss (second_of_both (statement_calls such x) (statements_call such ss) m) (second_of_both (statement_ranged shapes s x) (statements_ranged shapes s ss) r),
+    )
 
     branches_suit : (bs : Branches) → branches_call such bs ≡ true → branches_ranged shapes s bs ≡ true → BranchesSuit bs
     branches_suit no_branches m r = tt
     branches_suit (and_branch e ss bs) m r =
         let here = first_of_both (expression_calls such e && statements_call such ss) (branches_call such bs) m in
-        let own = first_of_both (expression_ranged shapes s e && statements_ranged shapes s ss) (branches_ranged shapes s bs) r in
-        (expression_suits e (first_of_both (expression_calls such e) (statements_call such ss) here) (first_of_both (expression_ranged shapes s e) (statements_ranged shapes s ss) own),
-        statements_suit ss (second_of_both (expression_calls such e) (statements_call such ss) here) (second_of_both (expression_ranged shapes s e) (statements_ranged shapes s ss) own),
-        branches_suit bs (second_of_both (expression_calls such e && statements_call such ss) (branches_call such bs) m) (second_of_both (expression_ranged shapes s e && statements_ranged shapes s ss) (branches_ranged shapes s bs) r))
+        let own = first_of_both (expression_ranged shapes s e && statements_ranged shapes s ss) (branches_ranged shapes s bs) r in (
+          expression_suits e (first_of_both (expression_calls such e) (statements_call such ss) here) (first_of_both (expression_ranged shapes s e) (statements_ranged shapes s ss) own),
+          statements_suit ss (second_of_both (expression_calls such e) (statements_call such ss) here) (second_of_both (expression_ranged shapes s e) (statements_ranged shapes s ss) own),
+          branches_suit bs (second_of_both (expression_calls such e && statements_call such ss) (branches_call such bs) m) (second_of_both (expression_ranged shapes s e && statements_ranged shapes s ss) (branches_ranged shapes s bs) r),
+        )
 
     alternatives_suit : (more : Alternatives) → alternatives_call such more ≡ true → alternatives_ranged shapes s more ≡ true → AlternativesSuit more
     alternatives_suit no_alternatives m r = tt
-    alternatives_suit (and_alternative choices ss more) m r =
-        (statements_suit ss (first_of_both (statements_call such ss) (alternatives_call such more) m) (first_of_both (statements_ranged shapes s ss) (alternatives_ranged shapes s more) r),
-        alternatives_suit more (second_of_both (statements_call such ss) (alternatives_call such more) m) (second_of_both (statements_ranged shapes s ss) (alternatives_ranged shapes s more) r))
+    alternatives_suit (and_alternative choices ss more) m r = (
+      statements_suit ss (first_of_both (statements_call such ss) (alternatives_call such more) m) (first_of_both (statements_ranged shapes s ss) (alternatives_ranged shapes s more) r),
+      alternatives_suit more (second_of_both (statements_call such ss) (alternatives_call such more) m) (second_of_both (statements_ranged shapes s ss) (alternatives_ranged shapes s more) r),
+    )
 
   -- bodies
 
@@ -160,16 +172,18 @@ module _ (shapes : List Shape) (such : Callee → Bool) (s : Stand) where
   declarations_suit : (ds : List Declaration) → list_all (declaration_calls such) ds ≡ true → list_all (declaration_ranged shapes s) ds ≡ true → DeclarationsSuit ds
   declarations_suit [] m r = tt
   declarations_suit (d ∷ ds) m r =
-      let here = first_of_both (declaration_ranged shapes s d) (list_all (declaration_ranged shapes s) ds) r in
-      (first_of_both (target_keeps s d.target) (expression_ranged shapes s d.initial) here,
-      expression_suits d.initial (first_of_both (declaration_calls such d) (list_all (declaration_calls such) ds) m) (second_of_both (target_keeps s d.target) (expression_ranged shapes s d.initial) here),
-      declarations_suit ds (second_of_both (declaration_calls such d) (list_all (declaration_calls such) ds) m) (second_of_both (declaration_ranged shapes s d) (list_all (declaration_ranged shapes s) ds) r))
+      let here = first_of_both (declaration_ranged shapes s d) (list_all (declaration_ranged shapes s) ds) r in (
+        first_of_both (target_keeps s d.target) (expression_ranged shapes s d.initial) here,
+        expression_suits d.initial (first_of_both (declaration_calls such d) (list_all (declaration_calls such) ds) m) (second_of_both (target_keeps s d.target) (expression_ranged shapes s d.initial) here),
+        declarations_suit ds (second_of_both (declaration_calls such d) (list_all (declaration_calls such) ds) m) (second_of_both (declaration_ranged shapes s d) (list_all (declaration_ranged shapes s) ds) r),
+      )
 
   handlers_suit : (hs : List Handler) → list_all (handler_calls such) hs ≡ true → list_all (handler_ranged shapes s) hs ≡ true → HandlersSuit hs
   handlers_suit [] m r = tt
-  handlers_suit (h ∷ hs) m r =
-      (statements_suit h.statements (first_of_both (handler_calls such h) (list_all (handler_calls such) hs) m) (first_of_both (handler_ranged shapes s h) (list_all (handler_ranged shapes s) hs) r),
-      handlers_suit hs (second_of_both (handler_calls such h) (list_all (handler_calls such) hs) m) (second_of_both (handler_ranged shapes s h) (list_all (handler_ranged shapes s) hs) r))
+  handlers_suit (h ∷ hs) m r = (
+    statements_suit h.statements (first_of_both (handler_calls such h) (list_all (handler_calls such) hs) m) (first_of_both (handler_ranged shapes s h) (list_all (handler_ranged shapes s) hs) r),
+    handlers_suit hs (second_of_both (handler_calls such h) (list_all (handler_calls such) hs) m) (second_of_both (handler_ranged shapes s h) (list_all (handler_ranged shapes s) hs) r),
+  )
 
   pub body_suits : (b : Body) → body_calls such b ≡ true → body_ranged shapes s b ≡ true → BodySuits b
   body_suits b m r =

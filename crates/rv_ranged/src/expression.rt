@@ -31,11 +31,7 @@ pub(crate) fn expression_ranged(e: &Expression, units: &Units<'_>, stand: &Stand
 
 /// The same of arguments.
 #[cycle(expression)]
-pub(crate) fn expressions_ranged(
-    es: &Vec<Expression>,
-    units: &Units<'_>,
-    stand: &Stand<'_>,
-) -> bool
+pub(crate) fn expressions_ranged(es: &Vec<Expression>, units: &Units<'_>, stand: &Stand<'_>) -> bool
     ensures { result ≡ expressions_ranged units.now stand.now (expressions_view es.now.items) }
 {
     for e in es {

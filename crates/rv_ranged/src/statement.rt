@@ -14,12 +14,7 @@ use crate::units::Units;
 use rv_code::{Alternative, Branch, Callee, Expression, Statement, Target};
 
 // An assignment (5.2).
-fn assignment_ranged(
-    target: &Target,
-    e: &Expression,
-    units: &Units<'_>,
-    stand: &Stand<'_>,
-) -> bool
+fn assignment_ranged(target: &Target, e: &Expression, units: &Units<'_>, stand: &Stand<'_>) -> bool
     ensures { result ≡ (target_keeps stand.now target.now && expression_ranged units.now stand.now (expression_view e.now)) }
 {
     target_keeps(target, stand) && expression_ranged(e, units, stand)
