@@ -93,7 +93,7 @@ impl Texts {
     }
 
     /// Keeps the answer to a request of an actor, where its text goes on by it: `goes` says whether the request was a
-    /// `go`.
+    /// `go`. Where memory is refused nothing is kept.
     #[tactic(auto, using(crate::proofs::HeardMore::kept_added))]
     pub fn hear(
         &mut self,
@@ -102,7 +102,8 @@ impl Texts {
         request: &Request,
         answer: &Answer,
     ) -> Result<(), AllocError>
-        ensures { OnOk result (texts_view self.new ≡ hears (texts_view self.old) actor goes request.now answer.now) }
+        ensures ok { OnOk result (texts_view self.new ≡ hears (texts_view self.old) actor goes request.now answer.now) }
+        ensures err { OnErr result (texts_view self.new ≡ texts_view self.old) }
     {
         // The check is told of these types only where they are named.
         let _scalars: Option<Scalars> = None;
