@@ -425,9 +425,9 @@ def unit_of_objects(objects: int, statement: str, size: int = 236_000) -> bytes:
     """A unit with a protected type, so many objects of it, and a body in it that is this statement over and over."""
     names = ", ".join(f"Object_{number}" for number in range(objects))
     body = (statement * (78 // len(statement)) + "\n") * (size // (78 // len(statement) * len(statement) + 1))
-    return ("package Shared is\n   protected type Kind with Priority => 20 is\n      procedure Other;\n      procedure Long;\n   private\n      Count : Integer := 0;\n"
+    return ("package Shared is\n   protected type Kind with Priority => 20 is\n      procedure Other;\n      procedure Long;\n      entry Wait;\n   private\n      Count : Integer := 0;\n      Open : Boolean := False;\n"
             f"   end Kind;\n   {names} : Kind;\n   task Caller with Priority => 10;\nend Shared;\npackage body Shared is\n   protected body Kind is\n      procedure Other is\n      begin\n         null;\n"
-            f"      end Other;\n      procedure Long is\n      begin\n{body}      end Long;\n   end Kind;\n"
+            f"      end Other;\n      procedure Long is\n      begin\n{body}      end Long;\n      entry Wait when Open is\n      begin\n         null;\n      end Wait;\n   end Kind;\n"
             "   task body Caller is\n   begin\n      loop\n         Object_0.Other;\n      end loop;\n   end Caller;\nend Shared;\n").encode()
 
 
@@ -435,7 +435,7 @@ def bodies_that_objects_share(hands: Hands) -> None:
     """The bodies of a protected type are compiled once, however many objects share them."""
     _, floor, _ = cost_of(hands, ["check"], b"@unit\n" + unit_of_objects(1, "null;", 80))
     plain, _, _ = cost_of(hands, ["check"], b"@unit\n" + unit_of_objects(1, "null;"))
-    for statement in ("Other;", "null;", "Count:=Count+1;", "if Count>1 then Other;end if;"):
+    for statement in ("Other;", "Wait;", "null;", "Count:=Count+1;", "if Count>1 then Other;end if;", "if Open then Wait;end if;"):
         one, _, _ = cost_of(hands, ["check"], b"@unit\n" + unit_of_objects(1, statement))
         seconds, memory, said = cost_of(hands, ["check"], b"@unit\n" + unit_of_objects(256, statement))
         hands.due(f"{statement} with 256 objects is well formed", said == b"unit Shared: ok\n", said)

@@ -22,6 +22,8 @@ pub struct AuditedFile<'a> {
     pub takes_torn: bool,
     /// Whether the ends of bodies are explained.
     pub explains: bool,
+    /// How many entries each unit of the run could spend, where that was bounded.
+    pub allowance: Option<u32>,
     /// Whether somebody waits at a terminal.
     pub is_watched: bool,
 }
@@ -66,12 +68,13 @@ fn script_in<I: Read>(alloc: Global, reader: &mut I) -> Result<Vec<u8>, Stop> {
 fn judged_section<W: Write>(
     alloc: Global,
     explains: bool,
+    allowance: Option<u32>,
     script: &[u8],
     writer: &mut W,
 ) -> Result<(bool, bool), Failure> {
     let mut bytes = script;
     if explains {
-        let told = audit_explained(alloc, &mut bytes, writer)?;
+        let told = audit_explained(alloc, allowance, &mut bytes, writer)?;
         return Ok((told.is_legal && told.is_explained, told.is_legal));
     }
     let is_legal = audit(alloc, &mut bytes, writer)?;
@@ -84,11 +87,12 @@ pub fn judge<R: Eprint, I: Read, W: Write>(
     alloc: Global,
     telling: Telling,
     explains: bool,
+    allowance: Option<u32>,
     reader: &mut I,
     writer: &mut W,
 ) -> Result<(), Stop> {
     let script = script_in(alloc, reader)?;
-    match judged_section(alloc, explains, script.as_slice(), writer) {
+    match judged_section(alloc, explains, allowance, script.as_slice(), writer) {
         Ok((is_right, is_legal)) => {
             let noting = noting_of(telling);
             if !is_legal {
@@ -134,6 +138,7 @@ fn judged<R: Clock + Eprint, J: Read, W: Write>(
     if file.explains {
         let told = audit_file_explained(
             alloc,
+            file.allowance,
             &mut bytes,
             journal,
             file.takes_torn,

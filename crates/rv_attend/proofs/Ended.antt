@@ -82,10 +82,10 @@ keeps_from holds opened runs m chores written errors result plays unread kept =
 
 -- the settings of a script say how many entries its journal may have
 pub runs_kept : (old new : Around) (asked : Attention) (input rest : Reading) (result : Ended) (bytes slice : List ℕ) (runs : Bool) (heard : List Piece)
-    (told : Option (List Piece)) (first : Staffed) (capacity : ℕ) → slice ≡ bytes → OpensFor slice first capacity → TakesSections old.heard heard told input rest bytes runs
+    (told : Option (List Piece)) (first : Staffed) (capacity : ℕ) → slice ≡ bytes → OpensFor asked.quota slice first capacity → TakesSections old.heard heard told input rest bytes runs
     → KeepsFrom old.file (terms asked capacity) runs (point (come first old.written rest) heard told) new result → RunsKept old new asked input result
 runs_kept old new asked input rest result bytes slice runs heard told first capacity same opened takes keeps =
-    let opens : OpensFor bytes first capacity = subst (λ (b : List ℕ). OpensFor b first capacity) same opened in
+    let opens : OpensFor asked.quota bytes first capacity = subst (λ (b : List ℕ). OpensFor asked.quota b first capacity) same opened in
     record {
       bytes = bytes;
       runs = runs;

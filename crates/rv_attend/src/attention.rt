@@ -14,7 +14,7 @@ pub enum Typing {
 pub struct Attention {
     /// The milliseconds between two ticks, where a real clock is followed.
     pub period: Option<u64>,
-    /// How many entries a unit's tasks may add, where that is bounded.
+    /// How many entries each unit may spend, where that is bounded.
     pub quota: Option<u32>,
     /// The room of the journal below which the run ends.
     pub halt_below: Option<u32>,

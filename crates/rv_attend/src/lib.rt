@@ -15,6 +15,7 @@ mod kept;
 mod notes;
 mod outsiders;
 mod room;
+mod spending;
 mod telling;
 mod tending;
 mod ticking;

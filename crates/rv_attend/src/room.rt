@@ -76,7 +76,8 @@ impl Room {
         Room {
             alloc,
             tally: Tally::new(),
-            guard: Guard::new(quota, halt_below, tells),
+            // The host itself keeps the quota: what would be past it is answered Full.
+            guard: Guard::new(None, halt_below, tells),
             capacity: 0,
             tells,
             is_watched: quota.is_some() || halt_below.is_some() || tells,

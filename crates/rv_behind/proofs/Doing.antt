@@ -1,11 +1,13 @@
 -- What the host's calls do to the history behind the turn.
-use Rattle.std.proofs.Common.{◌≡◌, ℕ, length, map, arith, Bool, true, false, if◌then◌else◌, List, [], ◌∷◌, ◌++◌, reverse, Option, Some, None, refl, sym, ap, ◌∙◌, eqb, inl, inr, subst}
-use Rattle.std.specs.Prelude.{is_some}
+use Rattle.std.proofs.Common.{◌≡◌, ℕ, suc, ◌+◌, length, map, arith, Bool, true, false, if◌then◌else◌, List, [], ◌∷◌, ◌++◌, reverse, Option, Some, None, refl, sym, ap, ◌∙◌, eqb, inl, inr, subst}
+use Rattle.std.specs.Prelude.{◌==◌, is_some}
 use Rattle.std.proofs.lemmas.Bool.{eq-eqb, ne_eqb}
-use Rattle.std.proofs.lemmas.List.{reverse-append, length-append, length-replicate}
+use Rattle.std.proofs.lemmas.Bool.Decides.{nat_tests}
+use Rattle.std.proofs.lemmas.List.{reverse-append, length-append, length-map, length-replicate}
 use Rattle.rv_access.specs.Words.{Words}
 use Rattle.rv_access.specs.declared.change.Change.{Change}
 use Rattle.rv_shape.specs.Shape.{Shape}
+use Rattle.rv_shape.specs.Catalogue.{all_objects, objects_of}
 use Rattle.rv_shape.specs.Fits.{shape_fits}
 use Rattle.rv_event.specs.Past.{halted}
 use Rattle.rv_event.specs.Recorded.{recorded}
@@ -28,9 +30,9 @@ use Rattle.std.specs.List.{list_all}
 use Rattle.rv_code.specs.Bodies as Code
 use Rattle.rv_code.specs.declared.expression.Callee.{Callee}
 use Rattle.rv_fits.proofs.Both.{first_of_both, second_of_both, both_hold}
-use Rattle.rv_fits.proofs.Keeps.{calls_keep, alone_fits}
-use Rattle.rv_fits.specs.Calls.{object_calls, task_calls, every_call}
-use Rattle.rv_fits.specs.Fits.{are_of, callee_fits, calls_fit, numbered_as}
+use Rattle.rv_fits.proofs.Keeps.{calls_keep, alone_calls}
+use Rattle.rv_fits.specs.Calls.{object_calls, task_calls, such_in, objects_call, calls_from}
+use Rattle.rv_fits.specs.Fits.{are_of, callee_fits, calls_fit, numbered_as, unit_calls_fit}
 use Rattle.rv_code.specs.BodyView.{unit_view}
 use Rattle.rv_code.specs.declared.body.UnitBodies.{UnitBodies}
 use Rattle.rv_exec.specs.Bodies.{all_of, bodies_view, held, shared_view, units_of}
@@ -173,32 +175,73 @@ all_both : {A : Type 0} (p : A → Bool) (xs ys : List A) → list_all p xs ≡ 
 all_both p [] ys e f = f
 all_both p (x ∷ xs) ys e f = both_hold (p x) (list_all p (xs ++ ys)) (first_of_both (p x) (list_all p xs) e) (all_both p xs ys (second_of_both (p x) (list_all p xs) e) f)
 
-objects_call : (such : Callee → Bool) (u : Code.UnitBodies) → every_call such u ≡ true → list_all (object_calls such) u.objects ≡ true
-objects_call such u e = first_of_both (list_all (object_calls such) u.objects) (list_all (task_calls such) u.tasks) e
+-- the bodies of objects, and of those that stand behind them
+objects_both : (such : Callee → Bool) (number : ℕ) (xs ys : List (List Code.Body)) → objects_call such number xs ≡ true → objects_call such (number + length xs) ys ≡ true → objects_call such number (xs ++ ys) ≡ true
+objects_both such number [] ys e f = let same : number ≡ number + 0 = omega arith in ap (λ (n : ℕ). objects_call such n ys) same ∙ f
+objects_both such number (x ∷ xs) ys e f =
+    let same : number + 1 + length xs ≡ number + suc (length xs) = omega arith in
+    both_hold (object_calls (such_in such number) x) (objects_call such (number + 1) (xs ++ ys))
+    (first_of_both (object_calls (such_in such number) x) (objects_call such (number + 1) xs) e)
+    (objects_both such (number + 1) xs ys (second_of_both (object_calls (such_in such number) x) (objects_call such (number + 1) xs) e)
+    (ap (λ (n : ℕ). objects_call such n ys) same ∙ f))
 
-tasks_call : (such : Callee → Bool) (u : Code.UnitBodies) → every_call such u ≡ true → list_all (task_calls such) u.tasks ≡ true
-tasks_call such u e = second_of_both (list_all (object_calls such) u.objects) (list_all (task_calls such) u.tasks) e
+objects_first : (such : Callee → Bool) (number : ℕ) (xs ys : List (List Code.Body)) → objects_call such number (xs ++ ys) ≡ true → objects_call such number xs ≡ true
+objects_first such number [] ys e = refl
+objects_first such number (x ∷ xs) ys e =
+    both_hold (object_calls (such_in such number) x) (objects_call such (number + 1) xs)
+    (first_of_both (object_calls (such_in such number) x) (objects_call such (number + 1) (xs ++ ys)) e)
+    (objects_first such (number + 1) xs ys (second_of_both (object_calls (such_in such number) x) (objects_call such (number + 1) (xs ++ ys)) e))
 
-joined_call : (such : Callee → Bool) (u v : Code.UnitBodies) → every_call such u ≡ true → every_call such v ≡ true → every_call such (record { objects = u.objects ++ v.objects; tasks = u.tasks ++ v.tasks }) ≡ true
-joined_call such u v e f =
-    both_hold (list_all (object_calls such) (u.objects ++ v.objects)) (list_all (task_calls such) (u.tasks ++ v.tasks))
-    (all_both (object_calls such) u.objects v.objects (objects_call such u e) (objects_call such v f)) (all_both (task_calls such) u.tasks v.tasks (tasks_call such u e) (tasks_call such v f))
+objects_second : (such : Callee → Bool) (number : ℕ) (xs ys : List (List Code.Body)) → objects_call such number (xs ++ ys) ≡ true → objects_call such (number + length xs) ys ≡ true
+objects_second such number [] ys e = let same : number + 0 ≡ number = omega arith in ap (λ (n : ℕ). objects_call such n ys) same ∙ e
+objects_second such number (x ∷ xs) ys e =
+    let same : number + suc (length xs) ≡ number + 1 + length xs = omega arith in
+    ap (λ (n : ℕ). objects_call such n ys) same
+    ∙ objects_second such (number + 1) xs ys (second_of_both (object_calls (such_in such number) x) (objects_call such (number + 1) (xs ++ ys)) e)
 
-parts_call : (such : Callee → Bool) (u v : Code.UnitBodies) → every_call such (record { objects = u.objects ++ v.objects; tasks = u.tasks ++ v.tasks }) ≡ true → (every_call such u ≡ true) × (every_call such v ≡ true)
-parts_call such u v e =
-    let objects = first_of_both (list_all (object_calls such) (u.objects ++ v.objects)) (list_all (task_calls such) (u.tasks ++ v.tasks)) e in
-    let tasks = second_of_both (list_all (object_calls such) (u.objects ++ v.objects)) (list_all (task_calls such) (u.tasks ++ v.tasks)) e in (
-      both_hold (list_all (object_calls such) u.objects) (list_all (task_calls such) u.tasks) (all_first (object_calls such) u.objects v.objects objects) (all_first (task_calls such) u.tasks v.tasks tasks),
-      both_hold (list_all (object_calls such) v.objects) (list_all (task_calls such) v.tasks) (all_second (object_calls such) u.objects v.objects objects) (all_second (task_calls such) u.tasks v.tasks tasks),
+joined_call : (such : Callee → Bool) (number : ℕ) (u v : Code.UnitBodies) → calls_from such number u ≡ true → calls_from such (number + length u.objects) v ≡ true → calls_from such number (record { objects = u.objects ++ v.objects; tasks = u.tasks ++ v.tasks }) ≡ true
+joined_call such number u v e f =
+    let own : Option Code.Body → Bool = task_calls (such_in such 0) in
+    let next : ℕ = number + length u.objects in
+    both_hold (objects_call such number (u.objects ++ v.objects)) (list_all own (u.tasks ++ v.tasks))
+    (objects_both such number u.objects v.objects (first_of_both (objects_call such number u.objects) (list_all own u.tasks) e) (first_of_both (objects_call such next v.objects) (list_all own v.tasks) f))
+    (all_both own u.tasks v.tasks (second_of_both (objects_call such number u.objects) (list_all own u.tasks) e) (second_of_both (objects_call such next v.objects) (list_all own v.tasks) f))
+
+parts_call : (such : Callee → Bool) (number : ℕ) (u v : Code.UnitBodies) → calls_from such number (record { objects = u.objects ++ v.objects; tasks = u.tasks ++ v.tasks }) ≡ true → (calls_from such number u ≡ true) × (calls_from such (number + length u.objects) v ≡ true)
+parts_call such number u v e =
+    let own : Option Code.Body → Bool = task_calls (such_in such 0) in
+    let next : ℕ = number + length u.objects in
+    let objects = first_of_both (objects_call such number (u.objects ++ v.objects)) (list_all own (u.tasks ++ v.tasks)) e in
+    let tasks = second_of_both (objects_call such number (u.objects ++ v.objects)) (list_all own (u.tasks ++ v.tasks)) e in (
+      both_hold (objects_call such number u.objects) (list_all own u.tasks) (objects_first such number u.objects v.objects objects) (all_first own u.tasks v.tasks tasks),
+      both_hold (objects_call such next v.objects) (list_all own v.tasks) (objects_second such number u.objects v.objects objects) (all_second own u.tasks v.tasks tasks),
     )
 
-units_call : (such : Callee → Bool) (us vs : List Code.UnitBodies) → every_call such (all_of us) ≡ true → every_call such (all_of vs) ≡ true → every_call such (all_of (us ++ vs)) ≡ true
-units_call such [] vs e f = f
-units_call such (u ∷ us) vs e f =
-    let parts = parts_call such u (all_of us) e in joined_call such u (all_of (us ++ vs)) parts.0 (units_call such us vs parts.1 f)
+units_call : (such : Callee → Bool) (number : ℕ) (us vs : List Code.UnitBodies) → calls_from such number (all_of us) ≡ true → calls_from such (number + length (all_of us).objects) (all_of vs) ≡ true → calls_from such number (all_of (us ++ vs)) ≡ true
+units_call such number [] vs e f = let same : number ≡ number + 0 = omega arith in ap (λ (n : ℕ). calls_from such n (all_of vs)) same ∙ f
+units_call such number (u ∷ us) vs e f =
+    let parts = parts_call such number u (all_of us) e in
+    let same : number + length u.objects + length (all_of us).objects ≡ number + length (u.objects ++ (all_of us).objects) = omega (arith, length-append u.objects (all_of us).objects) in
+    joined_call such number u (all_of (us ++ vs)) parts.0
+    (units_call such (number + length u.objects) us vs parts.1 (ap (λ (n : ℕ). calls_from such n (all_of vs)) same ∙ f))
 
-one_calls : (such : Callee → Bool) (u : Code.UnitBodies) → every_call such u ≡ true → every_call such (all_of (u ∷ [])) ≡ true
-one_calls such u e = joined_call such u (all_of []) e refl
+one_calls : (such : Callee → Bool) (number : ℕ) (u : Code.UnitBodies) → calls_from such number u ≡ true → calls_from such number (all_of (u ∷ [])) ≡ true
+one_calls such number u e = joined_call such number u (all_of []) e refl
+
+same_number : (a b : ℕ) → (a == b) ≡ true → a ≡ b
+same_number a b e = grind (arith, nat_tests)
+
+-- units whose bodies are numbered as their shapes have bodies of as many objects
+counted : (shapes : List Shape) (us : List Code.UnitBodies) → all_numbered shapes us ≡ true → length (all_of us).objects ≡ length (all_objects shapes)
+counted [] [] e = refl
+counted [] (u ∷ us) e = absurd (cc e)
+counted (s ∷ ss) [] e = absurd (cc e)
+counted (s ∷ ss) (u ∷ us) e =
+    let here : numbered_as s u ≡ true = first_of_both (numbered_as s u) (all_numbered ss us) e in
+    let same : length u.objects ≡ length s.objects = same_number (length u.objects) (length s.objects) (first_of_both (length u.objects == length s.objects) (length u.tasks == length s.tasks) here) in
+    let rest : length (all_of us).objects ≡ length (all_objects ss) = counted ss us (second_of_both (numbered_as s u) (all_numbered ss us) e) in
+    let many : length (objects_of s) ≡ length s.objects = length-map (λ object. record { unit = s.name; object = object }) s.objects in
+    omega (arith, length-append u.objects (all_of us).objects, length-append (objects_of s) (all_objects ss), same, rest, many)
 
 view_is : (bodies : Bodies) → bodies_view bodies ≡ all_of (map unit_view (units_of bodies))
 view_is bodies = ap all_of (views_of bodies.units.items)
@@ -217,10 +260,12 @@ shapes_more false h shape e = absurd (cc e)
 
 -- no bodies call anything
 pub none_fit : (all shapes : List Shape) (bodies : Bodies) → map unit_view (units_of bodies) ≡ map Code.without_bodies shapes → calls_fit all (bodies_view bodies) ≡ true
-none_fit all shapes bodies none = ap (λ (z : Code.UnitBodies). calls_fit all z) (view_is bodies ∙ ap all_of none) ∙ each shapes where
-  each : (ss : List Shape) → calls_fit all (all_of (map Code.without_bodies ss)) ≡ true
-  each [] = refl
-  each (s ∷ ss) = joined_call (callee_fits all) (Code.without_bodies s) (all_of (map Code.without_bodies ss)) (alone_fits all s) (each ss)
+none_fit all shapes bodies none = ap (λ (z : Code.UnitBodies). calls_fit all z) (view_is bodies ∙ ap all_of none) ∙ each 1 shapes where
+  each : (number : ℕ) (ss : List Shape) → calls_from (callee_fits all) number (all_of (map Code.without_bodies ss)) ≡ true
+  each number [] = refl
+  each number (s ∷ ss) =
+      joined_call (callee_fits all) number (Code.without_bodies s) (all_of (map Code.without_bodies ss)) (alone_calls (callee_fits all) number s)
+      (each (number + length (Code.without_bodies s).objects) ss)
 
 -- they were found to fit
 pub fits_found : (h : History) (bodies : Bodies) (shape : Shape) (unit : UnitBodies) (r : Bool) → Legal h → r ≡ are_of h.shapes shape (unit_view unit) → r ≡ true
@@ -228,19 +273,23 @@ pub fits_found : (h : History) (bodies : Bodies) (shape : Shape) (unit : UnitBod
 fits_found h bodies shape unit r l is e = ap (λ (z : List Shape). are_of z shape (unit_view unit)) (catalogue_log h (units_of bodies) l) ∙ (sym is ∙ e)
 
 -- those of one more unit fit too
-pub one_more_fits : (shapes : List Shape) (shape : Shape) (us : List UnitBodies) (unit : UnitBodies) → calls_fit shapes (all_of (map unit_view us)) ≡ true → calls_fit (shapes ++ shape ∷ []) (unit_view unit) ≡ true
-    → calls_fit (shapes ++ shape ∷ []) (all_of (map unit_view (us ++ unit ∷ []))) ≡ true
-one_more_fits shapes shape us unit old new =
+pub one_more_fits : (shapes : List Shape) (shape : Shape) (us : List UnitBodies) (unit : UnitBodies) → all_numbered shapes (map unit_view us) ≡ true → calls_fit shapes (all_of (map unit_view us)) ≡ true
+    → unit_calls_fit shapes shape (unit_view unit) ≡ true → calls_fit (shapes ++ shape ∷ []) (all_of (map unit_view (us ++ unit ∷ []))) ≡ true
+one_more_fits shapes shape us unit numbered old new =
     let all : List Shape = shapes ++ shape ∷ [] in
+    let many : length (all_of (map unit_view us)).objects ≡ length (all_objects shapes) = counted shapes (map unit_view us) numbered in
+    let first : 1 + length (all_of (map unit_view us)).objects ≡ length (all_objects shapes) + 1 = omega (arith, many) in
     ap (λ (z : List Code.UnitBodies). calls_fit all (all_of z)) (views_more us unit)
-    ∙ units_call (callee_fits all) (map unit_view us) (unit_view unit ∷ []) (calls_keep shapes (shape ∷ []) (all_of (map unit_view us)) old) (one_calls (callee_fits all) (unit_view unit) new)
+    ∙ units_call (callee_fits all) 1 (map unit_view us) (unit_view unit ∷ []) (calls_keep shapes (shape ∷ []) (all_of (map unit_view us)) old)
+    (one_calls (callee_fits all) (1 + length (all_of (map unit_view us)).objects) (unit_view unit) (ap (λ (n : ℕ). calls_from (callee_fits all) n (unit_view unit)) first ∙ new))
 
-fits_more : (h k : History) (bodies more : Bodies) (shape : Shape) (unit : UnitBodies) (r : Answer) → calls_fit h.shapes (bodies_view bodies) ≡ true → calls_fit (h.shapes ++ shape ∷ []) (unit_view unit) ≡ true → k ≡ after_load h shape r
+fits_more : (h k : History) (bodies more : Bodies) (shape : Shape) (unit : UnitBodies) (r : Answer) → all_numbered h.shapes (map unit_view (units_of bodies)) ≡ true → calls_fit h.shapes (bodies_view bodies) ≡ true
+    → unit_calls_fit h.shapes shape (unit_view unit) ≡ true → k ≡ after_load h shape r
     → is_some (recorded r) ≡ true → units_of more ≡ units_of bodies ++ unit ∷ [] → calls_fit k.shapes (bodies_view more) ≡ true
-fits_more h k bodies more shape unit r old new e b is =
+fits_more h k bodies more shape unit r numbered old new e b is =
     let these : calls_fit h.shapes (all_of (map unit_view (units_of bodies))) ≡ true = ap (λ (z : Code.UnitBodies). calls_fit h.shapes z) (sym (view_is bodies)) ∙ old in
     (λ i. calls_fit ((ap (λ (z : History). z.shapes) e ∙ shapes_more (is_some (recorded r)) h shape b) i) ((view_is more ∙ ap (λ (z : List UnitBodies). all_of (map unit_view z)) is) i))
-    ∙ one_more_fits h.shapes shape (units_of bodies) unit these new
+    ∙ one_more_fits h.shapes shape (units_of bodies) unit numbered these new
 
 fits_same : (h k : History) (bodies : Bodies) (shape : Shape) (r : Answer) → calls_fit h.shapes (bodies_view bodies) ≡ true → k ≡ after_load h shape r → is_some (recorded r) ≡ false → calls_fit k.shapes (bodies_view bodies) ≡ true
 fits_same h k bodies shape r fit e b = ap (λ (z : List Shape). calls_fit z (bodies_view bodies)) (ap (λ (z : History). z.shapes) e ∙ shapes_same (is_some (recorded r)) h shape b) ∙ fit
@@ -334,8 +383,8 @@ brings_more h k bodies more shape unit r l b new e kept is =
     let these : are_of h.shapes shape (unit_view unit) ≡ true = ap (λ (z : List Shape). are_of z shape (unit_view unit)) (sym (catalogue_log h (units_of bodies) l)) ∙ new in
     record {
       count = brought_more h k (units_of bodies) (units_of more) shape unit r b.count e kept is;
-      numbered = numbered_more h k bodies more shape unit r b.numbered (first_of_both (numbered_as shape (unit_view unit)) (calls_fit (h.shapes ++ shape ∷ []) (unit_view unit)) these) e kept is;
-      fit = fits_more h k bodies more shape unit r b.fit (second_of_both (numbered_as shape (unit_view unit)) (calls_fit (h.shapes ++ shape ∷ []) (unit_view unit)) these) e kept is;
+      numbered = numbered_more h k bodies more shape unit r b.numbered (first_of_both (numbered_as shape (unit_view unit)) (unit_calls_fit h.shapes shape (unit_view unit)) these) e kept is;
+      fit = fits_more h k bodies more shape unit r b.numbered b.fit (second_of_both (numbered_as shape (unit_view unit)) (unit_calls_fit h.shapes shape (unit_view unit)) these) e kept is;
     }
 
 pub brings_same : (h k : History) (bodies : Bodies) (shape : Shape) (r : Answer) → AreBrought h bodies → k ≡ after_load h shape r → is_some (recorded r) ≡ false → AreBrought k bodies

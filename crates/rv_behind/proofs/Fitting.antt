@@ -6,7 +6,7 @@ use Rattle.rv_code.specs.BodyView.{unit_view}
 use Rattle.rv_code.specs.declared.body.UnitBodies.{UnitBodies}
 use Rattle.rv_exec.specs.Bodies.{all_of}
 use Rattle.rv_fits.proofs.Both.{first_of_both, second_of_both}
-use Rattle.rv_fits.specs.Fits.{calls_fit, numbered_as}
+use Rattle.rv_fits.specs.Fits.{calls_fit, numbered_as, unit_calls_fit}
 use Rattle.rv_behind.specs.Acting.{all_numbered, BodiesFit, BodiesStayFit, fits_behind}
 use Rattle.rv_behind.specs.Adding.{MayAdd, due_adds}
 use Rattle.rv_behind.specs.Events.{catalogue_of, shapes_of, units_at, units_in}
@@ -30,9 +30,9 @@ newest_first p log e = ap p (reverse-append log (e ∷ []))
 load_fits : (log : List Event) (shape : Shape) (unit : UnitBodies) → fits_behind log shape unit ≡ true → BodiesFit log → BodiesFit (log ++ Loads shape (Some unit) ∷ [])
 load_fits log shape unit new f =
     let numbered : Bool = numbered_as shape (unit_view unit) in
-    let calls : Bool = calls_fit (catalogue_of log ++ shape ∷ []) (unit_view unit) in (
+    let calls : Bool = unit_calls_fit (catalogue_of log) shape (unit_view unit) in (
       newest_first back_numbered log (Loads shape (Some unit)) ∙ one_more_numbered (catalogue_of log) shape (units_at log) unit f.0 (first_of_both numbered calls new),
-      newest_first back_fits log (Loads shape (Some unit)) ∙ one_more_fits (catalogue_of log) shape (units_at log) unit f.1 (second_of_both numbered calls new),
+      newest_first back_fits log (Loads shape (Some unit)) ∙ one_more_fits (catalogue_of log) shape (units_at log) unit f.0 f.1 (second_of_both numbered calls new),
     )
 
 event_fits : (log : List Event) (e : Event) (ask : Ask) → MayAdd log e ask → BodiesFit log → BodiesFit (log ++ e ∷ [])

@@ -8,7 +8,7 @@ use Rattle.rv_choice.specs.declared.misuse.Misuse.{Misuse}
 use Rattle.rv_choice.specs.declared.selection.Choice.{Choice}
 use Rattle.rv_choice.specs.declared.selection.Choice.TheVariants.{Play, Check, Run, Audit, AuditFile, Manual}
 use Rattle.rv_choice.specs.declared.selection.Selection.{Selection}
-use Rattle.rv_choice.specs.Choices.{IsAuditWrong, IsFlag, IsJournal, IsSelected, IsSelection, IsUnnamed, IsWrong, Names, Wrong, audit_of, line_of, or_else, program, run_wrong, script_wrong, torn_wrong, wrong_in}
+use Rattle.rv_choice.specs.Choices.{IsAuditWrong, IsFlag, IsJournal, IsSelected, IsSelection, IsUnnamed, IsWrong, Names, Wrong, audit_of, judged_wrong, line_of, or_else, program, run_wrong, script_wrong, torn_wrong, wrong_in}
 
 -- The plain lines.
 
@@ -92,6 +92,9 @@ no_torn name = refl
 abbrev script_in : Option (Text × List Row) → Option (Option Wrong)
 script_in = option_map (λ (p : Text × List Row). script_wrong p.1)
 
+abbrev judged_in : Option (Text × List Row) → Option (Option Wrong)
+judged_in = option_map (λ (p : Text × List Row). judged_wrong p.1)
+
 abbrev run_in : Option (Text × List Row) → Option (Option Wrong)
 run_in = option_map (λ (p : Text × List Row). run_wrong p.1)
 
@@ -109,11 +112,11 @@ run_right : (name : Text) → run_in (subcommand_of program (name ∷ line_of Ru
 unfolding clap_on_literals
 run_right name = refl
 
-audit_right : (name : Text) → script_in (subcommand_of program (name ∷ line_of Audit)) ≡ Some None
+audit_right : (name : Text) → judged_in (subcommand_of program (name ∷ line_of Audit)) ≡ Some None
 unfolding clap_on_literals
 audit_right name = refl
 
-file_right : (name : Text) (torn : Bool) → script_in (subcommand_of program (name ∷ line_of (AuditFile torn))) ≡ Some None
+file_right : (name : Text) (torn : Bool) → judged_in (subcommand_of program (name ∷ line_of (AuditFile torn))) ≡ Some None
 unfolding clap_on_literals
 file_right name true = refl
 file_right name false = refl
@@ -241,12 +244,12 @@ right name Audit found wrong e w is =
     let torn : given.0 ≡ false = given.1.1 (row_found (codes "torn") (Some (flag_text false)) _ found e (no_torn name)) in
     let alone : torn_wrong (is_some (first_of (codes "journal") found.1)) given.0 ≡ None =
     ap₂ (λ (f : Option Text) (t : Bool). torn_wrong (is_some f) t) (file_found None _ found e (no_file name)) torn in
-    something wrong _ given.2 (ap₂ or_else alone (of_found (λ p. script_wrong p.1) _ found e (audit_right name)))
+    something wrong _ given.2 (ap₂ or_else alone (of_found (λ p. judged_wrong p.1) _ found e (audit_right name)))
 right name (AuditFile torn) found wrong e w is =
     let given = is.3 w in
     let alone : torn_wrong (is_some (first_of (codes "journal") found.1)) given.0 ≡ None =
     ap (λ (f : Option Text). torn_wrong (is_some f) given.0) (file_found (Some (codes "J")) _ found e (some_file name torn)) in
-    something wrong _ given.2 (ap₂ or_else alone (of_found (λ p. script_wrong p.1) _ found e (file_right name torn)))
+    something wrong _ given.2 (ap₂ or_else alone (of_found (λ p. judged_wrong p.1) _ found e (file_right name torn)))
 right name Manual found wrong e w is = something wrong _ (is.4 w) refl
 
 -- its name is one

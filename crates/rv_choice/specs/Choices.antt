@@ -111,9 +111,9 @@ acting = with_rule hurried (many_rule (codes "actor"))
 abbrev pub running : App
 running = with_file (with_color (with_notes acting))
 
--- `audit`, which may be given the name of a file, and two flags
+-- `audit`, which may be given the name of a file and a flag that goes with it, and how many entries each unit could spend
 abbrev pub judging : App
-judging = with_rule (with_rule (new_app (codes "audit")) file_rule) (flag_rule (codes "torn"))
+judging = with_rule (with_rule (with_rule (new_app (codes "audit")) file_rule) (flag_rule (codes "torn"))) (value_rule (codes "quota"))
 
 abbrev pub audited : App
 audited = with_file (with_color (with_rule (with_rule judging explain_rule) notes_rule))
@@ -256,7 +256,7 @@ abbrev pub most_entries : ℕ
 most_entries = 1048576
 
 -- What a run does beside its commands: the file that its journal is kept in, the milliseconds between two ticks, the room of the
--- journal below which it ends, how many entries a unit's tasks may add, the pipe whose end ends it, whether it has a console,
+-- journal below which it ends, how many entries each unit may spend, the pipe whose end ends it, whether it has a console,
 -- whether its status says that it ended by itself, whether nothing starts without a line `@run`, and the milliseconds that its end
 -- waits for threads.
 pub record RunWords : Type 0 where
@@ -298,9 +298,17 @@ IsRun rows run =
 abbrev pub no_run : RunWords
 no_run = record { kept = None; tick = None; halt_below = None; quota = None; stop = None; console = false; tells_end = false; wants_run = false; grace = None }
 
--- the same, for `run` alone
+-- nothing of that but how many entries each unit could spend, by what `audit` is given
+abbrev pub IsAllowing : List Row → RunWords → Type 0
+IsAllowing rows run =
+    (quota : Option ℕ) × (number_of most_entries (first_of (codes "quota") rows) ≡ Some quota)
+    × (run ≡ record no_run { quota = quota })
+
+-- the same, for `run` and `audit` alone
 abbrev pub IsRunning : Text × List Row → Choice → RunWords → Type 0
 IsRunning found Run run = IsRun found.1 run
+IsRunning found Audit run = IsAllowing found.1 run
+IsRunning found (AuditFile torn) run = IsAllowing found.1 run
 IsRunning found choice run = run ≡ no_run
 
 -- what `audit` comes to: a flag without a file chooses nothing
@@ -380,8 +388,11 @@ abbrev pub run_wrong : List Row → Option Wrong
 run_wrong rows = or_else (beside_wrong rows) (script_wrong rows)
 
 -- and with `audit`
+abbrev pub judged_wrong : List Row → Option Wrong
+judged_wrong rows = or_else (number_wrong Flags.Quota (codes "quota") most_entries rows) (script_wrong rows)
+
 abbrev pub audit_wrong : Bool → List Row → Option Wrong
-audit_wrong torn rows = or_else (torn_wrong (is_some (first_of (codes "journal") rows)) torn) (script_wrong rows)
+audit_wrong torn rows = or_else (torn_wrong (is_some (first_of (codes "journal") rows)) torn) (judged_wrong rows)
 
 abbrev pub IsAuditWrong : List Row → Option Wrong → Type 0
 IsAuditWrong rows wrong = (torn : Bool) × IsFlag (one_of (codes "torn") rows) torn × (wrong ≡ audit_wrong torn rows)

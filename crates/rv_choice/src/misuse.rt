@@ -14,7 +14,7 @@ pub enum Flag {
     Tick,
     /// The room below which a run ends.
     HaltBelow,
-    /// How many entries a unit may add.
+    /// How many entries each unit may spend.
     Quota,
     /// How long the end of a run waits.
     Grace,

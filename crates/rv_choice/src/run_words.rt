@@ -3,7 +3,8 @@
 ghost use Rattle.std.specs.Prelude.{◌≡◌, IfOk, codes, option_map};
 ghost use Rattle.clap.specs.Matches.{found_of};
 ghost use Rattle.clap.specs.Walk.{first_of, one_of, rows_of};
-ghost use Rattle.rv_choice.specs.Choices.{IsFlag, IsRun, Keeps, KeepsAs, beside_wrong, number_of, number_wrong, sync_of, sync_wrong, sync_wrong_as, words_of, wrong_in};
+ghost use Rattle.rv_choice.specs.declared.misuse.Flag.TheVariants as Flags;
+ghost use Rattle.rv_choice.specs.Choices.{IsFlag, IsRun, Keeps, KeepsAs, beside_wrong, most_entries, no_run, number_of, number_wrong, sync_of, sync_wrong, sync_wrong_as, words_of, wrong_in};
 
 use crate::misuse::{Flag, Misuse, said_by};
 use crate::selection::{KeptFile, RunWords, Sync};
@@ -104,6 +105,31 @@ fn has_flag(words: &ArgMatches<'_>, name: &str) -> bool
     words.get_flag(name)
 }
 
+/// How many entries each unit may spend, where that is bounded.
+pub fn quota_of<'a>(words: &ArgMatches<'a>) -> Result<Option<u32>, Misuse<'a>>
+    ensures ok { IfOk result (λ quota. number_of most_entries (first_of (codes "quota") (rows_of (found_of words.now))) ≡ Some quota) }
+    ensures wrong { wrong_in result ≡ number_wrong Flags.Quota (codes "quota") most_entries (rows_of (found_of words.now)) }
+{
+    given_number(words, Flag::Quota, "quota", MOST_ENTRIES)
+}
+
+/// Nothing beside commands but how many entries each unit may spend.
+pub fn with_quota(quota: Option<u32>) -> RunWords<'static>
+    ensures { words_of result ≡ record no_run { quota = quota } }
+{
+    RunWords {
+        kept: None,
+        tick: None,
+        halt_below: None,
+        quota,
+        stop_by: None,
+        console: false,
+        tells_end: false,
+        wants_run: false,
+        grace: None,
+    }
+}
+
 /// What a run does beside its commands, by what it was given.
 pub fn run_words<'a>(words: &ArgMatches<'a>) -> Result<RunWords<'a>, Misuse<'a>>
     ensures ok { IfOk result (λ run. IsRun (rows_of (found_of words.now)) (words_of run)) }
@@ -121,7 +147,7 @@ pub fn run_words<'a>(words: &ArgMatches<'a>) -> Result<RunWords<'a>, Misuse<'a>>
         Ok(halt_below) => halt_below,
         Err(misuse) => return Err(misuse),
     };
-    let quota = match given_number(words, Flag::Quota, "quota", MOST_ENTRIES) {
+    let quota = match quota_of(words) {
         Ok(quota) => quota,
         Err(misuse) => return Err(misuse),
     };

@@ -45,7 +45,7 @@ fn guarding_subcommand<'a>(alloc: Global) -> Result<Command<'a>, AllocError>
         command,
         "quota",
         "N",
-        "Deny a unit everything whose tasks have added more than N entries, by a line at the end of the list",
+        "Let each unit spend N entries at most: what its tasks and bodies ask behind them is answered full",
     )
 }
 

@@ -58,7 +58,7 @@ pub struct RunWords<'a> {
     pub tick: Option<u32>,
     /// The room of the journal below which it ends.
     pub halt_below: Option<u32>,
-    /// How many entries a unit's tasks may add.
+    /// How many entries each unit may spend, also of the run whose journal is judged.
     pub quota: Option<u32>,
     /// The name of the pipe whose end ends it, where one is given.
     pub stop_by: Option<&'a str>,

@@ -7,7 +7,7 @@ ghost use Rattle.rv_choice.specs.Choices.{audited, checked, judging, manual, pla
 
 use crate::args::{
     SCRIPT_HELP, coloured, explain_flag, explained, file_arg, flag, noted, subject_arg, told,
-    with_file,
+    with_file, with_value,
 };
 use clap::Command;
 use std::alloc::{AllocError, Global};
@@ -52,7 +52,7 @@ pub fn check_subcommand<'a>(alloc: Global) -> Result<Command<'a>, AllocError>
     with_file(alloc, command, SCRIPT_HELP)
 }
 
-// The subcommand `audit`, which may be given a file and a flag that goes with it.
+// The subcommand `audit`, which may be given a file and a flag that goes with it, and how many entries each unit could spend.
 fn judging_subcommand<'a>(alloc: Global) -> Result<Command<'a>, AllocError>
     ensures app { IfOk result (λ c. app_of c ≡ judging) }
     ensures local { IfOk result (λ c. (fields_of c).has_globals ≡ false) }
@@ -70,7 +70,13 @@ fn judging_subcommand<'a>(alloc: Global) -> Result<Command<'a>, AllocError>
         "torn",
         "With --journal: take a last line without its line feed as cut off by a crash",
     );
-    command.arg(torn)
+    with_value(
+        alloc,
+        command.arg(torn)?,
+        "quota",
+        "N",
+        "With --explain: each unit of the run could spend N entries, as run --quota N has it",
+    )
 }
 
 /// The same, which may be told to explain ends, and when to tell notes.

@@ -1,3 +1,4 @@
+pub mod Callees
 pub mod Expressions
 pub mod ExpressionView
 pub mod Statements

@@ -60,6 +60,9 @@ pub enum Operator {
 pub enum Callee {
     /// An operation of the same object, by its number: an internal call (9.5).
     Internal(usize),
+    /// An entry of the same object, by its number (9.5.3). It names no object: those of a type share its bodies. The host
+    /// refuses such a call as potentially blocking (9.5.1).
+    OwnEntry(usize),
     /// A protected function, by its object and its number (9.5.1).
     Function(usize, usize),
     /// A protected procedure, by its object and its number (9.5.1).

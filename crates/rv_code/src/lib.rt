@@ -3,6 +3,7 @@
 #![tactic(auto)]
 
 pub mod body;
+mod callee;
 pub mod expression;
 mod lists;
 mod shape_alone;
@@ -10,6 +11,7 @@ pub mod statement;
 mod unit;
 
 pub use body::{Body, Declaration, ExceptionChoice, Handler, MOST_SLOTS, ObjectBodies, UnitBodies};
+pub use callee::of_object;
 pub use expression::{Callee, Expression, Link, Operator, Prefix};
 pub use statement::{Alternative, Branch, Choice, Place, Statement, Target};
 pub use unit::Unit;

@@ -8,8 +8,7 @@ ghost use Rattle.rv_ends.specs.Following.{is_plain, may_follow, missed, place_of
 ghost use Rattle.rv_exec.specs.Asking.{stands};
 
 use rv_event::entry::{Answer, Exit, Request, Rule};
-use rv_exec::outward::Outward;
-use rv_exec::replay::stands;
+use rv_exec::outward::{Outward, stands};
 use rv_prio::MOST_HELD;
 use rv_shape::actor::Callee;
 use rv_shape::catalogue::Catalogue;

@@ -14,7 +14,7 @@ use crate::afoot::{OpenBody, Start};
 use crate::following::{Following, is_same, is_stopped_end};
 use rv_event::entry::{Answer, Request};
 use rv_exec::asks::end_with;
-use rv_exec::machine::Ended;
+use rv_exec::end::Ended;
 use rv_flat::unit::FlatUnit;
 use rv_machine::outcomes::operation;
 use rv_runs::run::run_body;

@@ -1,6 +1,7 @@
 -- What is kept of bodies.
-use Rattle.std.proofs.Common.{◌≡◌, ℕ, zero, suc, ℤ, pos, List, [], ◌∷◌, Bool, true, false, cond, refl, Option, Some, None, Err}
+use Rattle.std.proofs.Common.{◌≡◌, ℕ, zero, suc, ◌+◌, ◌≤◌, ap, ◌∙◌, arith, ℤ, pos, List, [], ◌∷◌, Bool, true, false, cond, refl, Option, Some, None, Err}
 use Rattle.std.specs.List.{list_all}
+use Rattle.std.proofs.lemmas.Bool.Decides.{nat_tests}
 use Rattle.std.specs.Prelude.{◌&&◌, ◌-◌, nat_lt, replicate, slice_get}
 use Rattle.rv_event.specs.declared.entry.Exception.{Exception}
 use Rattle.rv_event.specs.declared.entry.Exception.TheVariants.{ProgramError}
@@ -8,7 +9,7 @@ use Rattle.rv_code.specs.declared.expression.Callee.{Callee}
 use Rattle.rv_code.specs.Bodies.{Declaration, Handler, Body, UnitBodies}
 use Rattle.rv_code.specs.Statements.{Statements}
 use Rattle.rv_fits.proofs.Both.{first_of_both, second_of_both}
-use Rattle.rv_fits.specs.Calls.{statements_call, declaration_calls, handler_calls, body_calls, object_calls, task_calls, every_call}
+use Rattle.rv_fits.specs.Calls.{statements_call, declaration_calls, handler_calls, body_calls, object_calls, task_calls, such_in, objects_call, every_call}
 use Rattle.rv_exec.specs.declared.activation.Activation.{Activation}
 use Rattle.rv_exec.specs.declared.end.Cause.TheVariants as cause
 use Rattle.rv_exec.specs.declared.end.End.{End}
@@ -23,7 +24,7 @@ use Rattle.rv_exec.specs.Expressions.{value}
 use Rattle.rv_exec.specs.Statements.{go_on, meanings}
 use Rattle.rv_exec.specs.World.{World}
 use Rattle.rv_exec.proofs.Keeping.{ongoing, how_by, how_result, how_got, how_end, how_run, Kept, Sound, Follows, sound_end, follows_end, sound_where, sound_then, sound_in_run, sound_run, follows_run}
-use Rattle.rv_exec.proofs.KeptValues.{SoundWorld, value_sound}
+use Rattle.rv_exec.proofs.KeptValues.{near, SoundWorld, value_sound}
 use Rattle.rv_exec.proofs.KeptStatements.{assigned_goes, statements_sound}
 
 -- What is found in bodies calls as they all do
@@ -66,10 +67,30 @@ among_calls : (such : Callee → Bool) (o : Option (List Body)) (operation : ℕ
 among_calls such None operation m = refl
 among_calls such (Some os) operation m = body_found such (numbered os operation) (numbered_calls (body_calls such) os operation m)
 
-pub operation_calls : (such : Callee → Bool) (bodies : UnitBodies) (object operation : ℕ) → every_call such bodies ≡ true → task_calls such (operation_of bodies object operation) ≡ true
+-- the bodies of the object of an index call as those of an object of its number do
+got_from : (such : Callee → Bool) (number : ℕ) (objects : List (List Body)) (i : ℕ) → objects_call such number objects ≡ true → if_found (object_calls (such_in such (number + i))) (slice_get objects i) ≡ true
+got_from such number [] i m = refl
+got_from such number (bodies ∷ objects) zero m =
+    let same : number + 0 ≡ number = omega arith in
+    ap (λ (n : ℕ). object_calls (such_in such n) bodies) same ∙ first_of_both (object_calls (such_in such number) bodies) (objects_call such (number + 1) objects) m
+got_from such number (bodies ∷ objects) (suc i) m =
+    let same : number + suc i ≡ number + 1 + i = omega arith in
+    ap (λ (n : ℕ). if_found (object_calls (such_in such n)) (slice_get objects i)) same
+    ∙ got_from such (number + 1) objects i (second_of_both (object_calls (such_in such number) bodies) (objects_call such (number + 1) objects) m)
+
+object_found : (such : Callee → Bool) (objects : List (List Body)) (object : ℕ) → objects_call such 1 objects ≡ true → if_found (object_calls (such_in such object)) (numbered objects object) ≡ true
+object_found such objects object m = by_test (nat_lt object 1) refl where
+  by_test : (b : Bool) → nat_lt object 1 ≡ b → if_found (object_calls (such_in such object)) (cond b None (slice_get objects (object - 1))) ≡ true
+  by_test true is = refl
+  by_test false is =
+      let some : 1 ≤ object = grind (arith, nat_tests, is) in
+      let same : object ≡ 1 + (object - 1) = omega (arith, some) in
+      ap (λ (n : ℕ). if_found (object_calls (such_in such n)) (slice_get objects (object - 1))) same ∙ got_from such 1 objects (object - 1) m
+
+pub operation_calls : (such : Callee → Bool) (bodies : UnitBodies) (object operation : ℕ) → every_call such bodies ≡ true → task_calls (such_in such object) (operation_of bodies object operation) ≡ true
 operation_calls such bodies object operation m =
-    among_calls such (numbered bodies.objects object) operation
-    (numbered_calls (object_calls such) bodies.objects object (first_of_both (list_all (object_calls such) bodies.objects) (list_all (task_calls such) bodies.tasks) m))
+    among_calls (such_in such object) (numbered bodies.objects object) operation
+    (object_found such bodies.objects object (first_of_both (objects_call such 1 bodies.objects) (list_all (task_calls (such_in such 0)) bodies.tasks) m))
 
 flat_calls : (such : Callee → Bool) (o : Option (Option Body)) → if_found (task_calls such) o ≡ true → task_calls such (flat o) ≡ true
 flat_calls such None m = refl
@@ -79,46 +100,46 @@ unless_task : (such : Callee → Bool) (k : Bool) (o : Option Body) → task_cal
 unless_task such true o m = refl
 unless_task such false o m = m
 
-pub task_found : (such : Callee → Bool) (bodies : UnitBodies) (actor : ℕ) → every_call such bodies ≡ true → task_calls such (task_of bodies actor) ≡ true
+pub task_found : (such : Callee → Bool) (bodies : UnitBodies) (actor : ℕ) → every_call such bodies ≡ true → task_calls (such_in such 0) (task_of bodies actor) ≡ true
 task_found such bodies actor m =
-    unless_task such (nat_lt actor 11) (flat (slice_get bodies.tasks (actor - 11)))
-    (flat_calls such (slice_get bodies.tasks (actor - 11))
-    (got_calls (task_calls such) bodies.tasks (actor - 11) (second_of_both (list_all (object_calls such) bodies.objects) (list_all (task_calls such) bodies.tasks) m)))
+    unless_task (such_in such 0) (nat_lt actor 11) (flat (slice_get bodies.tasks (actor - 11)))
+    (flat_calls (such_in such 0) (slice_get bodies.tasks (actor - 11))
+    (got_calls (task_calls (such_in such 0)) bodies.tasks (actor - 11) (second_of_both (objects_call such 1 bodies.objects) (list_all (task_calls (such_in such 0)) bodies.tasks) m)))
 
 -- Blocks
 
 module _ (kept : Kept) (w : World) (k : SoundWorld kept w) where
-  elaborated_sound : (ds : List Declaration) (a : Activation) → list_all (declaration_calls kept.such) ds ≡ true → Sound kept how_run (elaborated w ds a)
+  elaborated_sound : (ds : List Declaration) (a : Activation) → list_all (declaration_calls (near kept w)) ds ≡ true → Sound kept how_run (elaborated w ds a)
   unfolding elaborated
   elaborated_sound [] a m = sound_end kept how_run (end.Next, a) refl
   elaborated_sound (d ∷ more) a m =
-      sound_in_run kept (value w d.initial a) (λ v b. go_on (elaborated w more) (assigned d.target v b)) (value_sound kept w k d.initial a (first_of_both (declaration_calls kept.such d) (list_all (declaration_calls kept.such) more) m))
+      sound_in_run kept (value w d.initial a) (λ v b. go_on (elaborated w more) (assigned d.target v b)) (value_sound kept w k d.initial a (first_of_both (declaration_calls (near kept w) d) (list_all (declaration_calls (near kept w)) more) m))
       (λ v b. sound_where kept (how_run (assigned d.target v b)) how_run (go_on (elaborated w more) (assigned d.target v b)) (assigned_goes d.target v b)
-      (follows_run kept (elaborated w more) (λ c. elaborated_sound more c (second_of_both (declaration_calls kept.such d) (list_all (declaration_calls kept.such) more) m)) (assigned d.target v b)))
+      (follows_run kept (elaborated w more) (λ c. elaborated_sound more c (second_of_both (declaration_calls (near kept w) d) (list_all (declaration_calls (near kept w)) more) m)) (assigned d.target v b)))
 
   -- a handler's statements run in a world of the same calls
   same_calls : (exception : Exception) → SoundWorld kept (in_handler exception w)
   same_calls exception = record { inner = k.inner; outer = k.outer }
 
-  handling_sound : (exception : Exception) (o : Option Statements) (e : End) (a : Activation) → found_calls kept.such o ≡ true → how_end e ≡ ongoing → Sound kept how_run (handling w exception o (e, a))
+  handling_sound : (exception : Exception) (o : Option Statements) (e : End) (a : Activation) → found_calls (near kept w) o ≡ true → how_end e ≡ ongoing → Sound kept how_run (handling w exception o (e, a))
   handling_sound exception None e a m is = sound_end kept how_run (e, a) is
   handling_sound exception (Some ss) e a m is = statements_sound kept (in_handler exception w) (same_calls exception) ss a m
 
-  follows_handled : (handlers : List Handler) (ran : End × Activation) → list_all (handler_calls kept.such) handlers ≡ true → Follows kept (how_run ran) how_run (handled w handlers ran)
+  follows_handled : (handlers : List Handler) (ran : End × Activation) → list_all (handler_calls (near kept w)) handlers ≡ true → Follows kept (how_run ran) how_run (handled w handlers ran)
   follows_handled handlers (end.Next, a) m = sound_end kept how_run (end.Next, a) refl
   follows_handled handlers (end.Exit, a) m = sound_end kept how_run (end.Exit, a) refl
   follows_handled handlers (end.Return v, a) m = sound_end kept how_run (end.Return v, a) refl
-  follows_handled handlers (end.Abandoned (cause.Raised exception), a) m = handling_sound exception (handler_of handlers exception) (end.Abandoned (cause.Raised exception)) a (handler_found kept.such handlers exception m) refl
+  follows_handled handlers (end.Abandoned (cause.Raised exception), a) m = handling_sound exception (handler_of handlers exception) (end.Abandoned (cause.Raised exception)) a (handler_found (near kept w) handlers exception m) refl
   follows_handled handlers (end.Abandoned cause.Overrun, a) m = sound_end kept how_run (end.Abandoned cause.Overrun, a) refl
   follows_handled handlers (end.Abandoned (cause.Stopped is_idle), a) m = follows_end kept (how_by (cause.Stopped is_idle)) how_run (end.Abandoned (cause.Stopped is_idle), a) refl
 
-  pub block_sound : (body : Body) (a : Activation) → body_calls kept.such body ≡ true → Sound kept how_run (block w body a)
+  pub block_sound : (body : Body) (a : Activation) → body_calls (near kept w) body ≡ true → Sound kept how_run (block w body a)
   unfolding block
   block_sound body a m =
-      let behind = second_of_both (list_all (declaration_calls kept.such) body.declarations) (statements_call kept.such body.statements && list_all (handler_calls kept.such) body.handlers) m in
-      sound_run kept (elaborated w body.declarations a) (λ b. and_then (meanings w body.statements b) (handled w body.handlers)) (elaborated_sound body.declarations a (first_of_both (list_all (declaration_calls kept.such) body.declarations) (statements_call kept.such body.statements && list_all (handler_calls kept.such) body.handlers) m))
-      (λ b. sound_then kept how_run how_run (meanings w body.statements b) (handled w body.handlers) (statements_sound kept w k body.statements b (first_of_both (statements_call kept.such body.statements) (list_all (handler_calls kept.such) body.handlers) behind))
-      (λ ran. follows_handled body.handlers ran (second_of_both (statements_call kept.such body.statements) (list_all (handler_calls kept.such) body.handlers) behind)))
+      let behind = second_of_both (list_all (declaration_calls (near kept w)) body.declarations) (statements_call (near kept w) body.statements && list_all (handler_calls (near kept w)) body.handlers) m in
+      sound_run kept (elaborated w body.declarations a) (λ b. and_then (meanings w body.statements b) (handled w body.handlers)) (elaborated_sound body.declarations a (first_of_both (list_all (declaration_calls (near kept w)) body.declarations) (statements_call (near kept w) body.statements && list_all (handler_calls (near kept w)) body.handlers) m))
+      (λ b. sound_then kept how_run how_run (meanings w body.statements b) (handled w body.handlers) (statements_sound kept w k body.statements b (first_of_both (statements_call (near kept w) body.statements) (list_all (handler_calls (near kept w)) body.handlers) behind))
+      (λ ran. follows_handled body.handlers ran (second_of_both (statements_call (near kept w) body.statements) (list_all (handler_calls (near kept w)) body.handlers) behind)))
 
 pub outcome_stops : (is_function : Bool) (e : End) (values : List ℤ) → how_result (cond is_function (function_outcome e) (procedure_outcome e values)) ≡ how_end e
 outcome_stops true end.Next values = refl
@@ -134,7 +155,7 @@ outcome_stops false (end.Abandoned why) values = refl
 follows_closed : (kept : Kept) (body : Body) (ran : End × Activation) → Follows kept (how_run ran) how_got (closed body ran)
 follows_closed kept body (e, a) = follows_end kept (how_end e) how_got (outcome_of body e a, (a.components, a.steps)) (outcome_stops body.is_function e (given_back body.parameters 0 a.slots []))
 
-pub body_sound : (kept : Kept) (w : World) (k : SoundWorld kept w) (o : Option Body) (values components : List ℤ) (steps : ℕ) → task_calls kept.such o ≡ true → Sound kept how_got (body_meaning w o values components steps)
+pub body_sound : (kept : Kept) (w : World) (k : SoundWorld kept w) (o : Option Body) (values components : List ℤ) (steps : ℕ) → task_calls (near kept w) o ≡ true → Sound kept how_got (body_meaning w o values components steps)
 unfolding body_meaning
 body_sound kept w k None values components steps m = sound_end kept how_got (Err (cause.Raised ProgramError), (components, steps)) refl
 body_sound kept w k (Some body) values components steps m =
@@ -145,5 +166,5 @@ pub inner_sound : (kept : Kept) (bodies : UnitBodies) (object : ℕ) (outer : Ca
 unfolding inner_at
 inner_sound kept bodies object outer m f zero operation values components steps = sound_end kept how_got (Err cause.Overrun, (components, steps)) refl
 inner_sound kept bodies object outer m f (suc nested) operation values components steps =
-    body_sound kept (record { inner = inner_at bodies object outer nested; outer = outer; is_task = false; handling = None })
+    body_sound kept (record { inner = inner_at bodies object outer nested; outer = outer; object = object; is_task = false; handling = None })
     (record { inner = λ o v c s. inner_sound kept bodies object outer m f nested o v c s; outer = f }) (operation_of bodies object operation) values components steps (operation_calls kept.such bodies object operation m)

@@ -6,7 +6,7 @@ use Rattle.rv_event.specs.declared.entry.Exit.{Exit}
 use Rattle.rv_event.specs.declared.entry.Exit.TheVariants as exit
 use Rattle.rv_code.specs.declared.expression.Callee.{Callee}
 use Rattle.rv_code.specs.Bodies.{Body, UnitBodies}
-use Rattle.rv_fits.specs.Calls.{task_calls, every_call}
+use Rattle.rv_fits.specs.Calls.{task_calls, such_in, every_call}
 use Rattle.rv_exec.specs.declared.activation.Activation.{Activation}
 use Rattle.rv_exec.specs.declared.end.Asked.{Asked}
 use Rattle.rv_exec.specs.declared.end.Asked.TheVariants as asked
@@ -77,7 +77,7 @@ module _ (kept : Kept) (k : KeptOutside kept) (bodies : UnitBodies) (m : every_c
     outer = λ c v n i. outer_sound 16 c v n i;
   }
 
-  pub task_kept : (o : Option Body) (requests : ℕ) → task_calls kept.such o ≡ true → Sound kept how_exit (task_meaning bodies o requests)
+  pub task_kept : (o : Option Body) (requests : ℕ) → task_calls (such_in kept.such 0) o ≡ true → Sound kept how_exit (task_meaning bodies o requests)
   unfolding task_meaning
   task_kept None requests i = k.stops (Ok [])
   task_kept (Some body) requests i =

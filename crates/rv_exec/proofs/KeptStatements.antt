@@ -21,7 +21,7 @@ use Rattle.rv_exec.specs.Expressions.{on_value, value, arguments, passing}
 use Rattle.rv_exec.specs.Statements.{abandons, on_step, step, go_on, again, turns, values_over, for_each, exit_where, raised_again, meaning, meanings, first_true, selected}
 use Rattle.rv_exec.specs.World.{World, Run, Got}
 use Rattle.rv_exec.proofs.Keeping.{ongoing, how_result, how_got, how_end, how_run, Kept, Sound, sound_end, sound_if, sound_in_run, sound_run, sound_turn}
-use Rattle.rv_exec.proofs.KeptValues.{within_goes, SoundWorld, value_sound, arguments_sound, passing_sound}
+use Rattle.rv_exec.proofs.KeptValues.{near, within_goes, SoundWorld, value_sound, arguments_sound, passing_sound}
 
 -- Ends that never stop
 
@@ -90,24 +90,24 @@ module _ (kept : Kept) (w : World) (k : SoundWorld kept w) where
   mutual
     unfolding meaning
 
-    statement_sound : (s : Statement) (a : Activation) → statement_calls kept.such s ≡ true → Sound kept how_run (meaning w s a)
+    statement_sound : (s : Statement) (a : Activation) → statement_calls (near kept w) s ≡ true → Sound kept how_run (meaning w s a)
     statement_sound null_statement a m = sound_end kept how_run (end.Next, a) refl
     statement_sound (assign target e) a m = sound_in_run kept (value w e a) (λ v b. ended (assigned target v b)) (value_sound kept w k e a m) (λ v b. sound_end kept how_run (assigned target v b) (assigned_goes target v b))
     statement_sound (choice branches otherwise) a m =
-        branches_sound branches (meanings w otherwise) a (first_of_both (branches_call kept.such branches) (statements_call kept.such otherwise) m)
-        (λ b. statements_sound otherwise b (second_of_both (branches_call kept.such branches) (statements_call kept.such otherwise) m))
+        branches_sound branches (meanings w otherwise) a (first_of_both (branches_call (near kept w) branches) (statements_call (near kept w) otherwise) m)
+        (λ b. statements_sound otherwise b (second_of_both (branches_call (near kept w) branches) (statements_call (near kept w) otherwise) m))
     statement_sound (selection e alternatives) a m =
-        sound_in_run kept (value w e a) (selected w alternatives) (value_sound kept w k e a (first_of_both (expression_calls kept.such e) (alternatives_call kept.such alternatives) m))
-        (λ v b. alternatives_sound alternatives v b (second_of_both (expression_calls kept.such e) (alternatives_call kept.such alternatives) m))
+        sound_in_run kept (value w e a) (selected w alternatives) (value_sound kept w k e a (first_of_both (expression_calls (near kept w) e) (alternatives_call (near kept w) alternatives) m))
+        (λ v b. alternatives_sound alternatives v b (second_of_both (expression_calls (near kept w) e) (alternatives_call (near kept w) alternatives) m))
     statement_sound (while_loop e ss) a m =
-        turns_sound kept (suc (steps_left a)) (value w e) (meanings w ss) a (λ b. value_sound kept w k e b (first_of_both (expression_calls kept.such e) (statements_call kept.such ss) m))
-        (λ b. statements_sound ss b (second_of_both (expression_calls kept.such e) (statements_call kept.such ss) m))
+        turns_sound kept (suc (steps_left a)) (value w e) (meanings w ss) a (λ b. value_sound kept w k e b (first_of_both (expression_calls (near kept w) e) (statements_call (near kept w) ss) m))
+        (λ b. statements_sound ss b (second_of_both (expression_calls (near kept w) e) (statements_call (near kept w) ss) m))
     statement_sound (for_loop slot is_reverse range low high ss) a m =
-        let bounds = first_of_both (expression_calls kept.such low && expression_calls kept.such high) (statements_call kept.such ss) m in
+        let bounds = first_of_both (expression_calls (near kept w) low && expression_calls (near kept w) high) (statements_call (near kept w) ss) m in
         sound_in_run kept (value w low a) (λ v b. and_then (value w high b) (on_value abandons (for_each is_reverse range slot (meanings w ss) v)))
-        (value_sound kept w k low a (first_of_both (expression_calls kept.such low) (expression_calls kept.such high) bounds))
-        (λ v b. sound_in_run kept (value w high b) (for_each is_reverse range slot (meanings w ss) v) (value_sound kept w k high b (second_of_both (expression_calls kept.such low) (expression_calls kept.such high) bounds))
-        (λ u c. each_sound kept is_reverse range slot (meanings w ss) v u c (λ d. statements_sound ss d (second_of_both (expression_calls kept.such low && expression_calls kept.such high) (statements_call kept.such ss) m))))
+        (value_sound kept w k low a (first_of_both (expression_calls (near kept w) low) (expression_calls (near kept w) high) bounds))
+        (λ v b. sound_in_run kept (value w high b) (for_each is_reverse range slot (meanings w ss) v) (value_sound kept w k high b (second_of_both (expression_calls (near kept w) low) (expression_calls (near kept w) high) bounds))
+        (λ u c. each_sound kept is_reverse range slot (meanings w ss) v u c (λ d. statements_sound ss d (second_of_both (expression_calls (near kept w) low && expression_calls (near kept w) high) (statements_call (near kept w) ss) m))))
     statement_sound (exit_when e) a m = sound_in_run kept (value w e a) (λ v b. ended (exit_where v, b)) (value_sound kept w k e a m) (λ v b. sound_end kept how_run (exit_where v, b) (exit_goes (is_true v)))
     statement_sound returns a m = sound_end kept how_run (end.Return None, a) refl
     statement_sound (returns_value e) a m = sound_in_run kept (value w e a) (λ v b. ended (end.Return (Some v), b)) (value_sound kept w k e a m) (λ v b. sound_end kept how_run (end.Return (Some v), b) refl)
@@ -115,27 +115,27 @@ module _ (kept : Kept) (w : World) (k : SoundWorld kept w) where
     statement_sound reraises a m = sound_end kept how_run (end.Abandoned (raised_again w.handling), a) (again_goes w.handling)
     statement_sound (calls c es targets) a m =
         sound_in_run kept (passing w c (arguments w es [] a)) (λ given b. ended (copied_back targets 0 given b))
-        (passing_sound kept w k c (arguments w es [] a) (first_of_both (kept.such c) (expressions_call kept.such es) m) (arguments_sound kept w k es [] a (second_of_both (kept.such c) (expressions_call kept.such es) m)))
+        (passing_sound kept w k c (arguments w es [] a) (first_of_both (near kept w c) (expressions_call (near kept w) es) m) (arguments_sound kept w k es [] a (second_of_both (near kept w c) (expressions_call (near kept w) es) m)))
         (λ given b. sound_end kept how_run (copied_back targets 0 given b) (copied_goes targets 0 given b))
 
-    pub statements_sound : (ss : Statements) (a : Activation) → statements_call kept.such ss ≡ true → Sound kept how_run (meanings w ss a)
+    pub statements_sound : (ss : Statements) (a : Activation) → statements_call (near kept w) ss ≡ true → Sound kept how_run (meanings w ss a)
     statements_sound no_statements a m = sound_end kept how_run (end.Next, a) refl
     statements_sound (and_statement s more) a m =
         step_sound kept a (λ b. and_then (meaning w s b) (go_on (meanings w more)))
-        (λ b. sound_run kept (meaning w s b) (meanings w more) (statement_sound s b (first_of_both (statement_calls kept.such s) (statements_call kept.such more) m))
-        (λ c. statements_sound more c (second_of_both (statement_calls kept.such s) (statements_call kept.such more) m)))
+        (λ b. sound_run kept (meaning w s b) (meanings w more) (statement_sound s b (first_of_both (statement_calls (near kept w) s) (statements_call (near kept w) more) m))
+        (λ c. statements_sound more c (second_of_both (statement_calls (near kept w) s) (statements_call (near kept w) more) m)))
 
-    branches_sound : (branches : Branches) (otherwise : Activation → Run) (a : Activation) → branches_call kept.such branches ≡ true → ((b : Activation) → Sound kept how_run (otherwise b)) → Sound kept how_run (first_true w branches otherwise a)
+    branches_sound : (branches : Branches) (otherwise : Activation → Run) (a : Activation) → branches_call (near kept w) branches ≡ true → ((b : Activation) → Sound kept how_run (otherwise b)) → Sound kept how_run (first_true w branches otherwise a)
     branches_sound no_branches otherwise a m f = f a
     branches_sound (and_branch e ss more) otherwise a m f =
-        let here = first_of_both (expression_calls kept.such e && statements_call kept.such ss) (branches_call kept.such more) m in
+        let here = first_of_both (expression_calls (near kept w) e && statements_call (near kept w) ss) (branches_call (near kept w) more) m in
         sound_in_run kept (value w e a) (λ v b. cond (is_true v) (meanings w ss b) (first_true w more otherwise b))
-        (value_sound kept w k e a (first_of_both (expression_calls kept.such e) (statements_call kept.such ss) here))
-        (λ v b. sound_if kept (is_true v) how_run (meanings w ss b) (first_true w more otherwise b) (statements_sound ss b (second_of_both (expression_calls kept.such e) (statements_call kept.such ss) here))
-        (branches_sound more otherwise b (second_of_both (expression_calls kept.such e && statements_call kept.such ss) (branches_call kept.such more) m) f))
+        (value_sound kept w k e a (first_of_both (expression_calls (near kept w) e) (statements_call (near kept w) ss) here))
+        (λ v b. sound_if kept (is_true v) how_run (meanings w ss b) (first_true w more otherwise b) (statements_sound ss b (second_of_both (expression_calls (near kept w) e) (statements_call (near kept w) ss) here))
+        (branches_sound more otherwise b (second_of_both (expression_calls (near kept w) e && statements_call (near kept w) ss) (branches_call (near kept w) more) m) f))
 
-    alternatives_sound : (alternatives : Alternatives) (v : ℤ) (a : Activation) → alternatives_call kept.such alternatives ≡ true → Sound kept how_run (selected w alternatives v a)
+    alternatives_sound : (alternatives : Alternatives) (v : ℤ) (a : Activation) → alternatives_call (near kept w) alternatives ≡ true → Sound kept how_run (selected w alternatives v a)
     alternatives_sound no_alternatives v a m = sound_end kept how_run (end.Abandoned (cause.Raised ConstraintError), a) refl
     alternatives_sound (and_alternative choices ss more) v a m =
-        sound_if kept (covered choices v) how_run (meanings w ss a) (selected w more v a) (statements_sound ss a (first_of_both (statements_call kept.such ss) (alternatives_call kept.such more) m))
-        (alternatives_sound more v a (second_of_both (statements_call kept.such ss) (alternatives_call kept.such more) m))
+        sound_if kept (covered choices v) how_run (meanings w ss a) (selected w more v a) (statements_sound ss a (first_of_both (statements_call (near kept w) ss) (alternatives_call (near kept w) more) m))
+        (alternatives_sound more v a (second_of_both (statements_call (near kept w) ss) (alternatives_call (near kept w) more) m))

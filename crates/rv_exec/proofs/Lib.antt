@@ -1,13 +1,6 @@
 pub mod Lists
 pub mod Units
 pub mod Runs
-pub mod Forms
-pub mod ValueForms
-pub mod StatementForms
-pub mod Smaller
-pub mod BodyForms
-pub mod Steps
-pub mod Replays
 pub mod Keeping
 pub mod KeptValues
 pub mod KeptStatements

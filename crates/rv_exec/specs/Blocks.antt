@@ -83,7 +83,7 @@ body_meaning w (Some body) values components steps =
 unfoldable pub inner_at : UnitBodies → ℕ → (Callee → List ℤ → Asking Outcome) → ℕ → ℕ → List ℤ → List ℤ → ℕ → Asking (Outcome × (List ℤ × ℕ))
 inner_at bodies object outer zero operation values components steps = ended (Err cause.Overrun, (components, steps))
 inner_at bodies object outer (suc nested) operation values components steps =
-    body_meaning (record { inner = inner_at bodies object outer nested; outer = outer; is_task = false; handling = None }) (operation_of bodies object operation) values components steps
+    body_meaning (record { inner = inner_at bodies object outer nested; outer = outer; object = object; is_task = false; handling = None }) (operation_of bodies object operation) values components steps
 
 -- what follows a request: where a body has started, the body
 abbrev pub performed : (ℕ → ℕ → Bool → List ℤ → Asking Outcome) → Asked → Asking Outcome
@@ -114,4 +114,4 @@ operation_setting held object = record { object = object; held = 16 - held; nest
 
 -- what statements of this setting run in
 abbrev pub world : UnitBodies → Setting → World
-world bodies s = record { inner = inner_at bodies s.object (outer_at bodies s.held) s.nested; outer = outer_at bodies s.held; is_task = s.is_task; handling = s.handling }
+world bodies s = record { inner = inner_at bodies s.object (outer_at bodies s.held) s.nested; outer = outer_at bodies s.held; object = s.object; is_task = s.is_task; handling = s.handling }

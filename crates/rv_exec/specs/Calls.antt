@@ -33,9 +33,11 @@ is_protected (callee.Procedure object operation) = true
 is_protected (callee.Entry object operation) = true
 is_protected other = false
 
--- the request that asks it of the host; the operations of a suspension object have the numbers 1 to 4 (D.10)
+-- the request that asks it of the host; the operations of a suspension object have the numbers 1 to 4 (D.10); an internal
+-- call is asked of none, and an entry of the same object as one of its object
 abbrev pub request_of : Callee → List ℤ → Request
 request_of (callee.Internal operation) values = request.Clock
+request_of (callee.OwnEntry operation) values = request.Clock
 request_of (callee.Function object operation) values = request.Call object operation values
 request_of (callee.Procedure object operation) values = request.Call object operation values
 request_of (callee.Entry object operation) values = request.Call object operation values

@@ -1,5 +1,6 @@
 -- What expressions evaluate to (ISO/IEC 8652:2012, 4.4, 6.4), from left to right (own).
 use Rattle.std.specs.Prelude.{ℕ, ℤ, pos, List, [], if◌then◌else◌, Option, Some, None, Result, Ok, Err, slice_index_or}
+use Rattle.rv_code.specs.Callees.{of_object}
 use Rattle.rv_code.specs.declared.expression.Callee.{Callee}
 use Rattle.rv_code.specs.Expressions.{Expression, literal, variable, component, prefixed, chain, call, Expressions, no_expressions, and_expression, Links, no_links, and_link}
 use Rattle.rv_code.specs.Expressions as code
@@ -36,9 +37,9 @@ abbrev pub called_by : World → Option ℕ → Callee → List ℤ → Activati
 called_by w (Some operation) callee values a = and_then (w.inner operation values a.components a.steps) (returned a)
 called_by w None callee values a = asked_by w callee values a (spent w.is_task a)
 
--- a call with these values (6.4, 9.5)
+-- a call with these values (6.4, 9.5): an entry of the same object is one of the object whose body it is
 unfoldable pub called : World → Callee → List ℤ → Activation → Asking GotAll
-called w callee values a = called_by w (internal callee) callee values a
+called w callee values a = called_by w (internal callee) (of_object w.object callee) values a
 
 -- a call, behind its arguments (6.4.1)
 abbrev pub passing : World → Callee → Asking GotAll → Asking GotAll

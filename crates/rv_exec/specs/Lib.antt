@@ -8,7 +8,6 @@ pub mod World
 pub mod Expressions
 pub mod Statements
 pub mod Blocks
-pub mod Sizes
 pub mod Tasks
 pub mod Next
 pub mod Stops

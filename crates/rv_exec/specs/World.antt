@@ -15,6 +15,8 @@ pub record World : Type 0 where
   pub inner : ℕ → List ℤ → List ℤ → ℕ → Asking (Outcome × (List ℤ × ℕ))
   -- what a call of another object, a delay or Clock does, with its values
   pub outer : Callee → List ℤ → Asking Outcome
+  -- the number of the object whose body it is, 0 in a task's own
+  pub object : ℕ
   -- whether it is a task's own body
   pub is_task : Bool
   -- the exception that is handled, in a handler

@@ -1,12 +1,10 @@
 //! What is asked of the host, and what its answers come to (9.5.1, 9.5.3, 9.6, D.8, D.10).
 
 ghost use Rattle.std.specs.Prelude.{◌≡◌, ℕ, [], ◌∷◌, Some, None};
-ghost use Rattle.rv_exec.specs.Asking.{Ran};
-ghost use Rattle.rv_exec.specs.Calls.{internal, is_protected, is_past, request_of, refusal, started, queued, suspended, delayed, is_entry, is_suspension, may_block, is_listed, can_refuse, refused, done, state, accepted, replied, woken, dropped, resumed, reached, exit_of, seen, completed, is_stuck, ends_by, end_of, end_with, stops, gives};
+ghost use Rattle.rv_exec.specs.Calls.{internal, is_protected, is_past, request_of, refusal, started, queued, suspended, delayed, is_entry, is_suspension, may_block, is_listed, can_refuse, refused, done, state, accepted, replied, woken, dropped, resumed, exit_of, seen, completed, is_stuck, end_of, end_with, stops, gives};
 
 use crate::activation::value_at;
 use crate::end::{Asked, Cause, Reply};
-use crate::outward::Outward;
 use rv_code::Callee;
 use rv_event::entry::{Answer, Exception, Exit, Request, Rule};
 use rv_value::{Args, Scalars};
@@ -42,7 +40,7 @@ pub fn is_past(held: u32, callee: Callee) -> bool
 }
 
 /// The request that asks a call, a delay or Clock of the host. The operations of a suspension object have the numbers 1 to 4
-/// (D.10).
+/// (D.10). An entry of the same object is asked as one of its object.
 pub fn request_of(callee: Callee, values: Args) -> Request
     ensures { result ≡ request_of callee values }
 {
@@ -55,7 +53,7 @@ pub fn request_of(callee: Callee, values: Args) -> Request
         Callee::CurrentState(object) => Request::Call(object, 3, Args::new()),
         Callee::SuspendUntilTrue(object) => Request::Call(object, 4, Args::new()),
         Callee::DelayUntil => Request::DelayUntil(value_at(values, 0)),
-        Callee::Clock | Callee::Internal(_) => Request::Clock,
+        Callee::Clock | Callee::Internal(_) | Callee::OwnEntry(_) => Request::Clock,
     }
 }
 
@@ -269,29 +267,6 @@ pub fn resumed(callee: Callee, answer: Answer) -> Asked
     }
 }
 
-/// Asks one request, and resumes where the actor waits. The actor may hold so many more objects.
-pub fn reached<R, O: Outward<R>>(
-    runtime: &R,
-    held: u32,
-    callee: Callee,
-    values: Args,
-    outward: &mut O,
-) -> Asked
-    ensures { Ran O.went outward.old (reached held callee values) outward.new result }
-{
-    if is_past(held, callee) {
-        return Asked::Abandoned(Cause::Raised(Exception::ProgramError));
-    }
-    let answer = outward.ask(runtime, request_of(callee, values));
-    match replied(callee, answer) {
-        Reply::Settled(asked) => asked,
-        Reply::Waits => {
-            let answer = outward.ask(runtime, Request::Resume);
-            resumed(callee, answer)
-        }
-    }
-}
-
 /// How a body ends, for the host.
 pub fn exit_of(outcome: &Result<Args, Cause>) -> Exit
     ensures { result ≡ exit_of outcome.now }
@@ -352,21 +327,4 @@ pub fn is_stuck(outcome: &Result<Args, Cause>) -> bool
         Err(Cause::Stopped(is_idle)) => !*is_idle,
         _ => false,
     }
-}
-
-/// Asks the end of a body (9.5.1): by this request, behind which it comes to this. Where the actor is left waiting, or
-/// in a body that this one called, it asks nothing: the host would take the end for that of the other body.
-pub fn complete<R, O: Outward<R>>(
-    runtime: &R,
-    request: Request,
-    outcome: Result<Args, Cause>,
-    outward: &mut O,
-) -> Result<Args, Cause>
-    ensures { Ran O.went outward.old (ends_by request outcome) outward.new result }
-{
-    if is_stuck(&outcome) {
-        return outcome;
-    }
-    let answer = outward.ask(runtime, request);
-    completed(outcome, answer)
 }

@@ -1,6 +1,6 @@
 //! How statements and bodies end.
 
-use rv_event::entry::Exception;
+use rv_event::entry::{Exception, Exit};
 use rv_value::{Args, Scalars};
 
 /// Why a construct is abandoned (11.4).
@@ -45,4 +45,11 @@ pub enum Reply {
     Settled(Asked),
     /// The actor waits, and resumes.
     Waits,
+}
+
+/// How a body ended, with the object's components as it leaves them.
+#[derive(Clone, Copy)]
+pub struct Ended {
+    pub scalars: Scalars,
+    pub exit: Exit,
 }

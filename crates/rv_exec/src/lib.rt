@@ -1,5 +1,6 @@
-//! Runs compiled bodies, which ask an outside: the host that decides each step. What stands in parentheses, as (5.2),
-//! is a section of ISO/IEC 8652:2012; (own) marks what is this project's choice.
+//! What compiled bodies mean: what they do step by step, and what they ask an outside, the host that decides each step. The
+//! definitions stand in `specs/`; here is the code of one step, which the machine of rv_machine takes one behind the other. What
+//! stands in parentheses, as (5.2), is a section of ISO/IEC 8652:2012; (own) marks what is this project's choice.
 #![tactic(auto)]
 
 pub mod activation;
@@ -13,7 +14,4 @@ pub mod operators;
 pub mod outcome;
 pub mod outward;
 pub mod ranges;
-pub mod replay;
-mod run;
 pub mod setting;
-pub mod surroundings;

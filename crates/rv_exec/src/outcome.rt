@@ -1,14 +1,11 @@
 //! What the end of a body comes to (6.4.1, 6.5, 11.3).
 
 ghost use Rattle.std.specs.Prelude.{◌≡◌};
-ghost use Rattle.rv_code.specs.BodyView.{body_view};
-ghost use Rattle.rv_exec.specs.Blocks.{outcome_of, function_outcome, procedure_outcome, raised};
+ghost use Rattle.rv_exec.specs.Blocks.{function_outcome, procedure_outcome, raised};
 ghost use Rattle.rv_exec.specs.Statements.{exit_where, raised_again};
 
-use crate::activation::Activation;
 use crate::end::{Cause, End};
 use crate::operators::is_true;
-use rv_code::Body;
 use rv_event::entry::Exception;
 use rv_value::Args;
 
@@ -30,17 +27,6 @@ pub fn procedure_outcome(end: End, values: Args) -> Result<Args, Cause>
     match end {
         End::Abandoned(cause) => Err(cause),
         _ => Ok(values),
-    }
-}
-
-/// What a body comes to, by how its statements end (6.4.1, 6.5).
-pub fn outcome_of(body: &Body, end: End, activation: &Activation) -> Result<Args, Cause>
-    ensures { result ≡ outcome_of (body_view body.now) end activation.now }
-{
-    if body.is_function {
-        function_outcome(end)
-    } else {
-        procedure_outcome(end, activation.given_back(&body.parameters))
     }
 }
 

@@ -21,3 +21,13 @@ pub trait Outward<R> {
 
     ghost both: { (s t u : Self) (a b : List (Request × Answer)) → went s a t → went t b u → went s (a ++ b) u };
 }
+
+/// Whether a request stands behind such an answer, and is asked again (own).
+pub fn stands(answer: &Answer) -> bool
+    ensures { result ≡ stands answer.now }
+{
+    match answer {
+        Answer::Busy | Answer::Waiting | Answer::Misuse => true,
+        _ => false,
+    }
+}

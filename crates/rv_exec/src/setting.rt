@@ -1,5 +1,9 @@
 //! What the statements of a body run in.
 
+ghost use Rattle.std.specs.Prelude.{◌≡◌, ◌-◌};
+ghost use Rattle.rv_exec.specs.Blocks.{operation_setting};
+ghost use Rattle.rv_exec.specs.Tasks.{task_setting};
+
 use rv_event::entry::Exception;
 
 /// How many objects an actor may hold at once; the limit is our own.
@@ -21,4 +25,38 @@ pub struct Setting {
     pub is_task: bool,
     /// The exception that is handled, in a handler.
     pub handling: Option<Exception>,
+}
+
+// How many more objects an actor may hold.
+fn room(held: usize) -> u32
+    ensures { result ≡ 16 - held }
+{
+    let most = MOST_HELD as usize;
+    if held < most { (most - held) as u32 } else { 0 }
+}
+
+/// What an operation's body runs in, whose actor holds so many objects, its own with them.
+pub fn of_operation(held: usize, object: usize) -> Setting
+    ensures { result ≡ operation_setting held object }
+{
+    Setting {
+        object,
+        held: room(held),
+        nested: MOST_NESTED,
+        is_task: false,
+        handling: None,
+    }
+}
+
+/// What a task's own body runs in.
+pub fn of_task() -> Setting
+    ensures { result ≡ task_setting }
+{
+    Setting {
+        object: 0,
+        held: MOST_HELD,
+        nested: MOST_NESTED,
+        is_task: true,
+        handling: None,
+    }
 }

@@ -1,16 +1,17 @@
 -- What fits keeps fitting when more units are loaded.
-use Rattle.std.proofs.Common.{◌≡◌, ℕ, zero, suc, List, [], ◌∷◌, ◌++◌, Bool, true, false, Option, Some, None, refl, sym, ap, ◌∙◌, length}
+use Rattle.std.proofs.Common.{◌≡◌, ℕ, zero, suc, ◌+◌, List, [], ◌∷◌, ◌++◌, Bool, true, false, Option, Some, None, refl, sym, ap, ◌∙◌, length}
 use Rattle.std.specs.List.{list_all}
 use Rattle.std.specs.Prelude.{◌&&◌, replicate}
 use Rattle.rv_shape.specs.Shape.{Shape}
 use Rattle.rv_shape.specs.Catalogue.{UnitObject, Target, Nowhere, place, target, at_unit_object}
 use Rattle.rv_shape.proofs.Stay.{object_stays, target_stays}
+use Rattle.rv_code.specs.Callees.{of_object}
 use Rattle.rv_code.specs.declared.expression.Callee.{Callee}
 use Rattle.rv_code.specs.declared.expression.Callee.TheVariants as callee
 use Rattle.rv_code.specs.Expressions.{Expression, literal, variable, component, prefixed, chain, within, call, Expressions, no_expressions, and_expression, Links, no_links, and_link}
 use Rattle.rv_code.specs.Statements.{Statement, null_statement, assign, choice, selection, while_loop, for_loop, exit_when, returns, returns_value, raises, reraises, calls, Statements, no_statements, and_statement, Branches, no_branches, and_branch, Alternatives, no_alternatives, and_alternative}
 use Rattle.rv_code.specs.Bodies.{Body, UnitBodies, without_bodies}
-use Rattle.rv_fits.specs.Calls.{expression_calls, expressions_call, links_call, statement_calls, statements_call, branches_call, alternatives_call, declaration_calls, handler_calls, body_calls, object_calls, task_calls, every_call}
+use Rattle.rv_fits.specs.Calls.{expression_calls, expressions_call, links_call, statement_calls, statements_call, branches_call, alternatives_call, declaration_calls, handler_calls, body_calls, object_calls, task_calls, such_in, objects_call, calls_from, every_call}
 use Rattle.rv_fits.specs.Fits.{calls_function, calls_procedure, calls_entry, is_suspension, callee_fits, calls_fit}
 use Rattle.rv_fits.proofs.Both.{first_of_both, second_of_both, both_hold}
 
@@ -112,13 +113,20 @@ module _ (such so : Callee → Bool) (more : (c : Callee) → such c ≡ true �
   task_more None m = refl
   task_more (Some b) m = body_more b m
 
-  pub every_more : (bodies : UnitBodies) → every_call such bodies ≡ true → every_call so bodies ≡ true
-  every_more bodies m =
-      both_hold (list_all (object_calls so) bodies.objects) (list_all (task_calls so) bodies.tasks)
-      (all_more (object_calls such) (object_calls so) (all_more (body_calls such) (body_calls so) body_more) bodies.objects
-      (first_of_both (list_all (object_calls such) bodies.objects) (list_all (task_calls such) bodies.tasks) m))
-      (all_more (task_calls such) (task_calls so) task_more bodies.tasks
-      (second_of_both (list_all (object_calls such) bodies.objects) (list_all (task_calls such) bodies.tasks) m))
+objects_more : (such so : Callee → Bool) → ((c : Callee) → such c ≡ true → so c ≡ true) → (number : ℕ) (objects : List (List Body)) → objects_call such number objects ≡ true → objects_call so number objects ≡ true
+objects_more such so more number [] m = refl
+objects_more such so more number (bodies ∷ objects) m =
+    both_hold (object_calls (such_in so number) bodies) (objects_call so (number + 1) objects)
+    (all_more (body_calls (such_in such number)) (body_calls (such_in so number)) (body_more (such_in such number) (such_in so number) (λ c. more (of_object number c))) bodies
+    (first_of_both (object_calls (such_in such number) bodies) (objects_call such (number + 1) objects) m))
+    (objects_more such so more (number + 1) objects (second_of_both (object_calls (such_in such number) bodies) (objects_call such (number + 1) objects) m))
+
+every_more : (such so : Callee → Bool) → ((c : Callee) → such c ≡ true → so c ≡ true) → (bodies : UnitBodies) → every_call such bodies ≡ true → every_call so bodies ≡ true
+every_more such so more bodies m =
+    both_hold (objects_call so 1 bodies.objects) (list_all (task_calls (such_in so 0)) bodies.tasks)
+    (objects_more such so more 1 bodies.objects (first_of_both (objects_call such 1 bodies.objects) (list_all (task_calls (such_in such 0)) bodies.tasks) m))
+    (all_more (task_calls (such_in such 0)) (task_calls (such_in so 0)) (task_more (such_in such 0) (such_in so 0) (λ c. more (of_object 0 c))) bodies.tasks
+    (second_of_both (objects_call such 1 bodies.objects) (list_all (task_calls (such_in such 0)) bodies.tasks) m))
 
 -- What is called keeps its number
 
@@ -139,6 +147,7 @@ suspension_keeps old more o e = by_place (place old o) refl where
 
 pub callee_keeps : (old more : List Shape) (c : Callee) → callee_fits old c ≡ true → callee_fits (old ++ more) c ≡ true
 callee_keeps old more (callee.Internal operation) e = refl
+callee_keeps old more (callee.OwnEntry operation) e = absurd (cc e)
 callee_keeps old more (callee.Function object operation) e = target_keeps calls_function refl old more object operation e
 callee_keeps old more (callee.Procedure object operation) e = target_keeps calls_procedure refl old more object operation e
 callee_keeps old more (callee.Entry object operation) e = target_keeps calls_entry refl old more object operation e
@@ -158,7 +167,14 @@ all_alike : {A : Type 0} (p : A → Bool) (x : A) (n : ℕ) → p x ≡ true →
 all_alike p x zero e = refl
 all_alike p x (suc n) e = both_hold (p x) (list_all p (replicate n x)) e (all_alike p x n e)
 
+pub none_call : (such : Callee → Bool) (number count : ℕ) → objects_call such number (replicate count []) ≡ true
+none_call such number zero = refl
+none_call such number (suc count) = none_call such (number + 1) count
+
+pub alone_calls : (such : Callee → Bool) (number : ℕ) (shape : Shape) → calls_from such number (without_bodies shape) ≡ true
+alone_calls such number shape =
+    both_hold (objects_call such number (replicate (length shape.objects) [])) (list_all (task_calls (such_in such 0)) (replicate (length shape.tasks) None))
+    (none_call such number (length shape.objects)) (all_alike (task_calls (such_in such 0)) None (length shape.tasks) refl)
+
 pub alone_fits : (shapes : List Shape) (shape : Shape) → calls_fit shapes (without_bodies shape) ≡ true
-alone_fits shapes shape =
-    both_hold (list_all (object_calls (callee_fits shapes)) (replicate (length shape.objects) [])) (list_all (task_calls (callee_fits shapes)) (replicate (length shape.tasks) None))
-    (all_alike (object_calls (callee_fits shapes)) [] (length shape.objects) refl) (all_alike (task_calls (callee_fits shapes)) None (length shape.tasks) refl)
+alone_fits shapes shape = alone_calls (callee_fits shapes) 1 shape

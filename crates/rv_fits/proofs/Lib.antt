@@ -1,5 +1,5 @@
 pub mod Both
-pub mod Lists
 pub mod Parts
 pub mod Keeps
+mod Alike
 mod Behind

@@ -1,6 +1,7 @@
 -- What is said of each callee that code names (own).
-use Rattle.std.specs.Prelude.{Bool, true, ◌&&◌, List, Option, Some, None}
+use Rattle.std.specs.Prelude.{ℕ, ◌+◌, Bool, true, ◌&&◌, List, [], ◌∷◌, Option, Some, None}
 use Rattle.std.specs.List.{list_all}
+use Rattle.rv_code.specs.Callees.{of_object}
 use Rattle.rv_code.specs.declared.expression.Callee.{Callee}
 use Rattle.rv_code.specs.Expressions.{Expression, literal, variable, component, prefixed, chain, within, call, Expressions, no_expressions, and_expression, Links, no_links, and_link}
 use Rattle.rv_code.specs.Statements.{Statement, null_statement, assign, choice, selection, while_loop, for_loop, exit_when, returns, returns_value, raises, reraises, calls, Statements, no_statements, and_statement, Branches, no_branches, and_branch, Alternatives, no_alternatives, and_alternative}
@@ -74,6 +75,19 @@ abbrev pub task_calls : (Callee → Bool) → Option Body → Bool
 task_calls such None = true
 task_calls such (Some b) = body_calls such b
 
--- each callee that a unit's bodies name is such a one
+-- the callee is such a one in the body of the object of this number
+abbrev pub such_in : (Callee → Bool) → ℕ → Callee → Bool
+such_in such object callee = such (of_object object callee)
+
+-- each callee of the bodies of objects is such a one, where the first of them has this number
+abbrev pub objects_call : (Callee → Bool) → ℕ → List (List Body) → Bool
+objects_call such number [] = true
+objects_call such number (bodies ∷ more) = object_calls (such_in such number) bodies && objects_call such (number + 1) more
+
+-- each callee that a unit's bodies name is such a one, where its first object has this number
+abbrev pub calls_from : (Callee → Bool) → ℕ → UnitBodies → Bool
+calls_from such number bodies = objects_call such number bodies.objects && list_all (task_calls (such_in such 0)) bodies.tasks
+
+-- the same of the bodies of all units
 abbrev pub every_call : (Callee → Bool) → UnitBodies → Bool
-every_call such bodies = list_all (object_calls such) bodies.objects && list_all (task_calls such) bodies.tasks
+every_call such bodies = calls_from such 1 bodies

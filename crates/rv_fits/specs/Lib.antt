@@ -1,3 +1,4 @@
 pub mod Calls
 pub mod Fits
 pub mod Passing
+pub mod Alike

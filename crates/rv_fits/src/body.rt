@@ -1,18 +1,16 @@
 //! Calls in bodies (6.3, 9.1, 9.4).
 
-ghost use Rattle.std.specs.List.{list_all, list_any};
-ghost use Rattle.std.specs.Prelude.{◌≡◌, ◌==◌, Bool, map};
-ghost use Rattle.rv_code.specs.BodyView.{declaration_view, handler_view, body_view, object_view, maybe_body_view, unit_view};
+ghost use Rattle.std.specs.List.{list_all};
+ghost use Rattle.std.specs.Prelude.{◌≡◌, Bool, map};
+ghost use Rattle.rv_code.specs.BodyView.{declaration_view, handler_view, body_view, maybe_body_view};
 ghost use Rattle.rv_code.specs.declared.expression.Callee.{Callee};
 ghost use Rattle.rv_fits.specs.Calls.{body_calls, declaration_calls, handler_calls, object_calls, task_calls};
-ghost use Rattle.rv_fits.specs.Fits.{calls_fit};
-ghost use Rattle.rv_fits.specs.Passing.{names_no_own, passes};
+ghost use Rattle.rv_fits.specs.Passing.{passes};
 
 use crate::expression::expression_fits;
 use crate::passing::Test;
 use crate::statement::statements_fit;
-use crate::units::Units;
-use rv_code::{Body, Declaration, Handler, ObjectBodies, UnitBodies};
+use rv_code::{Body, Declaration, Handler};
 
 // A part of a unit's bodies.
 trait Part {
@@ -62,15 +60,6 @@ impl Part for Body {
     }
 }
 
-impl Part for ObjectBodies {
-    ghost calls = { λ such o. object_calls such (object_view o) };
-
-    #[tactic(auto, using(crate::proofs::Parts::mapped))]
-    fn fits(&self, test: &Test<'_>) -> bool {
-        all_fit(&self.operations, test)
-    }
-}
-
 impl Part for Option<Body> {
     ghost calls = { λ such o. task_calls such (maybe_body_view o) };
 
@@ -82,44 +71,18 @@ impl Part for Option<Body> {
     }
 }
 
-// Whether an object has the list of an index.
-fn is_had(objects: &[usize], list: usize) -> bool
-    ensures { result ≡ list_any (λ had. had == list) objects.now }
-{
-    for had in objects {
-        if *had == list {
-            return true;
-        }
-    }
-    false
-}
-
-#[tactic(auto, using(crate::proofs::Lists::all_fine))]
-// Whether the calls of each list of bodies fit that an object has. What objects share is looked at once.
-fn objects_fit(bodies: &UnitBodies, test: &Test<'_>) -> bool
-    ensures { result ≡ list_all (object_calls (passes test.now)) (unit_view bodies.now).objects }
-{
-    for (list, one) in bodies.lists.iter().enumerate() {
-        if !one.fits(test) && is_had(&bodies.objects, list) {
-            return false;
-        }
-    }
-    true
-}
-
-/// Whether the calls of a unit's bodies fit these units: each names there what it is called for.
+/// Whether the calls of an object's bodies fit.
 #[tactic(auto, using(crate::proofs::Parts::mapped))]
-pub(crate) fn calls_fit(bodies: &UnitBodies, units: Units<'_>) -> bool
-    ensures { result ≡ calls_fit units.entry (unit_view bodies.now) }
+pub(crate) fn bodies_fit(bodies: &[Body], test: &Test<'_>) -> bool
+    ensures { result ≡ object_calls (passes test.now) (map body_view bodies.now) }
 {
-    let test = Test::Fits(units);
-    objects_fit(bodies, &test) && all_fit(&bodies.tasks, &test)
+    all_fit(bodies, test)
 }
 
-/// Whether none of these bodies calls an entry of the object 0, which stands for the one whose bodies they are.
+/// Whether the calls of tasks' own bodies fit.
 #[tactic(auto, using(crate::proofs::Parts::mapped))]
-pub fn name_no_own(bodies: &[Body]) -> bool
-    ensures { result ≡ object_calls names_no_own (map body_view bodies.now) }
+pub(crate) fn tasks_fit(bodies: &[Option<Body>], test: &Test<'_>) -> bool
+    ensures { result ≡ list_all (task_calls (passes test.now)) (map maybe_body_view bodies.now) }
 {
-    all_fit(bodies, &Test::NoOwn)
+    all_fit(bodies, test)
 }

@@ -30,7 +30,8 @@ fn calls_procedure(units: &Units<'_>, object: usize, operation: usize) -> bool
     }
 }
 
-fn calls_entry(units: &Units<'_>, object: usize, operation: usize) -> bool
+/// Whether a call is one of an entry (9.5.3).
+pub(crate) fn calls_entry(units: &Units<'_>, object: usize, operation: usize) -> bool
     ensures { result ≡ calls_entry (target units.now object operation) }
 {
     match units.callee(object, operation) {
@@ -54,6 +55,7 @@ pub(crate) fn callee_fits(callee: &Callee, units: &Units<'_>) -> bool
 {
     match *callee {
         Callee::Internal(_) => true,
+        Callee::OwnEntry(_) => false,
         Callee::Function(object, operation) => calls_function(units, object, operation),
         Callee::Procedure(object, operation) => calls_procedure(units, object, operation),
         Callee::Entry(object, operation) => calls_entry(units, object, operation),

@@ -9,6 +9,6 @@ pub mod laws;
 mod passing;
 mod statement;
 mod units;
+mod whole;
 
-pub use body::name_no_own;
 pub use units::{may_load, with_unit};

@@ -8,9 +8,9 @@ use Rattle.rv_exec.specs.declared.setting.Setting.{Setting}
 use Rattle.rv_event.specs.declared.entry.Exception.TheVariants.{ProgramError}
 use Rattle.rv_exec.specs.declared.end.Cause.TheVariants as cause
 use Rattle.rv_exec.specs.Asking.{Asking, and_then}
-use Rattle.rv_exec.specs.Activations.{spent, opened, bound}
+use Rattle.rv_exec.specs.Activations.{opened, bound}
 use Rattle.rv_exec.specs.Bodies.{operation_of}
-use Rattle.rv_exec.specs.Calls.{internal, reached, is_past}
+use Rattle.rv_exec.specs.Calls.{reached, is_past}
 use Rattle.rv_exec.specs.Statements.{step, turns, values_over, meaning, meanings, selected}
 use Rattle.rv_exec.specs.Blocks.{elaborated, block, body_meaning, inner_at, outer_at, closed, world}
 use Rattle.rv_frames.specs.Frames.{Frame, Now, declares, enters, comes, opening, closing, answering, outside, close, out, inner_setting, denoted, meant}
@@ -34,12 +34,12 @@ statements_at_once bodies fs s = record {
   no_declaration = λ a. refl;
 }
 
-past : (bodies : UnitBodies) (fs : List Frame) (s : Setting) (callee : Callee) (values : List ℤ) (a b : Activation)
-    → internal callee ≡ None → spent s.is_task a ≡ Some b → is_past s.held callee ≡ true
+past : (bodies : UnitBodies) (fs : List Frame) (s : Setting) (callee : Callee) (values : List ℤ) (b : Activation)
+    → is_past s.held callee ≡ true
     → and_then (outer_at bodies s.held callee values) (out (denoted bodies (answering b ∷ fs) s))
     ≡ meant bodies (comes (outside (Err (cause.Raised ProgramError)))) (answering b ∷ fs) s
 unfolding meant reached
-past bodies fs s callee values a b other is beyond =
+past bodies fs s callee values b beyond =
     ap (λ x. and_then x (out (denoted bodies (answering b ∷ fs) s))) (outer_as bodies s.held callee values)
     ∙ rw beyond refl
 
@@ -63,7 +63,7 @@ begins bodies fs s operation values components steps nested body deeper is free 
 pub calls_at_once : (bodies : UnitBodies) (fs : List Frame) (s : Setting) → CallsAtOnce bodies fs s
 unfolding meant denoted inner_at body_meaning
 calls_at_once bodies fs s = record {
-  past_limit = λ callee values a b other is beyond. external_spent bodies fs s callee values a b other is ∙ past bodies fs s callee values a b other is beyond;
+  past_limit = λ callee at values a b other is here beyond. external_spent bodies fs s callee at values a b other is here ∙ past bodies fs s at values b beyond;
   too_deep = λ operation values components steps is. rw is refl;
   no_body = λ operation values components steps nested deeper is. rw deeper (rw is refl);
   body = begins bodies fs s;

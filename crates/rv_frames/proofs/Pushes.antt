@@ -1,5 +1,6 @@
 -- What waits is pushed, and the meaning stays.
-use Rattle.std.proofs.Common.{◌≡◌, refl, ap, ◌∙◌, ℕ, zero, suc, ℤ, List, [], ◌∷◌, false, Some, None}
+use Rattle.std.proofs.Common.{◌≡◌, refl, sym, ap, ◌∙◌, ℕ, zero, suc, ℤ, List, [], ◌∷◌, false, Some, None}
+use Rattle.rv_code.specs.Callees.{of_object}
 use Rattle.rv_code.specs.declared.expression.Callee.{Callee}
 use Rattle.rv_code.specs.declared.expression.Callee.TheVariants as callee
 use Rattle.rv_code.specs.Bodies.{Body, UnitBodies}
@@ -32,11 +33,13 @@ internal_enters bodies fs s operation values a nested body deeper is =
     ∙ associative (elaborated (world bodies (inner_setting s nested)) body.declarations (begun body values a)) _ _))
 
 pub external_spent :
-    (bodies : UnitBodies) (fs : List Frame) (s : Setting) (callee : Callee) (values : List ℤ) (a b : Activation)
-    → internal callee ≡ None → spent s.is_task a ≡ Some b
-    → meant bodies (calls callee values a) fs s ≡ and_then (outer_at bodies s.held callee values) (out (denoted bodies (answering b ∷ fs) s))
+    (bodies : UnitBodies) (fs : List Frame) (s : Setting) (callee at : Callee) (values : List ℤ) (a b : Activation)
+    → internal callee ≡ None → spent s.is_task a ≡ Some b → at ≡ of_object s.object callee
+    → meant bodies (calls callee values a) fs s ≡ and_then (outer_at bodies s.held at values) (out (denoted bodies (answering b ∷ fs) s))
 unfolding meant denoted called
-external_spent bodies fs s callee values a b = λ other is. rw other (rw is (associative (outer_at bodies s.held callee values) _ _))
+external_spent bodies fs s callee at values a b other is here =
+    rw other (rw is (associative (outer_at bodies s.held (of_object s.object callee) values) _ _))
+    ∙ ap (λ (c : Callee). and_then (outer_at bodies s.held c values) (out (denoted bodies (answering b ∷ fs) s))) (sym here)
 
 -- the outside of an actor that may hold so many more
 pub outer_as :
@@ -47,14 +50,14 @@ outer_as bodies zero callee values = refl
 outer_as bodies (suc held) callee values = refl
 
 external_down :
-    (bodies : UnitBodies) (fs : List Frame) (s : Setting) (callee : Callee) (values : List ℤ) (a b : Activation)
-    → internal callee ≡ None → spent s.is_task a ≡ Some b → is_past s.held callee ≡ false
-    → meant bodies (calls callee values a) fs s ≡ meant bodies (asks_of callee values) (performing s.held values ∷ answering b ∷ fs) s
+    (bodies : UnitBodies) (fs : List Frame) (s : Setting) (callee at : Callee) (values : List ℤ) (a b : Activation)
+    → internal callee ≡ None → spent s.is_task a ≡ Some b → at ≡ of_object s.object callee → is_past s.held at ≡ false
+    → meant bodies (calls callee values a) fs s ≡ meant bodies (asks_of at values) (performing s.held values ∷ answering b ∷ fs) s
 unfolding meant denoted called reached
-external_down bodies fs s callee values a b other is within =
-    external_spent bodies fs s callee values a b other is
-    ∙ (ap (λ x. and_then x (out (denoted bodies (answering b ∷ fs) s))) (outer_as bodies s.held callee values)
-    ∙ rw within (associative (asks callee values) _ _))
+external_down bodies fs s callee at values a b other is here within =
+    external_spent bodies fs s callee at values a b other is here
+    ∙ (ap (λ x. and_then x (out (denoted bodies (answering b ∷ fs) s))) (outer_as bodies s.held at values)
+    ∙ rw within (associative (asks at values) _ _))
 
 pub expressions_push : (bodies : UnitBodies) (fs : List Frame) (s : Setting) → ExpressionsPush bodies fs s
 unfolding meant denoted value linked arguments

@@ -2,6 +2,7 @@
 use Rattle.std.specs.Prelude.{◌≡◌, ℕ, suc, ℤ, pos, Bool, true, false, List, [], ◌∷◌, replicate, Some, None, Err}
 use Rattle.rv_event.specs.declared.entry.Exception.{Exception}
 use Rattle.rv_event.specs.declared.entry.Exception.TheVariants.{ConstraintError, ProgramError}
+use Rattle.rv_code.specs.Callees.{of_object}
 use Rattle.rv_code.specs.declared.expression.Callee.{Callee}
 use Rattle.rv_code.specs.declared.statement.Choice.{Choice}
 use Rattle.rv_code.specs.Expressions.{Expression}
@@ -80,8 +81,8 @@ pub record StatementsAtOnce (bodies : UnitBodies) (fs : List Frame) (s : Setting
 pub record CallsAtOnce (bodies : UnitBodies) (fs : List Frame) (s : Setting) : Type 0 where
   -- a call of another object by an actor that holds all that it may
   pub past_limit :
-      (callee : Callee) (values : List ℤ) (a b : Activation)
-      → internal callee ≡ None → spent s.is_task a ≡ Some b → is_past s.held callee ≡ true
+      (callee at : Callee) (values : List ℤ) (a b : Activation)
+      → internal callee ≡ None → spent s.is_task a ≡ Some b → at ≡ of_object s.object callee → is_past s.held at ≡ true
       → meant bodies (calls callee values a) fs s
       ≡ meant bodies (comes (outside (Err (cause.Raised ProgramError)))) (answering b ∷ fs) s
   -- no more calls may nest

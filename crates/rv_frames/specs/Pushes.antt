@@ -1,6 +1,7 @@
 -- What waits is pushed on the stack, and what the run still does stays (own).
 use Rattle.std.specs.Prelude.{◌≡◌, ℕ, suc, ℤ, Bool, true, false, List, [], ◌∷◌, Some, None, Err}
 use Rattle.rv_shape.specs.declared.kind.Range.{Range}
+use Rattle.rv_code.specs.Callees.{of_object}
 use Rattle.rv_code.specs.declared.expression.Callee.{Callee}
 use Rattle.rv_code.specs.declared.expression.Callee.TheVariants as callee
 use Rattle.rv_code.specs.declared.expression.Prefix.{Prefix}
@@ -148,12 +149,12 @@ pub record CallsPush (bodies : UnitBodies) (fs : List Frame) (s : Setting) : Typ
       → meant bodies (calls (callee.Internal operation) values a) fs s
       ≡ meant bodies (declares body.declarations (begun body values a))
       (opening body.statements body.handlers ∷ closing body ∷ resuming s a ∷ fs) (inner_setting s nested)
-  -- a call of another object, where the actor may make it (9.5)
+  -- a call that is asked of the host, where the actor may make it: an entry of the same object is one of its object (9.5)
   pub outer_call :
-      (callee : Callee) (values : List ℤ) (a b : Activation)
-      → internal callee ≡ None → spent s.is_task a ≡ Some b → is_past s.held callee ≡ false
+      (callee at : Callee) (values : List ℤ) (a b : Activation)
+      → internal callee ≡ None → spent s.is_task a ≡ Some b → at ≡ of_object s.object callee → is_past s.held at ≡ false
       → meant bodies (calls callee values a) fs s
-      ≡ meant bodies (asks_of callee values) (performing s.held values ∷ answering b ∷ fs) s
+      ≡ meant bodies (asks_of at values) (performing s.held values ∷ answering b ∷ fs) s
   -- a task that has no request left makes none (own)
   pub no_request_left :
       (callee : Callee) (values : List ℤ) (a : Activation)

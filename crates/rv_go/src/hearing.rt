@@ -9,7 +9,7 @@ use crate::texts::{Heard, Texts};
 use rv_code::UnitBodies;
 use rv_event::entry::{Answer, Next, Request, Rule};
 use rv_exec::bodies::Bodies;
-use rv_exec::replay::stands;
+use rv_exec::outward::stands;
 use rv_value::Scalars;
 use std::alloc::{AllocError, Global};
 

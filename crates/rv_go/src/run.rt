@@ -12,7 +12,7 @@ ghost use Rattle.rv_machine.specs.Needs.{IsNeed};
 
 use crate::texts::Heard;
 use rv_event::entry::{Answer, Request};
-use rv_exec::replay::stands;
+use rv_exec::outward::stands;
 use rv_flat::unit::FlatUnit;
 use rv_machine::machine::Machine;
 use rv_machine::needs::Need;

@@ -8,6 +8,7 @@ use Rattle.rv_event.specs.declared.entry.Request.{Request}
 use Rattle.rv_event.specs.declared.entry.Recorded.{Recorded}
 use Rattle.rv_event.specs.declared.entry.Answer.{Answer}
 use Rattle.rv_history.specs.History.{History}
+use Rattle.rv_history.specs.Allowance.{may_spend}
 use Rattle.rv_history.specs.Owed.{actors, has_room}
 use Rattle.rv_history.specs.Fitting.{fits, fits_actor}
 use Rattle.rv_history.specs.Due.{out, due, table, gate, goes_on, within, enough}
@@ -59,6 +60,7 @@ pub record Answered (h : History) (a : ℕ) (r : Request) (w : Recorded) : Type 
   pub fits_in : fits_actor h a r ≡ true
   pub unshut : (halted h.past && not (goes_on r)) ≡ false
   pub said : recorded (table h a r) ≡ Some w
+  pub allowed : may_spend h a r ≡ true
   pub paid : has_room h.limits.capacity h.shapes (Asked a r w ∷ h.past) ≡ true
 
 pub answered : (h : History) (a : ℕ) (r : Request) (w : Recorded) → recorded (out h a r) ≡ Some w → Answered h a r w
@@ -67,11 +69,15 @@ answered h a r w e =
     let in_room = within_recorded (enough h a r (recorded x)) x w e in
     let g = gate_recorded (fits h a r) (halted h.past && not (goes_on r)) (table h a r) w in_room.1 in
     let parts = both (nat_lt a (actors h.shapes)) (fits_actor h a r) g.fit_in in
+    let enough_is : (may_spend h a r && has_room h.limits.capacity h.shapes (Asked a r w ∷ h.past)) ≡ true =
+    ap (λ (o : Option Recorded). enough h a r o) (sym in_room.1) ∙ in_room.0 in
+    let covered = both (may_spend h a r) (has_room h.limits.capacity h.shapes (Asked a r w ∷ h.past)) enough_is in
     record {
       known = parts.0;
       fitting = g.fit_in;
       fits_in = parts.1;
       unshut = g.unshut;
       said = g.said;
-      paid = ap (λ (o : Option Recorded). enough h a r o) (sym in_room.1) ∙ in_room.0;
+      allowed = covered.0;
+      paid = covered.1;
     }

@@ -86,12 +86,12 @@ operator_is shapes a e = by_tests (a == 0) (nat_lt a 11) refl (slice_get (all_ta
     by_tests false false is (Some t) e = absurd (off e)
 
 pub halt_paid : (h : History) (a : ℕ) → IsSolvent h → out h a Halt ≡ due h a Halt
-halt_paid h a solvent = out_due h a Halt (λ f c.
+halt_paid h a solvent = out_due h a Halt refl (λ f c.
     let zero_is : a ≡ 0 = operator_is h.shapes a (fit_parts h a Halt f).1 in
     subst (λ n. Pays h n Halt nothing_more) (sym zero_is) (pays_halt h (sym (and_true (halted h.past)) ∙ c) solvent))
 
 pub archive_paid : (h : History) (a n : ℕ) → IsSolvent h → out h a (Archive n) ≡ due h a (Archive n)
-archive_paid h a n solvent = out_due h a (Archive n) (λ f c.
+archive_paid h a n solvent = out_due h a (Archive n) refl (λ f c.
     let parts = both (is_operator (who h.shapes a)) (is_archive h n) (fit_parts h a (Archive n) f).1 in
     let zero_is : a ≡ 0 = operator_is h.shapes a parts.0 in
     subst (λ k. Pays h k (Archive n) nothing_more) (sym zero_is) (pays_archive h n parts.1 solvent))

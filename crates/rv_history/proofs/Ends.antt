@@ -137,7 +137,7 @@ pays_end h a vs x (Some b) is free all solvent = by_target (target h.shapes b.ob
         paid_as h a (Complete vs x) _ (Done next) refl (paid_done h a (Complete vs x) next (end_counted h a vs x b next is) free (by_kind (is_function s.operation.kind)) solvent)
 
 pub end_never_full : (h : History) (a : ℕ) (vs : List ℤ) (x : Exit) → Legal h → IsSolvent h → out h a (Complete vs x) ≡ due h a (Complete vs x)
-end_never_full h a vs x legal solvent = out_due h a (Complete vs x) (λ f c.
+end_never_full h a vs x legal solvent = out_due h a (Complete vs x) refl (λ f c.
     let t = fit_parts h a (Complete vs x) f in
     let m = both (in_body (mode h.shapes a h.past)) (end_fits h.shapes vs x (innermost h.shapes a h.past)) t.1 in
     let ends = ends_at (to_settle h.shapes a h.past) (mode_by (held h.shapes a h.past) (stance a h.past)) m.0 in
@@ -151,4 +151,4 @@ pays_settle h a (Some b) is k solvent =
 
 pub settle_never_full : (h : History) (a : ℕ) → Legal h → IsSolvent h → out h a Settle ≡ due h a Settle
 settle_never_full h a legal solvent =
-    out_due h a Settle (λ f c. pays_settle h a (to_settle h.shapes a h.past) refl (legal_standing h.limits h.past h.shapes h.lists legal) solvent)
+    out_due h a Settle refl (λ f c. pays_settle h a (to_settle h.shapes a h.past) refl (legal_standing h.limits h.past h.shapes h.lists legal) solvent)

@@ -12,6 +12,7 @@ use Rattle.rv_event.specs.declared.entry.Recorded.TheVariants.{Started}
 use Rattle.rv_event.specs.declared.entry.Answer.{Answer}
 use Rattle.rv_event.specs.declared.entry.Answer.TheVariants as Answers
 use Rattle.rv_history.specs.History.{History, version}
+use Rattle.rv_history.specs.Allowance.{may_spend}
 use Rattle.rv_history.specs.Owed.{has_room}
 use Rattle.rv_history.specs.Subject.{subject}
 use Rattle.rv_history.specs.Rules.{Aim, aim, aim_at, is_protected, breaks, decided, first_at, rules}
@@ -67,10 +68,10 @@ open_gate h a r w =
     let shut : (halted h.past && not (goes_on r)) ≡ false = and_none _ (not (goes_on r)) w.going in
     λ i. gate (w.fitting i) (shut i) (allowed_due h a r w i)
 
-pub allowed_starts : (h : History) (a : ℕ) (r : Request) (w : IsAllowed h a r) → has_room h.limits.capacity h.shapes (Asked a r Started ∷ h.past) ≡ true → out h a r ≡ Answers.Started (scalars h.shapes w.object h.past)
-allowed_starts h a r w room =
+pub allowed_starts : (h : History) (a : ℕ) (r : Request) (w : IsAllowed h a r) → may_spend h a r ≡ true → has_room h.limits.capacity h.shapes (Asked a r Started ∷ h.past) ≡ true → out h a r ≡ Answers.Started (scalars h.shapes w.object h.past)
+allowed_starts h a r w free room =
     let values : List ℤ = scalars h.shapes w.object h.past in
-    ap (λ (x : Answer). within (enough h a r (recorded x)) x) (open_gate h a r w) ∙ ap (λ b. within b (Answers.Started values)) room
+    ap (λ (x : Answer). within (enough h a r (recorded x)) x) (open_gate h a r w) ∙ (λ i. within (free i && room i) (Answers.Started values))
 
-pub allowed_recorded : (h : History) (a : ℕ) (r : Request) → has_room h.limits.capacity h.shapes (Asked a r Started ∷ h.past) ≡ true → IsAllowed h a r → recorded (out h a r) ≡ Some Started
-allowed_recorded h a r room w = ap recorded (allowed_starts h a r w room)
+pub allowed_recorded : (h : History) (a : ℕ) (r : Request) → may_spend h a r ≡ true → has_room h.limits.capacity h.shapes (Asked a r Started ∷ h.past) ≡ true → IsAllowed h a r → recorded (out h a r) ≡ Some Started
+allowed_recorded h a r free room w = ap recorded (allowed_starts h a r w free room)

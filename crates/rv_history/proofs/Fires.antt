@@ -21,6 +21,7 @@ use Rattle.rv_history.specs.Exclusion.{excluded, is_open}
 use Rattle.rv_history.specs.Fitting.{idle_line}
 use Rattle.rv_history.specs.Headline.{IsAllowed, MayFire}
 use Rattle.rv_history.specs.History.{History}
+use Rattle.rv_history.specs.Allowance.{may_spend}
 use Rattle.rv_history.specs.Owed.{actors, has_room}
 use Rattle.rv_history.specs.Rules.{Aim, aim, aim_at, breaks, granted, holds_any}
 use Rattle.rv_history.specs.Subject.{active, base_of, home, subject, subject_of}
@@ -170,5 +171,5 @@ allowed_from h a line is m =
 pub fired_may : (h : History) (a line : ℕ) → who h.shapes a ≡ Line line → recorded (out h a Fire) ≡ Some Started → MayFire h a line
 fired_may h a line is e = attached_at h a line is (started_allowed h a Fire e)
 
-pub may_fires : (h : History) (a line : ℕ) → who h.shapes a ≡ Line line → has_room h.limits.capacity h.shapes (Asked a Fire Started ∷ h.past) ≡ true → MayFire h a line → recorded (out h a Fire) ≡ Some Started
-may_fires h a line is room m = allowed_recorded h a Fire room (allowed_from h a line is m)
+pub may_fires : (h : History) (a line : ℕ) → who h.shapes a ≡ Line line → may_spend h a Fire ≡ true → has_room h.limits.capacity h.shapes (Asked a Fire Started ∷ h.past) ≡ true → MayFire h a line → recorded (out h a Fire) ≡ Some Started
+may_fires h a line is free room m = allowed_recorded h a Fire free room (allowed_from h a line is m)

@@ -59,6 +59,8 @@ pub mod Said
 pub mod Few
 pub mod Told
 pub mod Lines
+-- What units spend
+pub mod Spending
 -- The headline at each entry, and what never fits, is due or lets anybody in
 pub mod Headlined
 pub mod Entering

@@ -21,7 +21,8 @@ use Rattle.rv_event.specs.declared.entry.Recorded.TheVariants.{Refused, Woken, A
 use Rattle.rv_event.specs.declared.entry.Answer.{Answer}
 use Rattle.rv_event.specs.declared.entry.Answer.TheVariants as Answers
 use Rattle.rv_history.specs.History.{History, changes}
-use Rattle.rv_history.specs.Owed.{surcharge, unfinished, dues, each, actors, halt_due, IsSolvent}
+use Rattle.rv_history.specs.Allowance.{may_spend}
+use Rattle.rv_history.specs.Owed.{surcharge, unfinished, dues, each, actors, halt_due, has_room, IsSolvent}
 use Rattle.rv_history.specs.Fitting.{fits, fits_actor, idle_task, is_archive}
 use Rattle.rv_history.specs.Due.{due, out, gate, within, enough, table, due_resume, or_waiting, scalars_held, nothing_more, goes_on}
 use Rattle.rv_history.proofs.Answered.{off, both, and_true, word_is}
@@ -163,15 +164,17 @@ pays_gate h a r false c x p = unrecorded h a r Answers.Misuse refl
 pays_gate h a r true true x p = unrecorded h a r Answers.Halted refl
 pays_gate h a r true false x p = p refl refl
 
-within_paid : (h : History) (a : ℕ) (r : Request) (x : Answer) → Pays h a r x → within (enough h a r (recorded x)) x ≡ x
-within_paid h a r x p = by_word (recorded x) refl
+within_paid : (h : History) (a : ℕ) (r : Request) (x : Answer) → may_spend h a r ≡ true → Pays h a r x → within (enough h a r (recorded x)) x ≡ x
+within_paid h a r x free p = by_word (recorded x) refl
   where
     by_word : (o : Option Recorded) → recorded x ≡ o → within (enough h a r o) x ≡ x
     by_word None is = refl
-    by_word (Some w) is = ap (λ b. within b x) (to_room _ (h.limits.capacity + archived (Asked a r w ∷ h.past)) (p.pays w is))
+    by_word (Some w) is =
+        let room : has_room h.limits.capacity h.shapes (Asked a r w ∷ h.past) ≡ true = to_room _ (h.limits.capacity + archived (Asked a r w ∷ h.past)) (p.pays w is) in
+        λ i. within (free i && room i) x
 
-pub out_due : (h : History) (a : ℕ) (r : Request) → (fits h a r ≡ true → (halted h.past && not (goes_on r)) ≡ false → Pays h a r (table h a r)) → out h a r ≡ due h a r
-out_due h a r p = within_paid h a r (due h a r) (pays_gate h a r (fits h a r) (halted h.past && not (goes_on r)) (table h a r) p)
+pub out_due : (h : History) (a : ℕ) (r : Request) → may_spend h a r ≡ true → (fits h a r ≡ true → (halted h.past && not (goes_on r)) ≡ false → Pays h a r (table h a r)) → out h a r ≡ due h a r
+out_due h a r free p = within_paid h a r (due h a r) free (pays_gate h a r (fits h a r) (halted h.past && not (goes_on r)) (table h a r) p)
 
 -- the parts of what fits
 pub fit_parts : (h : History) (a : ℕ) (r : Request) → fits h a r ≡ true → (a < actors h.shapes) × (fits_actor h a r ≡ true)
@@ -180,10 +183,10 @@ fit_parts h a r f =
     (below a (actors h.shapes) parts.0, parts.1)
 
 pub resume_never_full : (h : History) (a : ℕ) → IsSolvent h → out h a Resume ≡ due h a Resume
-resume_never_full h a solvent = out_due h a Resume (λ f c. pays_resume h a (stance a h.past) refl (fit_parts h a Resume f).0 solvent)
+resume_never_full h a solvent = out_due h a Resume refl (λ f c. pays_resume h a (stance a h.past) refl (fit_parts h a Resume f).0 solvent)
 
 pub quit_never_full : (h : History) (a : ℕ) → IsSolvent h → out h a Quit ≡ due h a Quit
-quit_never_full h a solvent = out_due h a Quit (λ f c. let t = fit_parts h a Quit f in pays_quit h a t.1 t.0 solvent)
+quit_never_full h a solvent = out_due h a Quit refl (λ f c. let t = fit_parts h a Quit f in pays_quit h a t.1 t.0 solvent)
 
 pub halt_never_full : (h : History) → IsSolvent h → out h 0 Halt ≡ due h 0 Halt
-halt_never_full h solvent = out_due h 0 Halt (λ f c. pays_halt h (sym (and_true (halted h.past)) ∙ c) solvent)
+halt_never_full h solvent = out_due h 0 Halt refl (λ f c. pays_halt h (sym (and_true (halted h.past)) ∙ c) solvent)

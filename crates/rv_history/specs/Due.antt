@@ -29,6 +29,7 @@ use Rattle.rv_history.specs.History.{History, version, changes}
 use Rattle.rv_history.specs.Subject.{subject}
 use Rattle.rv_history.specs.Exclusion.{excluded, barrier_at, opens_on, is_barred}
 use Rattle.rv_history.specs.Rules.{decided, granted, first_at, is_grant}
+use Rattle.rv_history.specs.Allowance.{may_spend}
 use Rattle.rv_history.specs.Owed.{has_room, is_paid}
 use Rattle.rv_history.specs.Fitting.{fits}
 
@@ -170,12 +171,14 @@ abbrev pub due : History → ℕ → Request → Answer
 due h actor request =
     gate (fits h actor request) (halted h.past && not (goes_on request)) (table h actor request)
 
--- the room is enough for an answer: for one that isn't recorded it is
+-- the room is enough for an answer, and the unit that it is charged to hasn't spent its allowance: for an answer that isn't
+-- recorded both are so
 abbrev pub enough : History → ℕ → Request → Option Recorded → Bool
 enough h actor request None = true
-enough h actor request (Some word) = has_room h.limits.capacity h.shapes (Asked actor request word ∷ h.past)
+enough h actor request (Some word) =
+    may_spend h actor request && has_room h.limits.capacity h.shapes (Asked actor request word ∷ h.past)
 
--- Full in place of a recorded answer that costs more than the room
+-- Full in place of a recorded answer that costs more than the room, or more than is left of an allowance
 abbrev pub within : Bool → Answer → Answer
 within has_enough answer = if has_enough then answer else Full
 

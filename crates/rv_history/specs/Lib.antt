@@ -4,8 +4,10 @@ pub mod Subject
 pub mod Exclusion
 pub mod Rules
 pub mod Owed
+pub mod Allowance
 pub mod Fitting
 pub mod Due
+pub mod Unbounded
 pub mod Legal
 pub mod Steps
 pub mod Spelled

@@ -1,5 +1,6 @@
 //! Laws over histories, each on a function that does nothing.
 
+pub mod allowance;
 pub mod bodies;
 pub mod clock;
 pub mod closing;

@@ -1,7 +1,7 @@
 //! What bounds a host.
 
 ghost use Rattle.std.specs.Prelude.{◌≡◌};
-ghost use Rattle.rv_history.specs.Limits.{limits_of, limits_with};
+ghost use Rattle.rv_history.specs.Limits.{limits_of, limits_with, limits_within};
 
 /// What bounds a host, and no act changes.
 #[derive(Clone, Copy, Drop)]
@@ -10,6 +10,9 @@ pub struct Limits {
     pub capacity: usize,
     /// How many callers may wait in a queue, 1 .. 8 (D.7); above 1 it leaves the profile.
     pub queue: usize,
+    /// How many entries a unit may spend (own): what its tasks ask, and what is asked in the bodies of its objects. None where
+    /// nothing bounds it but the capacity.
+    pub allowance: Option<u32>,
 }
 
 /// How many entries a journal may have at most, with those that were given up. A text has numbers of more digits, and as many ticks
@@ -27,6 +30,7 @@ impl Limits {
         Limits {
             capacity,
             queue: QUEUE_LIMIT,
+            allowance: None,
         }
     }
 
@@ -34,6 +38,17 @@ impl Limits {
     pub fn with(capacity: usize, queue: usize) -> Limits
         ensures { result ≡ limits_with capacity queue }
     {
-        Limits { capacity, queue }
+        Limits::within(capacity, queue, None)
+    }
+
+    /// The same, where each unit may spend so many entries, if that is bounded.
+    pub fn within(capacity: usize, queue: usize, allowance: Option<u32>) -> Limits
+        ensures { result ≡ limits_within capacity queue allowance }
+    {
+        Limits {
+            capacity,
+            queue,
+            allowance,
+        }
     }
 }

@@ -13,3 +13,4 @@ pub mod Running
 pub mod Paid
 pub mod Paging
 pub mod Tabled
+pub mod Charging

@@ -5,3 +5,4 @@ pub mod Facts
 pub mod Decisions
 pub mod Pages
 pub mod Going
+pub mod Forgetting

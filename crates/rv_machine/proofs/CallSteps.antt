@@ -4,6 +4,7 @@ use Rattle.std.specs.Prelude.{reverse}
 use Rattle.rv_event.specs.declared.entry.Exception.TheVariants.{ProgramError}
 use Rattle.rv_event.specs.declared.entry.Exit.{Exit}
 use Rattle.rv_event.specs.declared.entry.Request.{Request}
+use Rattle.rv_code.specs.Callees.{of_object}
 use Rattle.rv_code.specs.declared.expression.Callee.{Callee}
 use Rattle.rv_code.specs.declared.expression.Callee.TheVariants as callee
 use Rattle.rv_code.specs.Bodies.{Body, UnitBodies}
@@ -177,13 +178,13 @@ call_unasked u s c values a b fs other none same =
     subst (λ (x : Activation). MovesOn (flat_view u) (calls c values a) fs s (comes (listed (Err cause.Overrun) x)) fs s) (sym same)
     (record { same = (calls_push (flat_view u) fs s).no_request_left c values a other none; less = omega arith; low = λ one. omega arith })
 
-pub call_past : (u : FlatUnit) (s : Setting) (c : Callee) (values : List ℤ) (a b : Activation) (fs after : List Frame)
-    → internal c ≡ None → spent s.is_task a ≡ Some b → is_past s.held c ≡ true → after ≡ answering b ∷ fs
+pub call_past : (u : FlatUnit) (s : Setting) (c at : Callee) (values : List ℤ) (a b : Activation) (fs after : List Frame)
+    → internal c ≡ None → spent s.is_task a ≡ Some b → at ≡ of_object s.object c → is_past s.held at ≡ true → after ≡ answering b ∷ fs
     → MovesOn (flat_view u) (calls c values a) fs s (comes (outside (Err (cause.Raised ProgramError)))) after s
-call_past u s c values a b fs after other took past put =
+call_past u s c at values a b fs after other took here past put =
     let l = called_least (flat_view u) (level s) in
     subst (λ (gs : List Frame). MovesOn (flat_view u) (calls c values a) fs s (comes (outside (Err (cause.Raised ProgramError)))) gs s) (sym put)
-    (record { same = (calls_at_once (flat_view u) fs s).past_limit c values a b other took past; less = omega (arith, l); low = λ one. omega arith })
+    (record { same = (calls_at_once (flat_view u) fs s).past_limit c at values a b other took here past; less = omega (arith, l); low = λ one. omega arith })
 
 held_rise : (bodies : UnitBodies) (s : Setting) (one : ℕ) → called_height one bodies (s.held * 66) ≤ called_height one bodies (level s)
 held_rise bodies s one =
@@ -192,18 +193,18 @@ held_rise bodies s one =
     let call : called_height one bodies (level s) ≡ called_height one bodies (s.held * 66 + (s.nested + 1)) = ap (λ (n : ℕ). called_height one bodies n) up in
     omega (arith, rise, call)
 
-pub call_asks : (u : FlatUnit) (s : Setting) (c : Callee) (values : List ℤ) (a b : Activation) (fs between after : List Frame)
-    → internal c ≡ None → spent s.is_task a ≡ Some b → is_past s.held c ≡ false → between ≡ answering b ∷ fs → after ≡ performing s.held values ∷ between
-    → MovesOn (flat_view u) (calls c values a) fs s (asks_of c values) after s
-call_asks u s c values a b fs between after other took past one two =
+pub call_asks : (u : FlatUnit) (s : Setting) (c at : Callee) (values : List ℤ) (a b : Activation) (fs between after : List Frame)
+    → internal c ≡ None → spent s.is_task a ≡ Some b → at ≡ of_object s.object c → is_past s.held at ≡ false → between ≡ answering b ∷ fs → after ≡ performing s.held values ∷ between
+    → MovesOn (flat_view u) (calls c values a) fs s (asks_of at values) after s
+call_asks u s c at values a b fs between after other took here past one two =
     let put : after ≡ performing s.held values ∷ answering b ∷ fs = two ∙ ap (λ (gs : List Frame). performing s.held values ∷ gs) one in
     let grow = called_grow (flat_view u) (s.held * 66) s.nested in
     let up : level s ≡ suc (s.held * 66 + s.nested) = omega arith in
     let call : called_moves (flat_view u) (level s) ≡ called_moves (flat_view u) (suc (s.held * 66 + s.nested)) = ap (λ (n : ℕ). called_moves (flat_view u) n) up in
     let more = called_more (flat_view u) (s.held * 66 + s.nested) in
-    subst (λ (gs : List Frame). MovesOn (flat_view u) (calls c values a) fs s (asks_of c values) gs s) (sym put)
+    subst (λ (gs : List Frame). MovesOn (flat_view u) (calls c values a) fs s (asks_of at values) gs s) (sym put)
     (record {
-      same = (calls_push (flat_view u) fs s).outer_call c values a b other took past;
+      same = (calls_push (flat_view u) fs s).outer_call c at values a b other took here past;
       less = omega (arith, grow, call, more);
       low = λ one. let rise = held_rise (flat_view u) s one in omega (arith, rise);
     })

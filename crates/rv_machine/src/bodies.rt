@@ -16,7 +16,7 @@ use crate::stack::Stack;
 use rv_event::entry::Exception;
 use rv_exec::activation::MOST_STEPS;
 use rv_exec::end::Cause;
-use rv_exec::machine::of_operation;
+use rv_exec::setting::of_operation;
 use rv_flat::unit::FlatUnit;
 use rv_value::{Args, Scalars};
 

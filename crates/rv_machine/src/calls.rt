@@ -13,7 +13,7 @@ use crate::frame::EndFrame;
 use crate::machine::Machine;
 use crate::outcomes::operation;
 use crate::point::{Point, Step};
-use rv_code::{Callee, MOST_SLOTS};
+use rv_code::{Callee, MOST_SLOTS, of_object};
 use rv_event::entry::Exception;
 use rv_exec::activation::Activation;
 use rv_exec::asks::{internal, is_past};
@@ -133,7 +133,8 @@ impl Machine {
         self.begin(unit, setting, number, values, components, steps);
     }
 
-    /// A call of another object, a delay or Clock: it waits, and is asked of the host, where the actor may make it (9.5).
+    /// A call of another object or of an own entry, a delay or Clock: it waits, and is asked of the host, where the actor may make
+    /// it (9.5). An entry of the same object is one of the object whose body runs.
     fn call_outside(&mut self, unit: &FlatUnit, callee: Callee, values: Args)
         requires other { internal callee ≡ None }
         requires room { HasRoom 3 self.old.stack }
@@ -149,12 +150,13 @@ impl Machine {
         }
         self.stack.set_aside(copy_of(&self.activation));
         self.stack.push_answering();
-        if is_past(setting.held, callee) {
+        let at = of_object(setting.object, callee);
+        if is_past(setting.held, at) {
             self.point = Point::Outside(Err(Cause::Raised(Exception::ProgramError)));
             return;
         }
         self.stack.push_performing(setting.held, values);
-        self.point = Point::Asks(callee, values);
+        self.point = Point::Asks(at, values);
     }
 
     /// A call with these values (6.4, 9.5).

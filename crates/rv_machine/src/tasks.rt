@@ -15,7 +15,7 @@ use crate::point::{Point, Step};
 use crate::stack::Stack;
 use rv_code::MOST_SLOTS;
 use rv_exec::activation::{Activation, MOST_STEPS};
-use rv_exec::machine::of_task;
+use rv_exec::setting::of_task;
 use rv_flat::unit::FlatUnit;
 use rv_value::{Args, Scalars};
 

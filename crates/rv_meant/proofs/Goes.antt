@@ -218,6 +218,7 @@ delay_goes h a time over =
 
 request_goes : (h : History) (a : ℕ) (c : Callee) (vs : List ℤ) → internal c ≡ None → callee_fits h.shapes c ≡ true → goes c (table h a (request_of c vs)) ≡ true
 request_goes h a (callee.Internal operation) vs n e = absurd (cc n)
+request_goes h a (callee.OwnEntry operation) vs n e = absurd (cc e)
 request_goes h a (callee.Function o p) vs n e = function_goes h a o p vs (target h.shapes o p) e
 request_goes h a (callee.Procedure o p) vs n e = procedure_goes h a o p vs (target h.shapes o p) e
 request_goes h a (callee.Entry o p) vs n e = entry_goes h a o p vs (target h.shapes o p) e

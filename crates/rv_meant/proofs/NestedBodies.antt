@@ -11,7 +11,7 @@ use Rattle.rv_event.specs.declared.entry.Request.{Request}
 use Rattle.rv_event.specs.declared.entry.Request.TheVariants as request
 use Rattle.rv_code.specs.declared.expression.Callee.{Callee}
 use Rattle.rv_code.specs.Bodies.{Body, UnitBodies}
-use Rattle.rv_fits.specs.Calls.{task_calls, every_call}
+use Rattle.rv_fits.specs.Calls.{task_calls, such_in, every_call}
 use Rattle.rv_exec.specs.declared.end.Asked.{Asked}
 use Rattle.rv_exec.specs.declared.end.Asked.TheVariants as asked
 use Rattle.rv_exec.specs.declared.end.Cause.TheVariants as cause
@@ -398,7 +398,7 @@ task_world such bodies k = record {
   outer = λ c v n m. outer_nested such bodies 0 16 c v refl k n m;
 }
 
-task_nested : (such : Callee → Bool) (bodies : UnitBodies) (o : Option Body) (requests : ℕ) (trace : Trace) (x : Exit) → every_call such bodies ≡ true → task_calls such o ≡ true → Along (task_meaning bodies o requests) trace x → TaskNests such bodies trace x
+task_nested : (such : Callee → Bool) (bodies : UnitBodies) (o : Option Body) (requests : ℕ) (trace : Trace) (x : Exit) → every_call such bodies ≡ true → task_calls (such_in such 0) o ≡ true → Along (task_meaning bodies o requests) trace x → TaskNests such bodies trace x
 unfolding task_meaning
 task_nested such bodies None requests trace x k m h =
     let q = quitting (Ok []) trace x h in

@@ -1,5 +1,5 @@
 -- No run asks a settle.
-use Rattle.std.proofs.Common.{◌≡◌, ℕ, zero, suc, ℤ, pos, List, [], ◌∷◌, ◌++◌, Bool, true, false, cond, refl, sym, ap, ◌∙◌, subst, Option, Some, None, Ok, Err}
+use Rattle.std.proofs.Common.{◌≡◌, ℕ, zero, suc, ◌+◌, ℤ, pos, List, [], ◌∷◌, ◌++◌, Bool, true, false, cond, refl, sym, ap, ◌∙◌, subst, Option, Some, None, Ok, Err}
 use Rattle.std.specs.Prelude.{◌&&◌}
 use Rattle.std.specs.List.{list_all}
 use Rattle.rv_event.specs.declared.entry.Answer.{Answer}
@@ -11,7 +11,7 @@ use Rattle.rv_code.specs.declared.expression.Callee.TheVariants as callee
 use Rattle.rv_code.specs.Bodies.{Body, UnitBodies}
 use Rattle.rv_code.specs.Expressions.{Expression, literal, variable, component, prefixed, chain, within, call, Expressions, no_expressions, and_expression, Links, no_links, and_link}
 use Rattle.rv_code.specs.Statements.{Statement, null_statement, assign, choice, selection, while_loop, for_loop, exit_when, returns, returns_value, raises, reraises, calls, Statements, no_statements, and_statement, Branches, no_branches, and_branch, Alternatives, no_alternatives, and_alternative}
-use Rattle.rv_fits.specs.Calls.{expression_calls, expressions_call, links_call, statement_calls, statements_call, branches_call, alternatives_call, declaration_calls, handler_calls, body_calls, object_calls, task_calls, every_call}
+use Rattle.rv_fits.specs.Calls.{expression_calls, expressions_call, links_call, statement_calls, statements_call, branches_call, alternatives_call, declaration_calls, handler_calls, body_calls, object_calls, task_calls, objects_call, every_call}
 use Rattle.rv_exec.specs.declared.end.Asked.{Asked}
 use Rattle.rv_exec.specs.declared.end.Asked.TheVariants as asked
 use Rattle.rv_exec.specs.declared.end.Cause.TheVariants as cause
@@ -101,10 +101,15 @@ task_true : (o : Option Body) → task_calls anything o ≡ true
 task_true None = refl
 task_true (Some b) = body_true b
 
+objects_true : (number : ℕ) (objects : List (List Body)) → objects_call anything number objects ≡ true
+objects_true number [] = refl
+objects_true number (bodies ∷ objects) =
+    both_true (object_calls anything bodies) (objects_call anything (number + 1) objects) (all_true (body_calls anything) body_true bodies) (objects_true (number + 1) objects)
+
 every_true : (bodies : UnitBodies) → every_call anything bodies ≡ true
 every_true bodies =
-    both_true (list_all (object_calls anything) bodies.objects) (list_all (task_calls anything) bodies.tasks)
-    (all_true (object_calls anything) (all_true (body_calls anything) body_true) bodies.objects) (all_true (task_calls anything) task_true bodies.tasks)
+    both_true (objects_call anything 1 bodies.objects) (list_all (task_calls anything) bodies.tasks)
+    (objects_true 1 bodies.objects) (all_true (task_calls anything) task_true bodies.tasks)
 
 -- it is kept of all traces of a run, also behind a stop
 abbrev never : Kept

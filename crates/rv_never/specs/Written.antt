@@ -17,6 +17,7 @@ use Rattle.rv_never.specs.declared.calls.UnitCalls.{UnitCalls}
 -- the operation that a callee is; an operation of the same object, a delay and Clock are none that is asked of the list
 abbrev pub operation_of : Callee → Option Called
 operation_of (callee.Internal operation) = None
+operation_of (callee.OwnEntry operation) = None
 operation_of (callee.Function object operation) = Some (record { object = object; operation = operation })
 operation_of (callee.Procedure object operation) = Some (record { object = object; operation = operation })
 operation_of (callee.Entry object operation) = Some (record { object = object; operation = operation })

@@ -20,7 +20,7 @@ fn operation_of(callee: &Callee) -> Option<Called>
         Callee::SetFalse(object) => (object, 2),
         Callee::CurrentState(object) => (object, 3),
         Callee::SuspendUntilTrue(object) => (object, 4),
-        Callee::Internal(_) | Callee::DelayUntil | Callee::Clock => return None,
+        Callee::Internal(_) | Callee::OwnEntry(_) | Callee::DelayUntil | Callee::Clock => return None,
     };
     Some(Called { object, operation })
 }

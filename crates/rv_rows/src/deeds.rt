@@ -49,7 +49,7 @@ pub fn carry_out<R: io::Read, W: io::Write>(
             Ok(())
         }
         Deed::Explain => {
-            let _told = audit_explained(alloc, reader, written)?;
+            let _told = audit_explained(alloc, None, reader, written)?;
             Ok(())
         }
         Deed::ExplainFile(journal) => {
@@ -57,6 +57,7 @@ pub fn carry_out<R: io::Read, W: io::Write>(
             let mut watch = Nobody {};
             let _told = audit_file_explained(
                 alloc,
+                None,
                 reader,
                 &mut journal,
                 false,

@@ -2,7 +2,7 @@
 
 ghost use Rattle.std.specs.Prelude.{◌≡◌, Some, IfSome};
 ghost use Rattle.rv_history.specs.Legal.{empty};
-ghost use Rattle.rv_history.specs.Limits.{limits_with};
+ghost use Rattle.rv_history.specs.Limits.{limits_within};
 ghost use Rattle.rv_fault.specs.Parts.{section_of};
 ghost use Rattle.rv_port.specs.Controls.{IsControlOf};
 ghost use Rattle.rv_script.specs.Openings.{AreNumbered};
@@ -11,6 +11,7 @@ ghost use Rattle.rv_run.specs.Preparing.{CarriesOutAll, CarriesOutAs, Prepares};
 use crate::devices::load_devices;
 use crate::loads::{list_section, load_section};
 use rv_fault::{Failure, Part, Parts};
+use rv_history::limits::Limits;
 use rv_port::control::Control;
 use rv_script::Opening;
 use rv_settings::Settings;
@@ -72,9 +73,15 @@ pub(crate) fn prepare<R: Wait>(
     }
 }
 
-/// The control of a host without entries, within the limits of settings. None where memory was refused.
-pub(crate) fn control_of(alloc: Global, settings: &Settings) -> Option<Control>
-    ensures { IfSome result (IsControlOf (empty (limits_with settings.now.capacity settings.now.queue_limit))) }
+/// The control of a host without entries, within the limits of settings, where each unit may spend so many entries, if that is
+/// bounded. None where memory was refused.
+pub(crate) fn control_of(
+    alloc: Global,
+    settings: &Settings,
+    allowance: Option<u32>,
+) -> Option<Control>
+    ensures { IfSome result (IsControlOf (empty (limits_within settings.now.capacity settings.now.queue_limit allowance))) }
 {
-    Control::of_new(alloc, settings.capacity(), settings.queue_limit())
+    let limits = Limits::within(settings.capacity(), settings.queue_limit(), allowance);
+    Control::within(alloc, limits)
 }

@@ -8,7 +8,7 @@ ghost use Rattle.rv_machine.specs.Machines.{IsFor};
 
 use crate::tabled::Table;
 use rv_event::entry::Exit;
-use rv_exec::machine::Ended;
+use rv_exec::end::Ended;
 use rv_exec::outward::Outward;
 use rv_machine::machine::Machine;
 use rv_machine::next::Final;

@@ -3,4 +3,5 @@ pub mod Guarding
 pub mod Tallying
 pub mod Watching
 pub mod Wording
+pub mod Spending
 pub mod Denied

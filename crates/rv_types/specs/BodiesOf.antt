@@ -13,7 +13,6 @@ use Rattle.rv_shape.specs.declared.kind.Kind.TheVariants as kind
 use Rattle.rv_shape.specs.Kinds.{goes_out}
 use Rattle.rv_shape.specs.Shape.{Shape}
 use Rattle.rv_shape.specs.Objects.{OperationShape, TaskShape}
-use Rattle.rv_shape.specs.Catalogue.{all_objects}
 use Rattle.rv_scope.specs.declared.predefined.Library.TheVariants.{RealTime}
 use Rattle.rv_scope.specs.declared.wanted.Wanted.TheVariants as w
 use Rattle.rv_scope.specs.declared.declared.Declared.{Declared}
@@ -29,8 +28,6 @@ use Rattle.rv_outline.specs.declared.outline.ObjectType.TheVariants as sort
 use Rattle.rv_outline.specs.Declarations.{body_scope}
 use Rattle.rv_outline.specs.Shapes.{OutlineView, outlined}
 use Rattle.rv_code.specs.Bodies.{Body, UnitBodies, bodiless}
-use Rattle.rv_fits.specs.Calls.{object_calls}
-use Rattle.rv_fits.specs.Passing.{names_no_own}
 use Rattle.rv_types.specs.Points.{PointView, taking_slot}
 use Rattle.rv_types.specs.Blocks.{block_of}
 
@@ -43,20 +40,15 @@ pub record Setting : Type 0 where
   -- the operators of Ada.Real_Time are visible
   pub times : Bool
 
--- the number of the first object of the text
-abbrev pub first_object : Setting → ℕ
-first_object s = length (all_objects s.shapes) + 1
-
--- a point of a body as it begins, in the body of this object
-abbrev pub point_in : Setting → ScopeView → ℕ → Option Range → PointView
-point_in s scope object result = record {
+-- a point of a body as it begins
+abbrev pub point_in : Setting → ScopeView → Option Range → PointView
+point_in s scope result = record {
   scope = scope;
   known = s.outline.known;
   locals = [];
   units = s.outline.units;
   shapes = s.shapes;
   times = s.times;
-  object = object;
   slots = 0;
   parameters = 0;
   constants = 0;
@@ -89,16 +81,16 @@ result_of (kind.Function r) = Some r
 result_of other = None
 
 -- a block with these parameters as the body of an operation of this identifier
-abbrev pub body_of : Setting → ScopeView → ℕ → OperationShape → Identifier → List Parameter → Block → Option Body
-body_of s scope object operation i parameters block =
+abbrev pub body_of : Setting → ScopeView → OperationShape → Identifier → List Parameter → Block → Option Body
+body_of s scope operation i parameters block =
     parameters_taken operation.parameters parameters
-    (point_in s (with_parameters parameters (in_body i scope)) object (result_of operation.kind))
+    (point_in s (with_parameters parameters (in_body i scope)) (result_of operation.kind))
     >>= all_taken operation.parameters
     >>= λ p. block_of operation.parameters (is_some (result_of operation.kind)) p block
 
-abbrev pub operation_code : Setting → ScopeView → ℕ → OperationShape → OperationBody → Option Body
-operation_code s scope object operation body =
-    body_of s scope object operation (operation_body_name body) (operation_body_parameters body) (operation_body_block body)
+abbrev pub operation_code : Setting → ScopeView → OperationShape → OperationBody → Option Body
+operation_code s scope operation body =
+    body_of s scope operation (operation_body_name body) (operation_body_parameters body) (operation_body_block body)
 
 -- the body of this name
 abbrev pub body_named : List ℕ → List OperationBody → Option OperationBody
@@ -106,54 +98,41 @@ body_named name [] = None
 body_named name (body ∷ more) = if is_same_name name (operation_body_name body).text then Some body else body_named name more
 
 -- the bodies of operations, in the order of their numbers
-abbrev pub operations_onto : Setting → ScopeView → ℕ → List OperationBody → List OperationShape → List Body → Option (List Body)
-operations_onto s scope object bodies [] done = Some done
-operations_onto s scope object bodies (operation ∷ more) done =
-    body_named operation.name bodies >>= operation_code s scope object operation >>= λ body.
-    operations_onto s scope object bodies more (done ++ body ∷ [])
+abbrev pub operations_onto : Setting → ScopeView → List OperationBody → List OperationShape → List Body → Option (List Body)
+operations_onto s scope bodies [] done = Some done
+operations_onto s scope bodies (operation ∷ more) done =
+    body_named operation.name bodies >>= operation_code s scope operation >>= λ body.
+    operations_onto s scope bodies more (done ++ body ∷ [])
 
 -- Protected bodies (9.4)
 
-abbrev pub object_bodies : Setting → ScopeView → ℕ → ℕ → List OperationBody → Option (List Body)
-object_bodies s scope object number bodies =
-    slice_get s.outline.units number >>= λ unit. operations_onto s scope object bodies unit.operations []
-
--- the bodies of the object of an index are these
-abbrev pub with_object_bodies : ℕ → UnitBodies → List Body → Option UnitBodies
-with_object_bodies index u bodies = Some (record u { objects = slice_set u.objects index bodies })
+-- the bodies of the operations of the protected unit of this number
+abbrev pub bodies_of_unit : Setting → ScopeView → ℕ → List OperationBody → Option (List Body)
+bodies_of_unit s scope number bodies =
+    slice_get s.outline.units number >>= λ unit. operations_onto s scope bodies unit.operations []
 
 -- the object of an index has these bodies
-abbrev pub object_compiled : (ℕ → Option (List Body)) → ℕ → UnitBodies → Option UnitBodies
-object_compiled bodies index u = bodies index >>= with_object_bodies index u
+abbrev pub object_compiled : List Body → ℕ → UnitBodies → Option UnitBodies
+object_compiled bodies index u = Some (record u { objects = slice_set u.objects index bodies })
 
 -- the same of an object that may be another's
-abbrev pub perhaps_compiled : (ℕ → Option (List Body)) → ℕ → ℕ → ObjectType → UnitBodies → Option UnitBodies
+abbrev pub perhaps_compiled : List Body → ℕ → ℕ → ObjectType → UnitBodies → Option UnitBodies
 perhaps_compiled bodies number index sort.Suspension u = Some u
 perhaps_compiled bodies number index (sort.Protected unit) u = if unit == number then object_compiled bodies index u else Some u
 
 -- each object of a protected unit, from an index on; no unit has so many (own)
-abbrev pub objects_compiled : (ℕ → Option (List Body)) → ℕ → ℕ → List ObjectType → UnitBodies → Option UnitBodies
+abbrev pub objects_compiled : List Body → ℕ → ℕ → List ObjectType → UnitBodies → Option UnitBodies
 objects_compiled bodies number index [] u = Some u
 objects_compiled bodies number index (object ∷ more) u =
     if nat_lt index 4294967296 then
     (perhaps_compiled bodies number index object u >>= objects_compiled bodies number (index + 1) more)
     else None
 
--- the bodies of the object of an index: its number follows those of the objects before it
-abbrev pub bodies_by_index : Setting → ScopeView → ℕ → List OperationBody → ℕ → Option (List Body)
-bodies_by_index s scope number bodies index = object_bodies s scope (first_object s + index) number bodies
-
--- bodies that call no entry of their own object are the same for each (own)
-abbrev pub objects_by : Setting → ScopeView → ℕ → List OperationBody → List Body → ℕ → Option (List Body)
-objects_by s scope number bodies same index =
-    if object_calls names_no_own same then Some same else bodies_by_index s scope number bodies index
-
--- the bodies of the protected unit of this number, for each of its objects; a type without objects has bodies too, of which
--- none is kept
+-- the bodies of the protected unit of this number, which each of its objects has; a type without objects has bodies too, of
+-- which none is kept
 abbrev pub unit_bodies : Setting → ScopeView → ℕ → List OperationBody → UnitBodies → Option UnitBodies
 unit_bodies s scope number bodies u =
-    object_bodies s scope 0 number bodies >>= λ same.
-    objects_compiled (objects_by s scope number bodies same) number 0 s.outline.objects u
+    bodies_of_unit s scope number bodies >>= λ same. objects_compiled same number 0 s.outline.objects u
 
 -- the bodies of a protected unit, with its number
 abbrev pub unit_compiled : Setting → ScopeView → List OperationBody → UnitBodies → (ℕ × ProtectedUnit) → Option UnitBodies
@@ -166,7 +145,7 @@ protected_body_compiled s units scope body u =
 -- Task bodies (9.1)
 
 abbrev pub task_code : Setting → ScopeView → TaskBody → Option Body
-task_code s scope body = block_of [] false (point_in s (in_body body.name scope) 0 None) body.block
+task_code s scope body = block_of [] false (point_in s (in_body body.name scope) None) body.block
 
 -- the index of the task of a name
 abbrev pub task_index : List ℕ → ℕ → List TaskShape → Option ℕ

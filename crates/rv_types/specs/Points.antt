@@ -43,8 +43,6 @@ pub record PointView : Type 0 where
   pub shapes : List Shape
   -- the operators of Ada.Real_Time are visible: a `with` names it (D.8; own)
   pub times : Bool
-  -- the number of the protected object whose body it is in
-  pub object : ℕ
   -- the next slot
   pub slots : ℕ
   -- how many slots the parameters have, which stand first
@@ -114,14 +112,14 @@ outer_callee op.Procedure object index = callee.Procedure object (index + 1)
 outer_callee op.Entry object index = callee.Entry object (index + 1)
 
 -- an operation of the protected unit around the point: its call is internal, but an entry is asked of the host (9.5; own)
-abbrev pub inner_callee : ℕ → OperationKind → ℕ → Callee
-inner_callee object op.Function index = callee.Internal (index + 1)
-inner_callee object op.Procedure index = callee.Internal (index + 1)
-inner_callee object op.Entry index = callee.Entry object (index + 1)
+abbrev pub inner_callee : OperationKind → ℕ → Callee
+inner_callee op.Function index = callee.Internal (index + 1)
+inner_callee op.Procedure index = callee.Internal (index + 1)
+inner_callee op.Entry index = callee.OwnEntry (index + 1)
 
 -- an operation that is known, as one of the protected unit around the point
 abbrev pub inner_operation : PointView → OperationKind → Option Known → Denoted
-inner_operation p of (Some (k.Operation number index)) = called_as (inner_callee p.object of index) (operation_at p.units number index)
+inner_operation p of (Some (k.Operation number index)) = called_as (inner_callee of index) (operation_at p.units number index)
 inner_operation p of known = denoted.Other
 
 -- an operation that is known, as one of an object that is known

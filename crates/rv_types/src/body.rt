@@ -92,25 +92,24 @@ fn result_range(kind: Kind) -> Option<Range>
     }
 }
 
-// A block with parameters, as the body of an operation of this identifier, of an object.
+// A block with parameters, as the body of an operation of this identifier.
 fn block_body<'a>(
     alloc: Global,
     setting: &Setting<'a>,
-    object: usize,
     operation: &Operation,
     name: &Identifier,
     parameters: &Vec<Specification>,
     part: &Block,
     around: Scope<'a>,
 ) -> Result<(Body, Scope<'a>), Refused>
-    ensures code { IfOk result (λ r. body_of setting.now around.entry object operation.now (identifier_view name.now) (map parameter_view parameters.now.items) (block_view part.now) ≡ Some (body_view r.0)) }
+    ensures code { IfOk result (λ r. body_of setting.now around.entry operation.now (identifier_view name.now) (map parameter_view parameters.now.items) (block_view part.now) ≡ Some (body_view r.0)) }
     ensures scope { IfOk result (λ r. r.1 ≡ around.entry) }
 {
     let mut scope = around;
     let outer = scope.enter_body(name)?;
     declare_parameters(parameters, &mut scope)?;
     let result_part = result_range(operation.kind());
-    let mut point = Point::new(alloc, setting, scope, object, result_part);
+    let mut point = Point::new(alloc, setting, scope, result_part);
     take_parameters(operation.parameters(), parameters, &mut point)?;
     all_taken(operation.parameters(), name.at, &point)?;
     let own = copied(alloc, operation.parameters())?;
@@ -120,22 +119,20 @@ fn block_body<'a>(
     Ok((body, scope))
 }
 
-/// The body of an operation of an object.
+/// The body of an operation.
 pub(crate) fn operation_body<'a>(
     alloc: Global,
     setting: &Setting<'a>,
-    object: usize,
     operation: &Operation,
     body: &OperationBody,
     scope: Scope<'a>,
 ) -> Result<(Body, Scope<'a>), Refused>
-    ensures code { IfOk result (λ r. operation_code setting.now scope.entry object operation.now (operation_body_view body.now) ≡ Some (body_view r.0)) }
+    ensures code { IfOk result (λ r. operation_code setting.now scope.entry operation.now (operation_body_view body.now) ≡ Some (body_view r.0)) }
     ensures scope { IfOk result (λ r. r.1 ≡ scope.entry) }
 {
     block_body(
         alloc,
         setting,
-        object,
         operation,
         body.name(),
         body.parameters(),
@@ -156,17 +153,16 @@ fn body_named<'b>(name: &str, bodies: &'b Vec<OperationBody>) -> Option<&'b Oper
     None
 }
 
-/// The bodies of an object's operations, in the order of their numbers; at a place where one has none.
+/// The bodies of operations, in the order of their numbers; at a place where one has none.
 pub(crate) fn operation_bodies<'a>(
     alloc: Global,
     setting: &Setting<'a>,
-    object: usize,
     operations: &[Operation],
     bodies: &Vec<OperationBody>,
     at: usize,
     around: Scope<'a>,
 ) -> Result<(Vec<Body>, Scope<'a>), Refused>
-    ensures code { IfOk result (λ r. operations_onto setting.now around.entry object (map operation_body_view bodies.now.items) operations.now [] ≡ Some (map body_view r.0.items)) }
+    ensures code { IfOk result (λ r. operations_onto setting.now around.entry (map operation_body_view bodies.now.items) operations.now [] ≡ Some (map body_view r.0.items)) }
     ensures scope { IfOk result (λ r. r.1 ≡ around.entry) }
 {
     let mut done = Vec::new(alloc);
@@ -175,7 +171,7 @@ pub(crate) fn operation_bodies<'a>(
         let Some(body) = body_named(operation.name(), bodies) else {
             return Err(mismatch(at));
         };
-        let (compiled, left) = operation_body(alloc, setting, object, operation, body, scope)?;
+        let (compiled, left) = operation_body(alloc, setting, operation, body, scope)?;
         scope = left;
         done.push(compiled)?;
     }
@@ -194,7 +190,7 @@ pub(crate) fn task_body<'a>(
 {
     let mut scope = around;
     let outer = scope.enter_body(&body.name)?;
-    let mut point = Point::new(alloc, setting, scope, 0, None);
+    let mut point = Point::new(alloc, setting, scope, None);
     let compiled = block(alloc, Vec::new(alloc), false, &body.block, &mut point)?;
     let mut scope = point.into_scope();
     scope.leave_body(outer);

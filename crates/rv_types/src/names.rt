@@ -102,13 +102,13 @@ fn outer_callee(of: OperationKind, object: usize, index: usize) -> Callee
 }
 
 // An operation of the protected unit around the point.
-fn inner_callee(object: usize, of: OperationKind, index: usize) -> Callee
+fn inner_callee(of: OperationKind, index: usize) -> Callee
     requires { index < 4294967296 }
-    ensures { result ≡ callee_inside object of index }
+    ensures { result ≡ callee_inside of index }
 {
     match of {
         OperationKind::Function | OperationKind::Procedure => Callee::Internal(index + 1),
-        OperationKind::Entry => Callee::Entry(object, index + 1),
+        OperationKind::Entry => Callee::OwnEntry(index + 1),
     }
 }
 
@@ -121,7 +121,7 @@ fn inner_operation(point: &Point, of: OperationKind, known: Option<Known>) -> De
     };
     match operation_at(point.outline().units(), number, index) {
         None => Denoted::Other,
-        Some(operation) => called_kind(inner_callee(point.object(), of, index), operation.kind()),
+        Some(operation) => called_kind(inner_callee(of, index), operation.kind()),
     }
 }
 

@@ -59,8 +59,6 @@ pub struct Point<'a> {
     locals: Locals,
     // Whether the operators of Ada.Real_Time are visible.
     times: bool,
-    // The number of the protected object whose body it is in.
-    object: usize,
     // The next slot, and how many of them parameters and constants have.
     slots: usize,
     parameters: usize,
@@ -88,7 +86,6 @@ impl<'a> Model for Point<'a> {
       units = p.outline.now.units;
       shapes = p.catalogue.now;
       times = p.times;
-      object = p.object;
       slots = p.slots;
       parameters = p.parameters;
       constants = p.constants;
@@ -107,15 +104,14 @@ impl<'a> Meanings for Point<'a> {
 }
 
 impl<'a> Point<'a> {
-    /// The beginning of a body of this object, and the range of its result if it is a function's.
+    /// The beginning of a body, with the range of its result if it is a function's.
     pub(crate) fn new(
         alloc: Global,
         setting: &Setting<'a>,
         scope: Scope<'a>,
-        object: usize,
         result_range: Option<Range>,
     ) -> Point<'a>
-        ensures { result ≡ point_in setting.now scope.entry object result_range }
+        ensures { result ≡ point_in setting.now scope.entry result_range }
     {
         Point {
             scope,
@@ -123,7 +119,6 @@ impl<'a> Point<'a> {
             outline: setting.outline,
             locals: Locals::new(alloc),
             times: setting.times,
-            object,
             slots: 0,
             parameters: 0,
             constants: 0,
@@ -141,7 +136,6 @@ impl<'a> Point<'a> {
             outline: _,
             locals: _,
             times: _,
-            object: _,
             slots: _,
             parameters: _,
             constants: _,
@@ -227,12 +221,6 @@ impl<'a> Point<'a> {
         ensures { result.now ≡ self.now.shapes }
     {
         self.catalogue
-    }
-
-    pub(crate) fn object(&self) -> usize
-        ensures { result ≡ self.now.object }
-    {
-        self.object
     }
 
     pub(crate) fn slots(&self) -> usize

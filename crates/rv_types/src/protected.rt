@@ -6,46 +6,27 @@ ghost use Rattle.rv_tree.specs.BodyView.{operation_body_view, protected_body_vie
 ghost use Rattle.rv_scope.specs.UnitUses.{in_protected_unit};
 ghost use Rattle.rv_code.specs.Bodies.{Body as BodyCode};
 ghost use Rattle.rv_code.specs.BodyView.{body_view, list_at, unit_view};
-ghost use Rattle.rv_types.specs.BodiesOf.{object_bodies, with_object_bodies, bodies_by_index, object_compiled, perhaps_compiled, objects_compiled, unit_bodies as unit_bodies_compiled, protected_body_compiled};
+ghost use Rattle.rv_types.specs.BodiesOf.{bodies_of_unit, object_compiled, perhaps_compiled, objects_compiled, unit_bodies as unit_bodies_compiled, protected_body_compiled};
 
 use crate::body::operation_bodies;
 use crate::refused::{Refused, mismatch};
 use crate::setting::Setting;
 use rv_code::{Body, UnitBodies};
-use rv_fits::name_no_own;
 use rv_outline::outline::ObjectType;
 use rv_scope::Scope;
 use rv_tree::body::ProtectedBody;
 use rv_tree::declaration::ProtectedUnit;
 use std::alloc::Global;
 
-// Puts the bodies of an object in their place.
-fn put_object(
-    compiled: &mut UnitBodies,
-    index: usize,
-    operations: Vec<Body>,
-    at: usize,
-) -> Result<(), Refused>
-    ensures { OnOk result (with_object_bodies index (unit_view compiled.old) (map body_view operations.items) ≡ Some (unit_view compiled.new)) }
-{
-    if index >= compiled.objects.len() {
-        return Err(mismatch(at));
-    }
-    let list = compiled.add_list(operations)?;
-    compiled.give(index, list);
-    Ok(())
-}
-
-// The bodies of the operations of the protected unit of a number, for an object; 0 stands for each.
-fn bodies_for<'a>(
+// The bodies of the operations of the protected unit of a number.
+fn bodies_of<'a>(
     alloc: Global,
     setting: &Setting<'a>,
-    object: usize,
     number: usize,
     body: &ProtectedBody,
     scope: Scope<'a>,
 ) -> Result<(Vec<Body>, Scope<'a>), Refused>
-    ensures code { IfOk result (λ r. object_bodies setting.now scope.entry object number (map operation_body_view body.now.operations.items) ≡ Some (map body_view r.0.items)) }
+    ensures code { IfOk result (λ r. bodies_of_unit setting.now scope.entry number (map operation_body_view body.now.operations.items) ≡ Some (map body_view r.0.items)) }
     ensures scope { IfOk result (λ r. r.1 ≡ scope.entry) }
 {
     let at = body.name.at;
@@ -55,7 +36,6 @@ fn bodies_for<'a>(
     operation_bodies(
         alloc,
         setting,
-        object,
         unit.operations(),
         &body.operations,
         at,
@@ -63,83 +43,10 @@ fn bodies_for<'a>(
     )
 }
 
-// The bodies of an object of an index, of the protected unit of a number.
-fn object_of_unit<'a>(
-    alloc: Global,
-    setting: &Setting<'a>,
-    number: usize,
-    body: &ProtectedBody,
-    index: usize,
-    compiled: &mut UnitBodies,
-    scope: Scope<'a>,
-) -> Result<Scope<'a>, Refused>
-    requires { index < 4294967296 }
-    ensures code { IfOk result (λ _. object_compiled (bodies_by_index setting.now scope.entry number (map operation_body_view body.now.operations.items)) index (unit_view compiled.old) ≡ Some (unit_view compiled.new)) }
-    ensures scope { IfOk result (λ s. s ≡ scope.entry) }
-{
-    let object = setting.catalogue.objects() + 1 + index;
-    let (bodies, left) = bodies_for(alloc, setting, object, number, body, scope)?;
-    put_object(compiled, index, bodies, body.name.at)?;
-    Ok(left)
-}
-
-// The same of an object that may be another's.
-fn perhaps_bodies<'a>(
-    alloc: Global,
-    setting: &Setting<'a>,
-    number: usize,
-    body: &ProtectedBody,
-    index: usize,
-    object: ObjectType,
-    compiled: &mut UnitBodies,
-    scope: Scope<'a>,
-) -> Result<Scope<'a>, Refused>
-    requires { index < 4294967296 }
-    ensures code { IfOk result (λ _. perhaps_compiled (bodies_by_index setting.now scope.entry number (map operation_body_view body.now.operations.items)) number index object (unit_view compiled.old) ≡ Some (unit_view compiled.new)) }
-    ensures scope { IfOk result (λ s. s ≡ scope.entry) }
-{
-    match object {
-        ObjectType::Suspension => Ok(scope),
-        ObjectType::Protected(unit) => {
-            if unit == number {
-                object_of_unit(alloc, setting, number, body, index, compiled, scope)
-            } else {
-                Ok(scope)
-            }
-        }
-    }
-}
-
-// Each object of a protected unit has bodies of its own.
-fn all_object_bodies<'a>(
-    alloc: Global,
-    setting: &Setting<'a>,
-    number: usize,
-    body: &ProtectedBody,
-    compiled: &mut UnitBodies,
-    around: Scope<'a>,
-) -> Result<Scope<'a>, Refused>
-    ensures code { IfOk result (λ _. objects_compiled (bodies_by_index setting.now around.entry number (map operation_body_view body.now.operations.items)) number 0 setting.now.outline.objects (unit_view compiled.old) ≡ Some (unit_view compiled.new)) }
-    ensures scope { IfOk result (λ s. s ≡ around.entry) }
-{
-    let mut scope = around;
-    let mut index: usize = 0;
-    for object in setting.outline.objects() {
-        if index >= 4294967296 {
-            return Err(mismatch(body.name.at));
-        }
-        scope = perhaps_bodies(
-            alloc, setting, number, body, index, *object, compiled, scope,
-        )?;
-        index += 1;
-    }
-    Ok(scope)
-}
-
 // Gives the object of an index a list of bodies.
 fn give(compiled: &mut UnitBodies, index: usize, list: usize, at: usize) -> Result<(), Refused>
     requires { list < length compiled.old.lists.items }
-    ensures code { OnOk result ((same : List BodyCode) → list_at compiled.old.lists.items list ≡ same → object_compiled (λ _. Some same) index (unit_view compiled.old) ≡ Some (unit_view compiled.new)) }
+    ensures code { OnOk result ((same : List BodyCode) → list_at compiled.old.lists.items list ≡ same → object_compiled same index (unit_view compiled.old) ≡ Some (unit_view compiled.new)) }
     ensures lists { OnOk result (compiled.new.lists ≡ compiled.old.lists) }
 {
     if index >= compiled.objects.len() {
@@ -159,7 +66,7 @@ fn give_perhaps(
     at: usize,
 ) -> Result<(), Refused>
     requires { list < length compiled.old.lists.items }
-    ensures code { OnOk result ((same : List BodyCode) → list_at compiled.old.lists.items list ≡ same → perhaps_compiled (λ _. Some same) number index object (unit_view compiled.old) ≡ Some (unit_view compiled.new)) }
+    ensures code { OnOk result ((same : List BodyCode) → list_at compiled.old.lists.items list ≡ same → perhaps_compiled same number index object (unit_view compiled.old) ≡ Some (unit_view compiled.new)) }
     ensures lists { OnOk result (compiled.new.lists ≡ compiled.old.lists) }
 {
     match object {
@@ -183,7 +90,7 @@ fn give_all(
     at: usize,
 ) -> Result<(), Refused>
     requires { list < length compiled.old.lists.items }
-    ensures { OnOk result ((same : List BodyCode) → list_at compiled.old.lists.items list ≡ same → objects_compiled (λ _. Some same) number 0 objects.now (unit_view compiled.old) ≡ Some (unit_view compiled.new)) }
+    ensures { OnOk result ((same : List BodyCode) → list_at compiled.old.lists.items list ≡ same → objects_compiled same number 0 objects.now (unit_view compiled.old) ≡ Some (unit_view compiled.new)) }
 {
     let mut index: usize = 0;
     for object in objects {
@@ -204,15 +111,15 @@ fn share(
     same: Vec<Body>,
     at: usize,
 ) -> Result<(), Refused>
-    ensures { OnOk result (objects_compiled (λ _. Some (map body_view same.items)) number 0 objects.now (unit_view compiled.old) ≡ Some (unit_view compiled.new)) }
+    ensures { OnOk result (objects_compiled (map body_view same.items) number 0 objects.now (unit_view compiled.old) ≡ Some (unit_view compiled.new)) }
 {
     let list = compiled.add_list(same)?;
     give_all(compiled, number, objects, list, at)?;
     Ok(())
 }
 
-// The bodies of a protected unit of a number, for each of its objects.
-#[tactic(auto, using(crate::proofs::Sharing::shared, crate::proofs::Sharing::apart))]
+// The bodies of a protected unit of a number, which its objects share.
+#[tactic(auto, using(crate::proofs::Sharing::shared))]
 fn unit_bodies<'a>(
     alloc: Global,
     setting: &Setting<'a>,
@@ -224,13 +131,15 @@ fn unit_bodies<'a>(
     ensures code { IfOk result (λ _. unit_bodies_compiled setting.now scope.entry number (map operation_body_view body.now.operations.items) (unit_view compiled.old) ≡ Some (unit_view compiled.new)) }
     ensures scope { IfOk result (λ s. s ≡ scope.entry) }
 {
-    let (same, left) = bodies_for(alloc, setting, 0, number, body, scope)?;
-    if name_no_own(&same) {
-        let objects = setting.outline.objects();
-        share(compiled, number, objects, same, body.name.at)?;
-        return Ok(left);
-    }
-    all_object_bodies(alloc, setting, number, body, compiled, left)
+    let (same, left) = bodies_of(alloc, setting, number, body, scope)?;
+    share(
+        compiled,
+        number,
+        setting.outline.objects(),
+        same,
+        body.name.at,
+    )?;
+    Ok(left)
 }
 
 // The body of a protected unit of a number.

@@ -41,7 +41,7 @@ fn operations<'a>(
         let Some(operation) = operation_of(one, unit.operations()) else {
             return Err(mismatch(body.name.at));
         };
-        let (_, left) = operation_body(alloc, setting, 0, operation, one, scope)?;
+        let (_, left) = operation_body(alloc, setting, operation, one, scope)?;
         scope = left;
     }
     Ok(scope)

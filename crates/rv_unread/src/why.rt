@@ -50,7 +50,7 @@ fn unreadable_line(
     given: &[UnitShape],
     journal: &[u8],
 ) -> io::Result<Option<usize>> {
-    let Ok(mut audit) = Audit::new(alloc, limits.capacity, limits.queue) else {
+    let Ok(mut audit) = Audit::within(alloc, limits) else {
         return Err(io::Error::from(ErrorKind::OutOfMemory));
     };
     let mut reader = journal;

@@ -14,7 +14,7 @@ use Rattle.rv_fault.specs.Faults.{fault_of, of_read}
 use Rattle.rv_fault.proofs.Scripts.{over_read, over_refused, over_script}
 use Rattle.rv_verdict.specs.Given.{GivenText}
 use Rattle.rv_verdict.specs.Brought.{Brings, Brought, GivesScript}
-use Rattle.rv_verdict.specs.Audits.{AuditsScript, AuditsText, RefusesBytes, Saying}
+use Rattle.rv_verdict.specs.Audits.{AuditsScript, AuditsText, RefusesBytes, Saying, Under, bounded}
 
 -- The text of a script
 
@@ -28,6 +28,10 @@ nothing_brought has_journal Says old script (Io error) h = inl (keeps_nothing ol
 -- of a saying that refuses nothing
 abbrev NeverRefuses : {A : Type 0} → Saying A → Type 0
 NeverRefuses {A} Says = (old new : Option (List ℕ)) (it : Brought) (told : ScriptFault) → Says old new it (Err (Refused told)) → ⊥
+
+-- one that refuses nothing refuses nothing within other limits
+pub never_under : {A : Type 0} (allowance : Option ℕ) (Says : Saying A) → NeverRefuses Says → NeverRefuses (Under allowance Says)
+never_under allowance Says never old new it told says = never old new (record it { limits = bounded allowance it.limits }) told says
 
 pub said_of : {A : Type 0} (has_journal : Bool) (Says : Saying A) (old new : Option (List ℕ)) (script : List ℕ) (it : Brought) (r : Result A Failure) → NeverRefuses Says → Brings has_journal script (Ok it) → Says old new it r →
     AuditsText has_journal Says old new script r

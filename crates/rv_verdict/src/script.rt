@@ -46,7 +46,7 @@ pub fn audit_over(alloc: Global, limits: Limits) -> Result<Audit, Failure>
     ensures ok { IfOk result (λ audit. audit ≡ empty limits) }
     ensures err { IfErr result (λ failure. failure ≡ Failure.Memory) }
 {
-    match Audit::new(alloc, limits.capacity, limits.queue) {
+    match Audit::within(alloc, limits) {
         Ok(audit) => Ok(audit),
         Err(_) => Err(Failure::Memory),
     }

@@ -11,6 +11,7 @@ ghost use Rattle.rv_event.specs.declared.entry.Recorded.TheVariants.{Started};
 ghost use Rattle.rv_event.specs.declared.entry.Recorded.{Recorded};
 ghost use Rattle.rv_event.specs.declared.entry.Request.TheVariants.{Fire};
 ghost use Rattle.rv_event.specs.declared.entry.Request.{Request};
+ghost use Rattle.rv_history.specs.Allowance.{may_spend};
 ghost use Rattle.rv_history.specs.Due.{out};
 ghost use Rattle.rv_history.specs.HandOver.{IsHandedOver};
 ghost use Rattle.rv_history.specs.Headline.{Headline, IsAllowed, IsLawful, MayFire};
@@ -20,12 +21,13 @@ ghost use Rattle.rv_history.specs.Owed.{has_room};
 ghost use Rattle.rv_history.specs.Rewound.{rewound, without_newest};
 
 /// A request that is answered Started is allowed, and one that is allowed is answered Started where
-/// there is room for it.
+/// there is room for it, and the unit that it is charged to hasn't spent its allowance.
 #[tactic(auto, using(crate::proofs::Exactly::started_allowed, crate::proofs::Exactly::allowed_recorded))]
 pub fn starts_exactly_when_allowed()
     ensures nowhere_else { (h : History) (actor : ℕ) (request : Request) →
         recorded (out h actor request) ≡ Some Started → IsAllowed h actor request }
     ensures allowed { (h : History) (actor : ℕ) (request : Request) →
+        may_spend h actor request ≡ true →
         has_room h.limits.capacity h.shapes (Asked actor request Started ∷ h.past) ≡ true →
         IsAllowed h actor request → recorded (out h actor request) ≡ Some Started }
 {}
@@ -35,17 +37,20 @@ pub fn starts_exactly_when_allowed()
 pub fn start_gives_the_scalars()
     ensures { (h : History) (actor : ℕ) (request : Request)
         (allowed : IsAllowed h actor request) →
+        may_spend h actor request ≡ true →
         has_room h.limits.capacity h.shapes (Asked actor request Started ∷ h.past) ≡ true →
         out h actor request ≡ answers.Started (scalars h.shapes allowed.object h.past) }
 {}
 
 /// A fired line that starts its handler is idle and attached, the host isn't halted, the list grants
 /// the handler to `Interrupts`, the line's priority isn't above the ceiling, nobody holds the object
-/// and it is settled; and where all that is so and there is room for it, it starts.
+/// and it is settled; and where all that is so, there is room for it and the handler's unit hasn't spent its allowance,
+/// it starts.
 pub fn fired_lines_start_exactly_when_they_may()
     ensures nowhere_else { (h : History) (actor line : ℕ) → who h.shapes actor ≡ Line line →
         recorded (out h actor Fire) ≡ Some Started → MayFire h actor line }
     ensures allowed { (h : History) (actor line : ℕ) → who h.shapes actor ≡ Line line →
+        may_spend h actor Fire ≡ true →
         has_room h.limits.capacity h.shapes (Asked actor Fire Started ∷ h.past) ≡ true →
         MayFire h actor line → recorded (out h actor Fire) ≡ Some Started }
 {}

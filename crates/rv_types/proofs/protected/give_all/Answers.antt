@@ -1,4 +1,4 @@
-use Rattle.std.proofs.Common.{rules, ◌≡◌, ◌+◌, ◌∙◌, ap, sym, true, drop, get_or, Some}
+use Rattle.std.proofs.Common.{rules, ◌≡◌, ◌+◌, ◌∙◌, ap, sym, true, drop, get_or}
 use Rattle.std.proofs.lemmas.List.{drop_more}
 use Rattle.std.specs.Prelude.{nat_lt}
 use Rattle.rv_code.specs.BodyView.{list_at, unit_view}
@@ -14,10 +14,10 @@ loop-object-preserved c =
     record {
       lists = c.in_ok-give_perhaps.ensures.lists ∙ c.loop-object.invariant.lists;
       code = λ same e.
-          sym (one_more (λ index. Some same) c.args.number c.loop-object.index (get_or objects at (Protected 0)) (drop (at + 1) objects)
+          sym (one_more same c.args.number c.loop-object.index (get_or objects at (Protected 0)) (drop (at + 1) objects)
           (unit_view c.loop-object.compiled) (unit_view c.give_perhaps.new.compiled) small
           (c.in_ok-give_perhaps.ensures.code same (ap (λ lists. list_at lists.items c.args.list) c.loop-object.invariant.lists ∙ e)))
-          ∙ (ap (λ more. objects_compiled (λ index. Some same) c.args.number c.loop-object.index more (unit_view c.loop-object.compiled))
+          ∙ (ap (λ more. objects_compiled same c.args.number c.loop-object.index more (unit_view c.loop-object.compiled))
           (sym (drop_more objects at (Protected 0) c.loop-object-test.true))
           ∙ c.loop-object.invariant.code same e);
     }

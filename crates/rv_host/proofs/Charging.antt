@@ -1,0 +1,72 @@
+-- The numbers of the units that requests are charged to.
+use Rattle.std.proofs.Common.{◌≡◌, ◌∙◌, ℕ, zero, suc, ◌+◌, ◌-◌, ◌<◌, ◌≤◌, List, [], ◌∷◌, length, map, Option, Some, None, Bool, true, false, arith, ap, sym, refl}
+use Rattle.std.specs.Prelude.{nat_lt, if◌then◌else◌, slice_get, IfSome}
+use Rattle.std.specs.Option.{option_map}
+use Rattle.std.proofs.lemmas.Bool.Decides.{nat_tests}
+use Rattle.std.proofs.lemmas.Option.{slice_get-map}
+use Rattle.rv_history.specs.Allowance.{number_of, object_unit, task_unit}
+use Rattle.rv_shape.specs.Catalogue.{UnitObject, UnitTask, numbered, place}
+use Rattle.rv_shape.specs.Found.{AreDistinct}
+use Rattle.rv_shape.specs.Names.{unit_name, unit_number}
+use Rattle.rv_shape.specs.Readers.{actor_task, unit_named}
+use Rattle.rv_shape.specs.Shape.{Shape}
+use Rattle.rv_shape.proofs.FoundByName.{first_number}
+
+named_next : (shapes : List Shape) (n : ℕ) → numbered shapes (suc n) ≡ slice_get shapes n
+named_next shapes n =
+    let some : nat_lt (suc n) 1 ≡ false = grind (arith, nat_tests) in
+    let before : suc n - 1 ≡ n = omega arith in
+    λ i. if some i then None else slice_get shapes (before i)
+
+-- a unit of a number is found by its name
+numbered_so : (shapes : List Shape) (n : ℕ) (name : List ℕ) → AreDistinct shapes → unit_named shapes n ≡ Some name → Some n ≡ unit_number shapes name
+numbered_so shapes zero name d e = absurd (cc)
+numbered_so shapes (suc n) name d e =
+    let at : slice_get (map unit_name shapes) n ≡ Some name =
+    slice_get-map unit_name shapes n ∙ ap (option_map unit_name) (sym (named_next shapes n)) ∙ e in
+    let next : 1 + n ≡ suc n = omega arith in
+    ap (λ (m : ℕ). Some m) (sym next) ∙ sym (first_number (map unit_name shapes) 1 n name d.units at)
+
+within : (shapes : List Shape) (n : ℕ) (name : List ℕ) → option_map unit_name (slice_get shapes n) ≡ Some name → n < length shapes
+within [] n name e = absurd (cc)
+within (s ∷ shapes) zero name e = omega arith
+within (s ∷ shapes) (suc n) name e = omega (arith, within shapes n name e)
+
+few_so : (shapes : List Shape) (n : ℕ) (name : List ℕ) → length shapes ≤ 64 → unit_named shapes n ≡ Some name → n < 65
+few_so shapes zero name few e = omega arith
+few_so shapes (suc n) name few e =
+    let less : n < length shapes = within shapes n name (ap (option_map unit_name) (sym (named_next shapes n)) ∙ e) in
+    omega (arith, less, few)
+
+injected : {X : Type 0} (x y : Option X) → (let a : Option (Option X) = Some x in a ≡ Some y) → x ≡ y
+injected x y e = cc
+
+charged_so : {X : Type 0} (shapes : List Shape) (unit : X → List ℕ) (at : Option X) (n : Option ℕ) → AreDistinct shapes
+    → option_map (unit_named shapes) n ≡ option_map (λ x. Some (unit x)) at → n ≡ number_of shapes (option_map unit at)
+charged_so shapes unit None None d e = refl
+charged_so shapes unit None (Some n) d e = absurd (cc)
+charged_so shapes unit (Some x) None d e = absurd (cc)
+charged_so shapes unit (Some x) (Some n) d e = numbered_so shapes n (unit x) d (injected (unit_named shapes n) (Some (unit x)) e)
+
+placed_so : {X : Type 0} (shapes : List Shape) (unit : X → List ℕ) (at : Option X) (n : Option ℕ) → length shapes ≤ 64
+    → option_map (unit_named shapes) n ≡ option_map (λ x. Some (unit x)) at → IfSome n (λ m. m < 65)
+placed_so shapes unit None None few e = tt
+placed_so shapes unit (Some x) None few e = tt
+placed_so shapes unit None (Some n) few e = absurd (cc)
+placed_so shapes unit (Some x) (Some n) few e = few_so shapes n (unit x) few (injected (unit_named shapes n) (Some (unit x)) e)
+
+pub task_charged : (shapes : List Shape) (actor : ℕ) (n : Option ℕ) → AreDistinct shapes
+    → option_map (unit_named shapes) n ≡ option_map (λ (t : UnitTask). Some t.unit) (actor_task shapes actor) → n ≡ task_unit shapes actor
+task_charged shapes actor n d e = charged_so shapes (λ (t : UnitTask). t.unit) (actor_task shapes actor) n d e
+
+pub task_placed : (shapes : List Shape) (actor : ℕ) (n : Option ℕ) → length shapes ≤ 64
+    → option_map (unit_named shapes) n ≡ option_map (λ (t : UnitTask). Some t.unit) (actor_task shapes actor) → IfSome n (λ m. m < 65)
+task_placed shapes actor n few e = placed_so shapes (λ (t : UnitTask). t.unit) (actor_task shapes actor) n few e
+
+pub object_charged : (shapes : List Shape) (object : ℕ) (n : Option ℕ) → AreDistinct shapes
+    → option_map (unit_named shapes) n ≡ option_map (λ (o : UnitObject). Some o.unit) (place shapes object) → n ≡ object_unit shapes object
+object_charged shapes object n d e = charged_so shapes (λ (o : UnitObject). o.unit) (place shapes object) n d e
+
+pub object_placed : (shapes : List Shape) (object : ℕ) (n : Option ℕ) → length shapes ≤ 64
+    → option_map (unit_named shapes) n ≡ option_map (λ (o : UnitObject). Some o.unit) (place shapes object) → IfSome n (λ m. m < 65)
+object_placed shapes object n few e = placed_so shapes (λ (o : UnitObject). o.unit) (place shapes object) n few e
