@@ -4,9 +4,9 @@ use Rattle.rv_fault.specs.Written.{Ended, WritesScript}
 use Rattle.rv_fault.specs.declared.failure.Failure.{Failure}
 use Rattle.rv_play.specs.Scripted.{outcome_of}
 use Rattle.rv_verdict.specs.Audits.{AuditsScript, SaysOfSection}
-use Rattle.rv_c.specs.declared.text.Text.{Text}
+use Rattle.rv_c_text.specs.Laid as laying
+use Rattle.rv_c_text.specs.declared.text.Text.{Text}
 use Rattle.rv_c.specs.Endings.{run_status, verdict_status, StandsBehind, says}
-use Rattle.rv_c.specs.Laid.{Gets}
 use Rattle.rv_c.specs.Said.{Said}
 
 -- a script is played: its journal is said or, where all is asked for, a line for each answer; behind it the fault that stopped it
@@ -24,6 +24,10 @@ SaysVerdict script said =
     × AuditsScript true SaysOfSection (Some []) (Some text) script ended
     × StandsBehind line text ended
     × (said ≡ says (verdict_status ended) text line)
+
+-- the caller gets the first bytes of all that is said, how long all is, where the line of the fault begins, and the status
+abbrev pub Gets : Said → Text → Text → ℤ → Type 0
+Gets said old new status = laying.Gets said.text said.fault old new × (status ≡ said.status)
 
 -- the caller gets what is said of a script that is played
 abbrev pub Plays : Bool → List ℕ → Text → Text → ℤ → Type 0

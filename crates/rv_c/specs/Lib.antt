@@ -1,4 +1,3 @@
 pub mod Said
 pub mod Endings
-pub mod Laid
 pub mod Calls

@@ -5,7 +5,7 @@ ghost use Rattle.rv_c.specs.Calls.{Audits, Plays};
 use crate::audit::audited;
 use crate::play::played;
 use crate::telling::tell;
-use crate::text::Text;
+use rv_c_text::Text;
 use std::alloc::Global;
 
 /// Judges the journal that a script brings, and tells the caller what `ravenhost audit` prints of it; or, behind nothing, the line of

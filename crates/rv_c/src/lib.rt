@@ -4,14 +4,11 @@
 
 mod audit;
 mod into;
-mod laying;
 mod play;
 mod saying;
 mod telling;
 #[cfg(test)]
 mod tests;
-mod text;
 mod told;
 
 pub use into::{audit_into, play_into};
-pub use text::Text;

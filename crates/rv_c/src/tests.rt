@@ -1,6 +1,7 @@
 //! One call of each, which succeeds and is told as it should be: a contract lets a call answer that there was no memory.
 
-use crate::{Text, audit_into, play_into};
+use crate::{audit_into, play_into};
+use rv_c_text::Text;
 
 // A script that is played, and refused at its last step.
 const STEPS: &[u8] = b"@shape\nunit Nav\ntask Pilot 15\n@steps\nNav.Pilot clock\noperator fly\n";

@@ -6,7 +6,8 @@ pub mod hosts;
 ghost use Rattle.std.specs.Prelude.{◌≡◌, ◌≢◌, pos, true, false};
 ghost use Rattle.rv_c.specs.Calls.{Audits, Plays};
 
-use rv_c::{Text, audit_into, play_into};
+use rv_c::{audit_into, play_into};
+use rv_c_text::Text;
 use std::alloc::Global;
 
 /// As `rv_c::audit_into`.

@@ -1,6 +1,9 @@
 //! What a thread does beside the job of a task: it reads and writes the pipes.
 
-use crate::lines::{Next, next_line};
+ghost use Rattle.std.specs.Io.Take.{take_inner};
+ghost use Rattle.rv_pipes.specs.Carrying.{Answers, Carries, CarriesAll, CarriesNext, Writes};
+
+use crate::lines::{Line, Next, next_line};
 use crate::replies::STOPPED;
 use crossbeam_channel::{Receiver, Sender};
 use rv_script::write_whole;
@@ -21,6 +24,15 @@ pub enum CarryFault {
     Write(io::Error),
 }
 
+/// What a job is handed.
+#[derive(Drop)]
+pub(crate) enum Asked {
+    /// A request.
+    Line(Line),
+    /// The end of the requests.
+    Over,
+}
+
 // Whether lines are carried on.
 #[derive(Clone, Copy, Drop)]
 enum Goes {
@@ -32,13 +44,16 @@ enum Goes {
 #[derive(Drop)]
 pub struct Carrier {
     pub(crate) alloc: Global,
-    pub(crate) requests: Sender<Vec<u8>>,
+    pub(crate) requests: Sender<Asked>,
     pub(crate) replies: Receiver<Vec<u8>>,
     pub(crate) written: Sender<u8>,
 }
 
 // Writes a line.
-fn write_line<W: Write>(writer: &mut W, line: &[u8]) -> Result<(), CarryFault> {
+#[tactic(auto, using(crate::proofs::Carried::flushed, crate::proofs::Carried::flushed_whole))]
+fn write_line<W: Write>(writer: &mut W, line: &[u8]) -> Result<(), CarryFault>
+    ensures { Writes line.now (W.contents writer.old) (W.contents writer.new) result }
+{
     match write_whole(writer, line) {
         Ok(()) => match writer.flush() {
             Ok(()) => Ok(()),
@@ -50,8 +65,8 @@ fn write_line<W: Write>(writer: &mut W, line: &[u8]) -> Result<(), CarryFault> {
 
 impl Carrier {
     // Hands a request to the job, and gives what that came to; none where the job has ended.
-    fn ask<R: Wait>(&self, rt: &R, line: Vec<u8>) -> Option<Vec<u8>> {
-        if self.requests.send(rt, line).is_err() {
+    fn ask<R: Wait>(&self, rt: &R, line: Line) -> Option<Vec<u8>> {
+        if self.requests.send(rt, Asked::Line(line)).is_err() {
             return None;
         }
         self.replies.recv(rt).ok()
@@ -61,9 +76,11 @@ impl Carrier {
     fn carry_line<R: Wait, W: Write>(
         &self,
         rt: &R,
-        line: Vec<u8>,
+        line: Line,
         writer: &mut W,
-    ) -> Result<Goes, CarryFault> {
+    ) -> Result<Goes, CarryFault>
+        ensures { Answers (W.contents writer.old) (W.contents writer.new) result }
+    {
         let Some(reply) = self.ask(rt, line) else {
             write_line(writer, STOPPED)?;
             return Ok(Goes::Out);
@@ -73,14 +90,16 @@ impl Carrier {
         Ok(Goes::On)
     }
 
-    // Reads a line, and carries it.
-    fn carry_next<R: Wait, I: BufRead, W: Write>(
+    // Carries what was read, if anything was.
+    fn carry_read<R: Wait, W: Write>(
         &self,
         rt: &R,
-        reader: &mut Take<I>,
+        read: io::Result<Next>,
         writer: &mut W,
-    ) -> Result<Goes, CarryFault> {
-        match next_line(self.alloc, reader) {
+    ) -> Result<Goes, CarryFault>
+        ensures { Carries read (W.contents writer.old) (W.contents writer.new) result }
+    {
+        match read {
             Ok(Next::Line(line)) => self.carry_line(rt, line, writer),
             Ok(Next::TooLong) => {
                 write_line(writer, TOO_LONG)?;
@@ -91,18 +110,34 @@ impl Carrier {
         }
     }
 
+    // Reads a line, and carries it.
+    fn carry_next<R: Wait, I: BufRead, W: Write>(
+        &self,
+        rt: &R,
+        reader: &mut Take<I>,
+        writer: &mut W,
+    ) -> Result<Goes, CarryFault>
+        ensures { CarriesNext (I.remaining (take_inner reader.old)) (W.contents writer.old) (W.contents writer.new) result }
+    {
+        let read = next_line(self.alloc, reader);
+        self.carry_read(rt, read, writer)
+    }
+
     // Carries lines, each with what it came to before the next is read.
     fn carry_all<R: Wait, I: BufRead + Drop, W: Write>(
         &self,
         rt: &R,
         reader: I,
         writer: &mut W,
-    ) -> Result<(), CarryFault> {
+    ) -> Result<(), CarryFault>
+        ensures { CarriesAll (W.contents writer.old) (W.contents writer.new) result }
+    {
         let mut lines = reader.take(0);
         for _ in rt.forever() {
-            match self.carry_next(rt, &mut lines, writer)? {
-                Goes::On => {}
-                Goes::Out => return Ok(()),
+            match self.carry_next(rt, &mut lines, writer) {
+                Ok(Goes::On) => {}
+                Ok(Goes::Out) => return Ok(()),
+                Err(e) => return Err(e),
             }
         }
         unreachable!()
@@ -118,7 +153,9 @@ impl Carrier {
         rt: &R,
         reader: I,
         writer: &mut W,
-    ) -> Result<(), CarryFault> {
+    ) -> Result<(), CarryFault>
+        ensures { CarriesAll (W.contents writer.old) (W.contents writer.new) result }
+    {
         let carried = self.carry_all(rt, reader, writer);
         self.end(rt);
         carried
@@ -126,6 +163,6 @@ impl Carrier {
 
     /// Tells the job the end of the requests.
     pub fn end<R: Wait>(&self, rt: &R) {
-        let _ = self.requests.send(rt, Vec::new(self.alloc));
+        let _ = self.requests.send(rt, Asked::Over);
     }
 }

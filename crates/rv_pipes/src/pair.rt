@@ -1,6 +1,6 @@
 //! The ends of the pipes of a task.
 
-use crate::carrier::Carrier;
+use crate::carrier::{Asked, Carrier};
 use crate::replies::{Replies, STOPPED};
 use crate::requests::Requests;
 use crossbeam_channel::{Receiver, Sender, bounded};
@@ -22,8 +22,8 @@ const LEAVE: u64 = 200;
 #[derive(Drop)]
 pub struct Pipes {
     pub(crate) alloc: Global,
-    // The requests, each a line with its line feed. An empty one is their end.
-    pub(crate) requests: Receiver<Vec<u8>>,
+    // The requests, up to their end.
+    pub(crate) requests: Receiver<Asked>,
     // What they came to, each a line.
     pub(crate) replies: Sender<Vec<u8>>,
     // Has something once all that was told is written.
@@ -33,8 +33,7 @@ pub struct Pipes {
 /// What ends the requests of a job from outside, as where its run ends.
 #[derive(Drop)]
 pub struct Ender {
-    alloc: Global,
-    requests: Sender<Vec<u8>>,
+    requests: Sender<Asked>,
 }
 
 impl Pipes {
@@ -52,8 +51,8 @@ impl Pipes {
     fn has_request<R: Wait>(&self, rt: &R) -> bool {
         for _ in 0..MOST_REQUESTS {
             match self.requests.try_recv(rt) {
-                Ok(line) if line.len() > 0 => return true,
-                Ok(_) => {}
+                Ok(Asked::Line(_)) => return true,
+                Ok(Asked::Over) => {}
                 Err(_) => return false,
             }
         }
@@ -73,7 +72,7 @@ impl Pipes {
 impl Ender {
     /// Ends the requests behind the one that is under way.
     pub fn end<R: Wait>(&self, rt: &R) {
-        let _ = self.requests.send(rt, Vec::new(self.alloc));
+        let _ = self.requests.send(rt, Asked::Over);
     }
 }
 
@@ -88,7 +87,6 @@ pub fn ends<R: Wait>(rt: &R, alloc: Global) -> Result<(Pipes, Carrier, Ender), A
     // Nothing was told yet, so all of it is written.
     let _ = writes.try_send(rt, 1);
     let ender = Ender {
-        alloc,
         requests: asks.clone()?,
     };
     let carrier = Carrier {

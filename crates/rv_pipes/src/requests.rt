@@ -1,5 +1,6 @@
 //! Where a job reads requests.
 
+use crate::carrier::Asked;
 use crate::pair::Pipes;
 use std::io;
 use std::io::Read;
@@ -34,12 +35,11 @@ impl<'a, R: Wait> Requests<'a, R> {
             return;
         }
         match self.pipes.requests.recv(self.rt) {
-            Ok(line) => {
-                self.is_over = line.len() == 0;
-                self.line = line;
+            Ok(Asked::Line(line)) => {
+                self.line = line.bytes;
                 self.next = 0;
             }
-            Err(_) => self.is_over = true,
+            Ok(Asked::Over) | Err(_) => self.is_over = true,
         }
     }
 
