@@ -1,5 +1,5 @@
 -- A host, and the texts of its actors: what loads and requests come to (own).
-use Rattle.std.specs.Prelude.{◌≡◌, ◌⊎◌, ◌+◌, ℕ, Bool, true, false, if◌then◌else◌, is_some, Option, Some, None}
+use Rattle.std.specs.Prelude.{◌≡◌, ◌⊎◌, ◌+◌, ℕ, Bool, true, false, is_some, Option, Some, None}
 use Rattle.rv_shape.specs.Catalogue.{OperationNumber, handler}
 use Rattle.rv_shape.specs.Shape.{Shape}
 use Rattle.rv_code.specs.Bodies.{UnitBodies}

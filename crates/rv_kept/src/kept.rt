@@ -28,12 +28,7 @@ impl Kept {
     ///
     /// # Errors
     /// As `Host::with_limit`.
-    pub fn new(
-        alloc: Global,
-        capacity: usize,
-        limit: usize,
-        budget: u32,
-    ) -> Result<Kept, NewFault>
+    pub fn new(alloc: Global, capacity: usize, limit: usize, budget: u32) -> Result<Kept, NewFault>
         ensures host { IfOk result (λ k. k.host ≡ legal.empty (limits_with capacity limit)) }
         ensures texts { IfOk result (λ k. texts_view k.texts ≡ no_texts budget) }
     {

@@ -41,9 +41,9 @@ impl Kept {
             return Answer::OutOfMemory;
         };
         let answer = self.host.load(&shape);
-        if answer.recorded().is_none() {
+        let Some(_) = answer.recorded() else {
             return answer;
-        }
+        };
         set_bodies(&mut self.texts, more);
         answer
     }
