@@ -634,6 +634,53 @@ static void layout(void)
     rh_free(&handle.host);
 }
 
+/* Units with texts: a task fills a tank until that is full, by rh_go, and its bodies are those of the texts. */
+static void texts(void)
+{
+    static const char tank[] =
+        "package Plant is\n   protected Tank with Priority => 20 is\n      procedure Fill (N : in Integer; Full : out Boolean);\n"
+        "   private\n      Level : Integer range 0 .. 100 := 0;\n   end Tank;\nend Plant;\n"
+        "package body Plant is\n   protected body Tank is\n      procedure Fill (N : in Integer; Full : out Boolean) is\n"
+        "      begin\n         Level := Level + N;\n         Full := Level > 50;\n      end Fill;\n   end Tank;\nend Plant;\n";
+    static const char filler[] =
+        "with Plant;\npackage Nav is\n   task Filler;\nend Nav;\npackage body Nav is\n   task body Filler is\n      Full : Boolean;\n"
+        "   begin\n      loop\n         Plant.Tank.Fill (30, Full);\n         exit when Full;\n      end loop;\n   end Filler;\nend Nav;\n";
+    static const char done[] =
+        "1 operator load Plant -> accepted 0\n"
+        "2 operator load Nav -> accepted 0\n"
+        "3 operator list [allow Nav Plant.Tank *] -> accepted 0\n"
+        "4 Nav.Filler call Plant.Tank Fill 30 -> started\n"
+        "5 Nav.Filler end 30 : return 0 -> done\n"
+        "6 Nav.Filler call Plant.Tank Fill 30 -> started\n"
+        "7 Nav.Filler end 60 : return 1 -> done\n"
+        "8 Nav.Filler finish -> accepted 0\n";
+    static char lines[4096];
+    rh_text told = rh_text_over(lines, sizeof lines);
+    rh_answer answer = {0};
+    size_t actor = 0, next = 1;
+    host = rh_none();
+    DUE(RH_DONE, rh_create(100, 1, &host));
+    DUE(RH_ACCEPTED, rh_load_unit(&host, tank, sizeof tank - 1, &told));
+    DUE(RH_ACCEPTED, rh_load_unit(&host, filler, sizeof filler - 1, &told));
+    DUE(RH_ACCEPTED, rh_set_list(&host, "allow Nav Plant.Tank *\n", 23, &told));
+    if (left < 0) {
+        DUE(RH_BAD_TEXT, rh_load_unit(&host, "package", 7, &told));
+        check(told.length > 0, "why a unit text is bad", (long)told.length);
+        DUE(RH_MISUSE, rh_go(&host, 5, &answer));
+    }
+    DUE(RH_DONE, rh_find_actor(&host, "Nav.Filler", 10, &actor));
+    DUE(RH_STARTED, rh_go(&host, actor, &answer));
+    DUE(RH_ENDED, rh_go(&host, actor, &answer));
+    DUE(RH_STARTED, rh_go(&host, actor, &answer));
+    DUE(RH_ENDED, rh_go(&host, actor, &answer));
+    DUE(RH_ACCEPTED, rh_go(&host, actor, &answer));
+    DUE(RH_MISUSE, rh_go(&host, actor, &answer));
+    told = rh_text_over(lines, sizeof lines);
+    DUE(RH_DONE, rh_journal(&host, 1, &next, &told));
+    check(told.length == strlen(done) && memcmp(lines, done, told.length) == 0, "the journal of texts", (long)told.length);
+    rh_free(&host);
+}
+
 /* An archive gives the places of the first entries back, and their lines are told no more. */
 static void archives(void)
 {
@@ -663,11 +710,13 @@ int main(void)
     long number = 0;
     int more = 1;
     run();
+    texts();
     layout();
     archives();
     while (more && faults == 0) {
         left = number++;
         run();
+        texts();
         more = left < 0;
         left = -1;
     }
