@@ -22,12 +22,10 @@ UNSAID = frozenset((
     "{0} stands twice", "a name stands twice", "a number is out of range", "an object with a handler has a ceiling of 31 .. 40 (C.3.1)",
     "this can't be used in the profile Ravenscar (D.13)", "{0} is declared here already; give one of them another name (8.3)",
     "{0} is declared further down; put that before this (8.3)", "{0} isn't declared yet; put its declaration before this (8.3)",
-    "{0} has no place in this command", "an interrupt line has a handler already (C.3.1)", "line {0} has a handler already (C.3.1)",
-    "an interrupt line of this unit has a handler already (C.3.1)", "a protected unit with a handler has a priority of 31 .. 40 (C.3.1)",
-    "only play takes steps; check looks at them with --script", "only run takes commands; check looks at them with --script",
-    "only audit takes a journal; check looks at it with --script"))
+    "{0} has no place in this command", "an interrupt line has a handler already (C.3.1)", "this is no step",
+    "an interrupt line of this unit has a handler already (C.3.1)", "a protected unit with a handler has a priority of 31 .. 40 (C.3.1)"))
 # Texts that aren't said: a form of a line that is compared, a value that is tried, and the form of a further fault.
-OTHER = frozenset(("unit NAME", "Milliseconds (1)", "also: {number}:{column}: {sentence}"))
+OTHER = frozenset(("Milliseconds (1)", "also: {number}:{column}: {sentence}"))
 
 
 def said_by_rows() -> dict[str, list[str]]:

@@ -90,8 +90,8 @@ OF_PROGRAM = [
     ("{} -", ALL, "{} --help --version -V -h"),
     ("{} run --", ALL, "{} run --actor --color --console --end-status --explain --grace --halt-below --help --journal --no-explain --notes --quota --sections-end --stop-by --sync --tick --warnings-are-errors "),
     ("{} --in", ONE, "{} --in"),
-    ("{} audit --", ALL, "{} audit --color --explain --help --journal --notes --torn"),
-    ("{} audit --journal x-one.journal --", ALL, "{} audit --journal x-one.journal --color --explain --notes --torn"),
+    ("{} audit --", ALL, "{} audit --color --explain --help --journal --notes --quota --torn"),
+    ("{} audit --journal x-one.journal --", ALL, "{} audit --journal x-one.journal --color --explain --notes --quota --torn"),
 ]
 OF_LAUNCHER = [
     ("{} ", ALL, "{} access audit check explain export help hits manual new play refusals run send state timeline waits whatif who"),

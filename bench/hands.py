@@ -8,7 +8,7 @@ start; a limit on the size of files; a journal's file that a wrong command line 
 hold commands, are cut short or large, by several senders at once; scripts that are named to the wrong command; notes on long lists, and on
 many changes of one; shapes of more lines than fit; a large type with many objects; choices that overlap; parts of a script in files of
 their own that hold sections, are cut short or refused; plays that never end, and are ended by signals and Ctrl-C; runs
-whose bodies won't end; words that the launcher alone takes. It needs flock, and a program: the proved one or the trial that is kept. Where ravenreview isn't there, its questions aren't
+whose bodies won't end; units that fill a journal, under a quota; words that the launcher alone takes. It needs flock, and a program: the proved one or the trial that is kept. Where ravenreview isn't there, its questions aren't
 asked.
 """
 import contextlib
@@ -619,6 +619,140 @@ def ends_that_are_hurried(hands: Hands) -> None:
     hands.due("a grace of nothing is no grace", done.returncode == 2 and b"invalid value '0' for '--grace <MS>': 1 to 3600000" in done.stderr, done)
 
 
+def goodly(rounds: int) -> bytes:
+    """A unit whose task calls its own object so many times."""
+    return b"package Good is\n   protected Tank with Priority => 20 is\n      procedure Fill;\n   private\n      Level : Integer := 0;\n   end Tank;\n" \
+        b"   task Pilot with Priority => 10;\nend Good;\npackage body Good is\n   protected body Tank is\n      procedure Fill is\n      begin\n" \
+        b"         Level := Level + 1;\n      end Fill;\n   end Tank;\n   task body Pilot is\n   begin\n      for Round in 1 .. " + str(rounds).encode() + \
+        b" loop\n         Tank.Fill;\n      end loop;\n   end Pilot;\nend Good;\n"
+
+
+def clock_unit(name: str) -> bytes:
+    """A unit whose task reads the clock for ever, which asks no right."""
+    return f"""with Ada.Real_Time;
+package {name} is
+   task T with Priority => 5;
+end {name};
+package body {name} is
+   task body T is
+      X : Ada.Real_Time.Time := Ada.Real_Time.Clock;
+   begin
+      loop
+         X := Ada.Real_Time.Clock;
+      end loop;
+   end T;
+end {name};
+""".encode()
+
+
+# A unit whose body reads the clock for ever, and one whose barrier flips.
+DEEP = b"""with Ada.Real_Time;
+package Deep is
+   protected Trap with Priority => 20 is
+      procedure Fall;
+   end Trap;
+   task T with Priority => 5;
+end Deep;
+package body Deep is
+   protected body Trap is
+      procedure Fall is
+         X : Ada.Real_Time.Time := Ada.Real_Time.Clock;
+      begin
+         loop
+            X := Ada.Real_Time.Clock;
+         end loop;
+      end Fall;
+   end Trap;
+   task body T is
+   begin
+      loop
+         Trap.Fall;
+      end loop;
+   end T;
+end Deep;
+"""
+
+FLIPS = b"""package Flips is
+   protected Gate with Priority => 20 is
+      entry Pass;
+      procedure Flip;
+   private
+      Is_Up : Boolean := False;
+   end Gate;
+   task Opens with Priority => 5;
+   task Comes with Priority => 6;
+end Flips;
+package body Flips is
+   protected body Gate is
+      entry Pass when Is_Up is
+      begin
+         Is_Up := False;
+      end Pass;
+      procedure Flip is
+      begin
+         Is_Up := not Is_Up;
+      end Flip;
+   end Gate;
+   task body Opens is
+   begin
+      loop
+         Gate.Flip;
+      end loop;
+   end Opens;
+   task body Comes is
+   begin
+      loop
+         Gate.Pass;
+      end loop;
+   end Comes;
+end Flips;
+"""
+
+
+def busy_unit(tasks: int) -> bytes:
+    """A unit of so many tasks that call one object for ever."""
+    declared = "".join(f"   task B{number} with Priority => 7;\n" for number in range(tasks))
+    bodies = "".join(f"   task body B{number} is\n   begin\n      loop\n         Box.Poke;\n      end loop;\n   end B{number};\n" for number in range(tasks))
+    return ("package Busy is\n   protected Box with Priority => 20 is\n      procedure Poke;\n   private\n      N : Integer := 0;\n   end Box;\n"
+            f"{declared}end Busy;\npackage body Busy is\n   protected body Box is\n      procedure Poke is\n      begin\n         N := 1;\n      end Poke;\n"
+            f"   end Box;\n{bodies}end Busy;\n").encode()
+
+
+def units_that_spend(hands: Hands) -> None:
+    """Under a quota units that fill the journal spend no more than it, the good one is served to its end, the operator takes rights away at every moment,
+    and the run ends within its grace; its journal is explained by that quota, and not without it."""
+    for name, units in (("loops", [*(clock_unit(f"Evil{number}") for number in range(5)), DEEP, FLIPS]), ("tasks", [busy_unit(63)])):
+        texts = b"@host.toml\ncapacity = 1048576\nbudget = 1000000\n" + b"".join(b"@unit\n" + unit for unit in (goodly(400), *units))
+        journal = hands.folder / f"{name}.journal"
+        words = ["run", "--quota", "1000", "--grace", "5000", "--notes", "always", "--journal", str(journal)]
+        run = subprocess.Popen([hands.launcher, *words], stdin=subprocess.PIPE, stdout=subprocess.PIPE, stderr=subprocess.PIPE)
+        assert run.stdin and run.stdout
+        answers = []
+        with contextlib.suppress(BrokenPipeError):  # (of a run that ended by itself)
+            run.stdin.write(texts + b"@list\nallow * * *\n@run\n")
+            for _ in range(40):
+                run.stdin.write(b"append deny Elsewhere * *\n")
+                run.stdin.flush()
+                answers.append(run.stdout.readline())
+                time.sleep(0.05)
+        begun = time.monotonic()
+        out, told = run.communicate(b"quit\n", timeout=SECONDS)
+        status = run.returncode
+        hands.due(f"{name}: rights are taken away at every moment", answers == [b"accepted 0\n"] * 40, answers)
+        hands.due(f"{name}: the run ends within its grace", (status, time.monotonic() - begun < 6) == (0, True), (status, time.monotonic() - begun, out[-80:]))
+        lines = journal.read_bytes().splitlines()
+        hands.due(f"{name}: the good unit is served to its end", sum(b" Good.Pilot call Good.Tank Fill -> started" in line for line in lines) == 400, lines[-3:])
+        hands.due(f"{name}: no entry is spent by want of a bound", len(lines) < 30000, len(lines))
+        for unit in (["Evil0", "Evil4", "Deep"] if name == "loops" else ["Busy"]):
+            due = f"quota: {unit} has spent its 1,000 entries; what it asked behind them was answered full\n".encode()
+            hands.due(f"{name}: the end says that {unit} has spent its quota", due in told, told[-2000:])
+        for quota, explained in ((["--quota", "1000"], True), ([], name == "tasks")):
+            done = hands.asked(["audit", "--explain", "--journal", str(journal), *quota], texts)
+            hands.due(f"{name}: ends are explained with {quota}", (b" explained" in done.stdout) == explained and done.stdout.startswith(b"legal "), done.stdout)
+        done = hands.asked(["audit", "--explain", "--journal", str(journal), "--quota", "999"], texts)
+        hands.due(f"{name}: a journal past a smaller quota isn't legal", done.stdout.endswith(b": due full\n"), done.stdout)
+
+
 def words_of_the_launcher(hands: Hands) -> None:
     """Help of the words that the launcher adds, a FILE of a question, a service's folder, and what is told of a new plant."""
     for word in ("send", "new", "waits", "who"):
@@ -651,7 +785,7 @@ CASES: tuple[Callable[[Hands], None], ...] = (
     two_runs_on_one_file, journals_that_others_change, streams_that_are_closed, limits_on_files, wrong_command_lines, texts_that_are_sent,
     senders_at_once, wrong_sends, scripts_to_the_wrong_command, hostile_parts, parts_that_are_taken, faults_of_parts, runs_of_parts, notes_on_long_lists,
     notes_on_many_appends, shapes_of_many_lines, bodies_that_objects_share, choices_that_overlap, many_bad_commands, plays_that_are_ended, ends_that_are_hurried,
-    words_of_the_launcher)
+    units_that_spend, words_of_the_launcher)
 
 
 def main(words: list[str]) -> int:

@@ -7,7 +7,8 @@ use Rattle.std.proofs.lemmas.List.{reverse-append, length-append, length-map, le
 use Rattle.rv_access.specs.Words.{Words}
 use Rattle.rv_access.specs.declared.change.Change.{Change}
 use Rattle.rv_shape.specs.Shape.{Shape}
-use Rattle.rv_shape.specs.Catalogue.{all_objects, objects_of}
+use Rattle.rv_shape.specs.Catalogue.{UnitObject, all_objects, objects_of}
+use Rattle.rv_shape.specs.declared.object.Object.{Object}
 use Rattle.rv_shape.specs.Fits.{shape_fits}
 use Rattle.rv_event.specs.Past.{halted}
 use Rattle.rv_event.specs.Recorded.{recorded}
@@ -240,8 +241,11 @@ counted (s ∷ ss) (u ∷ us) e =
     let here : numbered_as s u ≡ true = first_of_both (numbered_as s u) (all_numbered ss us) e in
     let same : length u.objects ≡ length s.objects = same_number (length u.objects) (length s.objects) (first_of_both (length u.objects == length s.objects) (length u.tasks == length s.tasks) here) in
     let rest : length (all_of us).objects ≡ length (all_objects ss) = counted ss us (second_of_both (numbered_as s u) (all_numbered ss us) e) in
-    let many : length (objects_of s) ≡ length s.objects = length-map (λ object. record { unit = s.name; object = object }) s.objects in
-    omega (arith, length-append u.objects (all_of us).objects, length-append (objects_of s) (all_objects ss), same, rest, many)
+    let seat : Object → UnitObject = λ object. record { unit = s.name; object = object } in
+    let many : length (objects_of s) ≡ length s.objects = length-map s.objects seat in
+    let ours : length (all_of (u ∷ us)).objects ≡ length u.objects + length (all_of us).objects = length-append u.objects (all_of us).objects in
+    let theirs : length (all_objects (s ∷ ss)) ≡ length (objects_of s) + length (all_objects ss) = length-append (objects_of s) (all_objects ss) in
+    omega (arith, ours, theirs, same, rest, many)
 
 view_is : (bodies : Bodies) → bodies_view bodies ≡ all_of (map unit_view (units_of bodies))
 view_is bodies = ap all_of (views_of bodies.units.items)

@@ -6,7 +6,7 @@ use crate::cause::Cause;
 use crate::declared::Declared;
 use crate::known::{Group, Known, near_among};
 use crate::library;
-use crate::line::{Form, said_of_name};
+use crate::forms::{Form, said_of_name};
 use crate::names::is_body;
 use crate::words::Words;
 use rv_text::is_same_name;

@@ -21,7 +21,7 @@ pub struct Activation {
     /// How many steps may still be taken, at most `MOST_STEPS`.
     pub steps: u32,
     /// How many requests may still be made.
-    pub requests: u32,
+    pub requests: u64,
 }
 
 // The list with the value at the index, where it has that index.

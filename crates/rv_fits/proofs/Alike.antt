@@ -1,5 +1,5 @@
 -- Objects that share their bodies, and whose entries are alike: the calls of one's bodies fit as those of the other's do.
-use Rattle.std.proofs.Common.{◌≡◌, ◌⊎◌, inl, inr, ℕ, zero, suc, ◌+◌, ◌-◌, ◌≤◌, ◌<◌, Bool, true, false, List, [], ◌∷◌, length, map, Option, Some, None, refl, sym, ap, ◌∙◌, arith}
+use Rattle.std.proofs.Common.{◌≡◌, ◌⊎◌, inl, inr, ℕ, zero, suc, ◌+◌, ◌-◌, ◌≤◌, ◌<◌, Bool, true, false, List, [], ◌∷◌, length, map, Option, Some, None, refl, sym, ap, subst, ◌∙◌, arith}
 use Rattle.std.proofs.Math.Path.{fun_ext}
 use Rattle.std.specs.Prelude.{◌&&◌, if◌then◌else◌, nat_lt, slice_get}
 use Rattle.std.proofs.lemmas.Bool.{cases_lt}
@@ -20,6 +20,13 @@ use Rattle.rv_fits.specs.Alike.{AreAlike, IsShared, bodies_fit_at, bodies_fit_in
 use Rattle.rv_fits.specs.Calls.{object_calls, objects_call, such_in}
 use Rattle.rv_fits.specs.Fits.{callee_fits, calls_entry}
 use Rattle.rv_fits.proofs.Both.{both_hold}
+
+-- what holds of each number before one, and of it, holds of each before the next
+pub one_more : (P : ℕ → Type 0) (n : ℕ) → ((k : ℕ) → k < n → P k) → P n → (k : ℕ) → k < n + 1 → P k
+one_more P n before here k lt = by_order (cases_lt k n) where
+  by_order : (k < n) ⊎ (n ≤ k) → P k
+  by_order (inl less) = before k less
+  by_order (inr past) = let same : n ≡ k = omega (arith, lt, past) in subst P same here
 
 never_first : (n : ℕ) → nat_lt (n + 1) 1 ≡ false
 never_first n = grind (arith, nat_tests)

@@ -7,4 +7,4 @@ use Rattle.rv_fits.specs.Fits.{callee_fits}
 
 -- it fits the units, in the body of the object
 abbrev pub passes : Test → Callee → Bool
-passes test c = such_in (callee_fits test.units) test.object c
+passes test c = such_in (callee_fits test.units.now) test.object c

@@ -30,7 +30,6 @@ fn is_same(one: bool, other: bool) -> bool
 }
 
 // Whether the operations of two objects up to a number are entries alike.
-#[tactic(auto, using(crate::proofs::Alike::one_more_alike))]
 fn alike_to(units: &Units<'_>, one: usize, other: usize, most: usize) -> bool
     ensures { result ≡ true → (n : ℕ) → n < most → calls_entry (target units.now one (n + 1)) ≡ calls_entry (target units.now other (n + 1)) }
 {

@@ -68,7 +68,7 @@ impl Text {
     {
         let stack = Machine::reserve(alloc, table, need)?;
         match self {
-            Text::Task(actor) => Ok(Machine::start_task(stack, table, actor, budget)),
+            Text::Task(actor) => Ok(Machine::start_task(stack, table, actor, u64::from(budget))),
             Text::Handler(object, operation) => {
                 Ok(Machine::start_line(stack, table, object, operation))
             }

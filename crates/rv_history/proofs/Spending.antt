@@ -26,11 +26,11 @@ use Rattle.rv_history.proofs.Growing.{front_is}
 
 pub few : (past : List Entry) (shapes : List Shape) (unit : ℕ) → spent shapes unit past ≤ length past
 few [] shapes unit = omega arith
-few (Asked a r w ∷ past) shapes unit = by_test (is_unit unit (charged shapes past a r))
+few (Asked a r w ∷ past) shapes unit = by_test (few past shapes unit) (is_unit unit (charged shapes past a r))
   where
-    by_test : (t : Bool) → (if t then suc (spent shapes unit past) else spent shapes unit past) ≤ length (Asked a r w ∷ past)
-    by_test true = omega (arith, few past shapes unit)
-    by_test false = omega (arith, few past shapes unit)
+    by_test : spent shapes unit past ≤ length past → (t : Bool) → (if t then suc (spent shapes unit past) else spent shapes unit past) ≤ length (Asked a r w ∷ past)
+    by_test before true = omega (arith, before)
+    by_test before false = omega (arith, before)
 few (Load ∷ past) shapes unit = omega (arith, few past (all_but_last shapes) unit)
 few (ListChange ∷ past) shapes unit = omega (arith, few past shapes unit)
 
@@ -55,17 +55,15 @@ below h unit most (Some other) allowed is free =
 
 within_allowance : (c : Limits) (past : List Entry) (shapes : List Shape) (lists : List (List Words)) (unit most : ℕ) → c.allowance ≡ Some most → IsLegal c past shapes lists → spent shapes unit past ≤ most
 within_allowance c [] shapes lists unit most allowed l = omega arith
-within_allowance c (Asked a r w ∷ past) shapes lists unit most allowed l = by_test (is_unit unit (charged shapes past a r)) refl
+within_allowance c (Asked a r w ∷ past) shapes lists unit most allowed l =
+    by_test (within_allowance c past shapes lists unit most allowed l.0) (is_unit unit (charged shapes past a r)) refl
   where
-    before : spent shapes unit past ≤ most
-    before = within_allowance c past shapes lists unit most allowed l.0
-
-    by_test : (t : Bool) → is_unit unit (charged shapes past a r) ≡ t → (if t then suc (spent shapes unit past) else spent shapes unit past) ≤ most
-    by_test true is =
+    by_test : spent shapes unit past ≤ most → (t : Bool) → is_unit unit (charged shapes past a r) ≡ t → (if t then suc (spent shapes unit past) else spent shapes unit past) ≤ most
+    by_test before true is =
         let h : History = record { limits = c; past = past; shapes = shapes; lists = lists } in
         let under : spent shapes unit past < most = below h unit most (charged shapes past a r) allowed is (answered h a r w l.1).allowed in
         omega (arith, under)
-    by_test false is = before
+    by_test before false is = before
 within_allowance c (Load ∷ past) shapes lists unit most allowed l =
     let front : all_but_last shapes ≡ l.0 = ap all_but_last l.2 ∙ front_is l.0 l.1 in
     subst (λ (ss : List Shape). spent ss unit past ≤ most) (sym front) (within_allowance c past l.0 lists unit most allowed l.3)

@@ -1,10 +1,13 @@
 -- The numbers of the units that requests are charged to.
 use Rattle.std.proofs.Common.{◌≡◌, ◌∙◌, ℕ, zero, suc, ◌+◌, ◌-◌, ◌<◌, ◌≤◌, List, [], ◌∷◌, length, map, Option, Some, None, Bool, true, false, arith, ap, sym, refl}
-use Rattle.std.specs.Prelude.{nat_lt, if◌then◌else◌, slice_get, IfSome}
-use Rattle.std.specs.Option.{option_map}
+use Rattle.std.specs.Prelude.{nat_le, nat_lt, not, if◌then◌else◌, slice_get, IfSome}
+use Rattle.std.specs.Option.{option_map, unwrap_or}
 use Rattle.std.proofs.lemmas.Bool.Decides.{nat_tests}
 use Rattle.std.proofs.lemmas.Option.{slice_get-map}
-use Rattle.rv_history.specs.Allowance.{number_of, object_unit, task_unit}
+use Rattle.rv_event.specs.declared.entry.Request.{Request}
+use Rattle.rv_history.specs.Allowance.{charged, is_spent, may_spend, number_of, object_unit, spent, task_unit, uses_up}
+use Rattle.rv_history.specs.History.{History}
+use Rattle.rv_history.proofs.Spending.{free_of_any}
 use Rattle.rv_shape.specs.Catalogue.{UnitObject, UnitTask, numbered, place}
 use Rattle.rv_shape.specs.Found.{AreDistinct}
 use Rattle.rv_shape.specs.Names.{unit_name, unit_number}
@@ -38,8 +41,8 @@ few_so shapes (suc n) name few e =
     let less : n < length shapes = within shapes n name (ap (option_map unit_name) (sym (named_next shapes n)) ∙ e) in
     omega (arith, less, few)
 
-injected : {X : Type 0} (x y : Option X) → (let a : Option (Option X) = Some x in a ≡ Some y) → x ≡ y
-injected x y e = cc
+injected : (x y : Option (List ℕ)) → (let a : Option (Option (List ℕ)) = Some x in a ≡ Some y) → x ≡ y
+injected x y e = ap (λ (o : Option (Option (List ℕ))). unwrap_or o x) e
 
 charged_so : {X : Type 0} (shapes : List Shape) (unit : X → List ℕ) (at : Option X) (n : Option ℕ) → AreDistinct shapes
     → option_map (unit_named shapes) n ≡ option_map (λ x. Some (unit x)) at → n ≡ number_of shapes (option_map unit at)
@@ -70,3 +73,16 @@ object_charged shapes object n d e = charged_so shapes (λ (o : UnitObject). o.u
 pub object_placed : (shapes : List Shape) (object : ℕ) (n : Option ℕ) → length shapes ≤ 64
     → option_map (unit_named shapes) n ≡ option_map (λ (o : UnitObject). Some o.unit) (place shapes object) → IfSome n (λ m. m < 65)
 object_placed shapes object n few e = placed_so shapes (λ (o : UnitObject). o.unit) (place shapes object) n few e
+
+-- Whether a request may be spent
+
+pub unbounded : (h : History) (a : ℕ) (r : Request) → h.limits.allowance ≡ None → true ≡ may_spend h a r
+unbounded h a r none = sym (free_of_any h (charged h.shapes h.past a r) none)
+
+pub unpaid : (h : History) (a : ℕ) (r : Request) → None ≡ charged h.shapes h.past a r → true ≡ may_spend h a r
+unpaid h a r none = ap (λ (u : Option ℕ). not (is_spent h u)) none
+
+pub bounded : (h : History) (a : ℕ) (r : Request) (most unit : ℕ) → h.limits.allowance ≡ Some most → Some unit ≡ charged h.shapes h.past a r
+    → not (nat_le most (spent h.shapes unit h.past)) ≡ may_spend h a r
+bounded h a r most unit allowed paid =
+    sym (ap (λ (o : Option ℕ). not (uses_up o (spent h.shapes unit h.past))) allowed) ∙ ap (λ (u : Option ℕ). not (is_spent h u)) paid

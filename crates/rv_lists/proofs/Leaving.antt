@@ -1,11 +1,32 @@
 -- Lists of which the first ones were given up: all are still told, and the last one is there.
 use Rattle.std.proofs.Common.{◌≡◌, ℕ, zero, suc, ◌+◌, ◌-◌, ◌<◌, ◌≤◌, ◌∙◌, arith, ap, sym, refl, subst, List, [], ◌∷◌, ◌++◌, length, take, drop, get_or, Some, None, Option, ⊎_elim, inl, inr}
 use Rattle.std.specs.Prelude.{◌⊎◌, slice_get, unwrap_or}
-use Rattle.std.proofs.lemmas.List.{append_assoc, drop_more, length-append, length-take-le}
+use Rattle.std.proofs.lemmas.List.{append_assoc, append-nil, drop_more, length-append, length-drop, length-take-le}
 use Rattle.rv_access.specs.Words.{Words}
+use Rattle.rv_lists.specs.Gone.{gone_lists}
 use Rattle.rv_lists.specs.Kept.{HasLast, StandsAlone, after, following, last_of, lists_of, next}
 use Rattle.rv_lists.specs.declared.kept.Kept.{Kept}
 use Rattle.rv_lists.proofs.Following.{length_following}
+
+-- One more time that some are let go
+
+pub gone_more : (series : List (List (List Words))) (counts : List ℕ) (lists : List (List Words)) (count : ℕ) → length series ≡ length counts →
+    gone_lists (series ++ lists ∷ []) (counts ++ count ∷ []) ≡ gone_lists series counts ++ take count lists
+gone_more [] [] lists count same = append-nil (take count lists)
+gone_more [] (n ∷ counts) lists count same = absurd (omega (arith, same))
+gone_more (x ∷ series) [] lists count same = absurd (omega (arith, same))
+gone_more (x ∷ series) (n ∷ counts) lists count same =
+    let less : length series ≡ length counts = omega (arith, same) in
+    ap (λ (more : List (List Words)). take n x ++ more) (gone_more series counts lists count less)
+    ∙ sym (append_assoc (take n x) (gone_lists series counts) (take count lists))
+
+pub paired_more : (series : List (List (List Words))) (counts : List ℕ) (lists : List (List Words)) (count : ℕ) → length series ≡ length counts →
+    length (series ++ lists ∷ []) ≡ length (counts ++ count ∷ [])
+paired_more series counts lists count same =
+    length-append series (lists ∷ []) ∙ ap (λ (n : ℕ). n + 1) same ∙ sym (length-append counts (count ∷ []))
+
+pub none_more : (gone lists : List (List Words)) → gone ++ take 0 lists ≡ gone
+none_more gone lists = append-nil gone
 
 -- What is kept from a place on
 
@@ -47,6 +68,12 @@ pub counted : (gone : List (List Words)) (kept : List Kept) (n : ℕ) → n ≤ 
 counted gone kept n there =
     let long : length (lists_of kept) ≡ length kept = length_following [] kept in
     length-append gone (take n (lists_of kept)) ∙ ap (λ (m : ℕ). length gone + m) (length-take-le n (lists_of kept) (omega (arith, long, there)))
+
+pub some_left : (kept : List Kept) (n : ℕ) → n < length kept → 0 < length (lists_of (drop n kept))
+some_left kept n there =
+    let long : length (lists_of (drop n kept)) ≡ length (drop n kept) = length_following [] (drop n kept) in
+    let left : length (drop n kept) ≡ length kept - n = length-drop n kept in
+    omega (arith, long, left, there)
 
 -- Lists behind those that were given up
 

@@ -1,36 +1,40 @@
 //! The lists that were let go, for proofs alone: they take no memory.
 
-ghost use Rattle.std.specs.Prelude.{◌≡◌, List, [], ◌++◌, take};
-ghost use Rattle.rv_access.specs.Words.{Words};
-ghost use Rattle.rv_lists.specs.Kept.{lists_of};
+ghost use Rattle.std.specs.Prelude.{◌≡◌, [], ◌++◌, length, take};
+ghost use Rattle.rv_lists.specs.Gone.{gone_lists};
 
-use crate::kept::Kept;
+use crate::series::Series;
+use rv_ring::past::Past;
 
-/// The lists that were let go, the oldest first, of which nothing is kept.
+/// The lists that were let go, of which nothing is kept: each time the first so many of those that there were.
 #[derive(Drop)]
 pub struct Gone {
-    pub ghost lists: { List (List Words) },
+    /// Which lists there were, each time that some were let go.
+    pub series: Past<Series>,
+    /// How many of these were.
+    pub counts: Past<usize>,
+    pub ghost paired: { length series.items ≡ length counts.items },
 }
 
 impl Gone {
     /// No list.
     pub fn new() -> Gone
-        ensures { result.lists ≡ [] }
+        ensures { gone_lists result.series.items result.counts.items ≡ [] }
     {
-        Gone {}
-    }
-
-    /// The same.
-    pub fn same(&self) -> Gone
-        ensures { result.lists ≡ self.now.lists }
-    {
-        Gone {}
+        Gone {
+            series: Past::new(),
+            counts: Past::new(),
+        }
     }
 
     /// With the first so many of these, which are let go next.
-    pub fn with(&self, kept: &[Kept], count: usize) -> Gone
-        ensures { result.lists ≡ self.now.lists ++ take count (lists_of kept.now) }
+    #[tactic(auto, using(crate::proofs::Leaving::gone_more, crate::proofs::Leaving::paired_more))]
+    pub fn with(&self, series: &Series, count: usize) -> Gone
+        ensures { gone_lists result.series.items result.counts.items ≡ gone_lists self.now.series.items self.now.counts.items ++ take count series.now }
     {
-        Gone {}
+        Gone {
+            series: self.series.with(series),
+            counts: self.counts.with(&count),
+        }
     }
 }

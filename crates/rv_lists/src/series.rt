@@ -2,6 +2,7 @@
 
 ghost use Rattle.std.specs.Prelude.{◌≡◌, ◌<◌, ◌≤◌, ◌+◌, ◌-◌, ◌∷◌, ◌++◌, [], ◌⊎◌, true, false, length, drop, slice_get, option_copied, IfOk, OnOk, OnErr};
 ghost use Rattle.rv_access.specs.Changes.{appended, removed, replaced};
+ghost use Rattle.rv_lists.specs.Given.{gone_of};
 ghost use Rattle.rv_lists.specs.Kept.{StandsAlone, after, last_of, lists_of};
 
 use crate::gone::Gone;
@@ -304,17 +305,17 @@ impl Series {
     /// how many. It takes no memory.
     #[tactic(auto, using(crate::proofs::Leaving::all_there, crate::proofs::Leaving::counted, crate::proofs::Leaving::last_stays))]
     pub fn give_up(&mut self, gone: &mut Gone, most: usize) -> usize
-        ensures all { gone.new.lists ++ self.new ≡ gone.old.lists ++ self.old }
-        ensures count { length gone.new.lists ≡ length gone.old.lists + result }
+        ensures all { gone_of gone.new ++ self.new ≡ gone_of gone.old ++ self.old }
+        ensures count { length (gone_of gone.new) ≡ length (gone_of gone.old) + result }
         ensures most { result ≤ most }
         ensures some { 0 < length self.old → 0 < length self.new }
-        ensures none { length self.old ≡ 0 → gone.new.lists ≡ gone.old.lists }
+        ensures none { length self.old ≡ 0 → gone_of gone.new ≡ gone_of gone.old }
     {
         let count = alone_before(self.kept.as_slice(), most);
         if count == 0 {
             return 0;
         }
-        *gone = gone.with(self.kept.as_slice(), count);
+        *gone = gone.with(self, count);
         drop_front(&mut self.kept, count);
         count
     }

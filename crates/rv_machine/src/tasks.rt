@@ -20,7 +20,7 @@ use rv_flat::unit::FlatUnit;
 use rv_value::{Args, Scalars};
 
 // A task's own body before its declarations.
-fn of_budget(requests: u32) -> Activation
+fn of_budget(requests: u64) -> Activation
     ensures { result ≡ opened (replicate 132 (pos 0)) [] 100000 requests }
 {
     Activation {
@@ -33,7 +33,7 @@ fn of_budget(requests: u32) -> Activation
 
 impl Machine {
     /// A machine at the start of an actor's task, which may make so many requests; its stack is empty (9.2).
-    pub fn start_task(stack: Stack, unit: &FlatUnit, actor: usize, requests: u32) -> Machine
+    pub fn start_task(stack: Stack, unit: &FlatUnit, actor: usize, requests: u64) -> Machine
         requires { IsFor unit.now stack }
         ensures stands { stands unit.now result ≡ and_then (task_run (flat_view unit.now) actor requests) (quit ended) }
         ensures fits { Fits unit.now result }

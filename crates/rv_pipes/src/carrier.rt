@@ -3,7 +3,8 @@
 ghost use Rattle.std.specs.Io.Take.{take_inner};
 ghost use Rattle.rv_pipes.specs.Carrying.{Answers, Carries, CarriesAll, CarriesNext, Writes};
 
-use crate::lines::{Line, Next, next_line};
+use crate::line::Line;
+use crate::lines::{Next, next_line};
 use crate::replies::STOPPED;
 use crossbeam_channel::{Receiver, Sender};
 use rv_script::write_whole;

@@ -3,22 +3,16 @@
 ghost use Rattle.std.specs.Prelude.{◌≡◌, ◌≢◌, ◌++◌, ◌∷◌, [], true, false, All, IfOk, IfSome};
 ghost use Rattle.std.specs.Io.{StopsAt};
 ghost use Rattle.std.specs.Io.Take.{take_inner};
-ghost use Rattle.rv_pipes.specs.Lines.{IsLine, next_bytes};
+ghost use Rattle.rv_pipes.specs.Lines.{next_bytes};
 ghost use Rattle.rv_pipes.specs.Reads.{ReadsNext};
 
+use crate::line::{Line, add};
 use std::alloc::Global;
 use std::io;
-use std::io::{BufRead, ErrorKind, Take};
+use std::io::{BufRead, Take};
 
 /// How many bytes a line has at most, with its line feed.
 pub const MOST_BYTES: u64 = 4096;
-
-/// A line, with its line feed.
-#[derive(Drop)]
-pub(crate) struct Line {
-    pub(crate) bytes: Vec<u8>,
-    ghost is: { IsLine bytes.items },
-}
 
 /// What comes of a pipe.
 #[derive(Drop)]
@@ -35,28 +29,6 @@ pub(crate) enum Next {
 struct Piece {
     words: Vec<u8>,
     is_fed: bool,
-}
-
-// Adds a byte.
-fn add(bytes: &mut Vec<u8>, byte: u8) -> io::Result<()>
-    ensures { IfOk result (λ x. bytes.new.items ≡ bytes.old.items ++ byte ∷ []) }
-{
-    match bytes.push(byte) {
-        Ok(()) => Ok(()),
-        Err(_) => Err(io::Error::from(ErrorKind::OutOfMemory)),
-    }
-}
-
-impl Line {
-    // The line of words without a line feed.
-    fn of_words(words: Vec<u8>) -> io::Result<Line>
-        requires { All (λ x. x ≢ 10) words.items }
-        ensures { IfOk result (λ line. line.bytes.items ≡ words.items ++ 10 ∷ []) }
-    {
-        let mut bytes = words;
-        add(&mut bytes, b'\n')?;
-        Ok(Line { bytes })
-    }
 }
 
 // Reads on, up to a line feed, the greatest length, or the end.

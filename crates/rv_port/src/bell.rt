@@ -11,7 +11,7 @@ const SPINS: u32 = 300;
 // After how many looks a port sleeps.
 const LOOKS: u32 = 400;
 
-/// Rings for those who were answered Busy or Waiting. No ring is lost: who goes to sleep says so
+/// Rings for those who were answered Busy or Waiting, or Full where the journal lasts. No ring is lost: who goes to sleep says so
 /// before the count is compared once more, and who rings adds to the count before it looks for
 /// sleepers.
 #[derive(Drop)]
@@ -66,8 +66,8 @@ impl Bell {
     }
 
     // Lets some time pass before the next look, and sleeps at most until the next ring. A sleeper's
-    // count is compared by its low 32 bits alone, which is enough: a journal has at most 2^20
-    // entries, so the bell never rings 2^32 times.
+    // count is compared by its low 32 bits alone, and by all just before: only 2^32 rings that come
+    // between the two could be missed, and then the next ring wakes it.
     fn pause<R: Wait>(&self, rt: &R, looks: u32, seen: u64) {
         if looks < SPINS {
             hint::spin_loop();
@@ -75,7 +75,9 @@ impl Bell {
             thread::yield_now();
         } else {
             self.sleepers.fetch_add(1, Ordering::SeqCst);
-            self.rings.park(rt, (seen % (1 << 32)) as u32);
+            if self.rings() == seen {
+                self.rings.park(rt, (seen % (1 << 32)) as u32);
+            }
             self.sleepers.fetch_sub(1, Ordering::SeqCst);
         }
     }

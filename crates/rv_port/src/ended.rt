@@ -18,7 +18,7 @@ pub enum Ending {
     Overrun,
     /// Its body made all the requests that it may, so many, and went on: it asked for one more, or took more steps
     /// than it may.
-    BudgetPassed(u32),
+    BudgetPassed(u64),
     /// A request was answered Full.
     Full,
     /// A request was answered Halted.
@@ -58,7 +58,7 @@ pub(crate) struct Course {
     /// What stopped it first, if it was stopped.
     pub(crate) stop: Option<Ending>,
     /// How many requests its own body may still make.
-    pub(crate) unspent: u32,
+    pub(crate) unspent: u64,
 }
 
 /// How a text ends that is stopped by this answer; none where it goes on.
@@ -94,7 +94,7 @@ fn is_own(request: &Request) -> bool
 }
 
 // How many requests a task's own body may still make behind one, before which the task held so many objects.
-fn unspent_behind(held: u64, request: &Request, unspent: u32) -> u32
+fn unspent_behind(held: u64, request: &Request, unspent: u64) -> u64
     ensures { result ≡ unspent_behind held request.now unspent }
 {
     if held == 0 && is_own(request) {
@@ -105,7 +105,7 @@ fn unspent_behind(held: u64, request: &Request, unspent: u32) -> u32
 }
 
 // How a text ends past its limits, with so many requests left of its budget.
-fn past_limits(budget: u32, unspent: u32) -> Ending
+fn past_limits(budget: u64, unspent: u64) -> Ending
     ensures { result ≡ past_limits budget unspent }
 {
     if unspent == 0 {
@@ -117,7 +117,7 @@ fn past_limits(budget: u32, unspent: u32) -> Ending
 
 impl Course {
     /// A run that asked nothing yet.
-    pub(crate) fn fresh(budget: u32) -> Course
+    pub(crate) fn fresh(budget: u64) -> Course
         ensures { result ≡ fresh budget }
     {
         Course {
@@ -137,7 +137,7 @@ impl Course {
     }
 
     /// How the text ended that exits so. One that was stopped was so by one of its requests.
-    pub(crate) fn ending(self, exit: &Exit, budget: u32) -> Ending
+    pub(crate) fn ending(self, exit: &Exit, budget: u64) -> Ending
         ensures { result ≡ ending_of exit.now budget self }
     {
         match exit {

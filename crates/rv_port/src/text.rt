@@ -15,6 +15,7 @@ ghost use Rattle.rv_port.specs.Ports.{pass_of, IsExplained};
 ghost use Rattle.rv_port.specs.Texts.{TextRan, TextRuns};
 
 use crate::asker::Asker;
+use crate::budget::Budget;
 use crate::ended::{Course, Ending};
 use crate::port::Port;
 use rv_behind::event::{Ask, Lent, Reply};
@@ -27,7 +28,7 @@ use rv_turn::Worn;
 use std::sync::Wait;
 
 // How a text ended that exited so, by its run: where its task has a body.
-fn ending_by(bodies: &Bodies, actor: usize, exit: &Exit, budget: u32, course: Course) -> Ending
+fn ending_by(bodies: &Bodies, actor: usize, exit: &Exit, budget: u64, course: Course) -> Ending
     ensures { result ≡ own_ending (task_of (bodies_view bodies.now) actor) exit.now budget course }
 {
     match bodies.task(actor) {
@@ -58,7 +59,7 @@ impl Asker {
         rt: &R,
         ready: &Ready,
         stack: Stack,
-        budget: u32,
+        budget: u64,
     ) -> (Exit, Ending)
         requires { IsFor ready.now.table.unit stack }
         ensures runs { (trace : Trace) × TextRuns (Some (bodies_view ready.now.bodies)) self.old.pass.actor budget trace result.0 × Went self.old.pass trace self.new.pass
@@ -82,7 +83,7 @@ impl Asker {
     }
 
     // Runs the text of the actor's task by these bodies. Where they couldn't be had, or a stack for their run, it asks nothing.
-    fn run_lent<R: Wait>(&mut self, rt: &R, lent: &Option<Lent>, budget: u32) -> (Exit, Ending)
+    fn run_lent<R: Wait>(&mut self, rt: &R, lent: &Option<Lent>, budget: u64) -> (Exit, Ending)
         ensures { TextGoes lent.now self.old.pass self.old.is_refused budget result.0 result.1 self.new.pass self.new.is_refused }
     {
         let Some(lent) = lent else {
@@ -96,7 +97,7 @@ impl Asker {
     }
 
     // Runs the text of the actor's task, if it holds nothing.
-    fn go_on<R: Wait>(&mut self, rt: &R, budget: u32) -> (Exit, Ending)
+    fn go_on<R: Wait>(&mut self, rt: &R, budget: u64) -> (Exit, Ending)
         ensures ran { TextRan self.old.pass self.old.is_refused budget result.0 self.new.pass self.new.is_refused }
         ensures ended { TextEnded self.old.pass self.old.is_refused budget result.0 result.1 self.new.pass self.new.is_refused }
     {
@@ -111,13 +112,8 @@ impl Asker {
 }
 
 impl Port {
-    /// Runs the text of the port's task to its end (9.2, 9.3), by the bodies of the units loaded so
-    /// far: its own body, which may make so many requests, 1 to 1,000,000, and each body that starts
-    /// for it. The last request is Quit, where the task's mode allows it. Where no act is left, or
-    /// the task was left in a body, it is stopped at once; where the bodies have too many holders
-    /// too, and the port is marked. The text runs on a stack of the port's own, and takes no memory. It gives how the text
-    /// exited, and why it ended.
-    pub fn run_text<R: Wait>(&mut self, rt: &R, budget: u32) -> (Exit, Ending)
+    // Runs the text of the port's task to its end, with so many requests of its own.
+    fn run_within<R: Wait>(&mut self, rt: &R, budget: u64) -> (Exit, Ending)
         ensures ran { TextRan (pass_of self.old) self.old.refused budget result.0 (pass_of self.new) self.new.refused }
         ensures ended { TextEnded (pass_of self.old) self.old.refused budget result.0 result.1 (pass_of self.new) self.new.refused }
         ensures stays { Stays (pass_of self.old) (pass_of self.new) }
@@ -125,5 +121,21 @@ impl Port {
         ensures followed { FollowsUnless self.new.refused budget (pass_of self.old) (pass_of self.new) }
     {
         self.asker.go_on(rt, budget)
+    }
+
+    /// Runs the text of the port's task to its end (9.2, 9.3), by the bodies of the units loaded so
+    /// far: its own body, which may make so many requests, 1 to 2^48, and each body that starts
+    /// for it. The last request is Quit, where the task's mode allows it. Where no act is left, or
+    /// the task was left in a body, it is stopped at once; where the bodies have too many holders
+    /// too, and the port is marked. The text runs on a stack of the port's own, and takes no memory. It gives how the text
+    /// exited, and why it ended.
+    pub fn run_text<R: Wait>(&mut self, rt: &R, budget: Budget) -> (Exit, Ending)
+        ensures ran { TextRan (pass_of self.old) self.old.refused budget result.0 (pass_of self.new) self.new.refused }
+        ensures ended { TextEnded (pass_of self.old) self.old.refused budget result.0 result.1 (pass_of self.new) self.new.refused }
+        ensures stays { Stays (pass_of self.old) (pass_of self.new) }
+        ensures explained { IsExplained self.new }
+        ensures followed { FollowsUnless self.new.refused budget (pass_of self.old) (pass_of self.new) }
+    {
+        self.run_within(rt, budget.requests())
     }
 }

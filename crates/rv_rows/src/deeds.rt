@@ -18,9 +18,9 @@ pub enum Deed<'a> {
     Audit,
     /// The journal stands in a file of its own.
     AuditFile(&'a [u8]),
-    /// Its ends are explained.
-    Explain,
-    /// The same of one in a file of its own.
+    /// Its ends are explained, where each unit could spend so many entries, if that was bounded.
+    Explain(Option<u32>),
+    /// The same of one in a file of its own, where that wasn't bounded.
     ExplainFile(&'a [u8]),
 }
 
@@ -48,8 +48,8 @@ pub fn carry_out<R: io::Read, W: io::Write>(
             let _audited = audit_file(alloc, reader, &mut journal, false, &mut watch, written)?;
             Ok(())
         }
-        Deed::Explain => {
-            let _told = audit_explained(alloc, None, reader, written)?;
+        Deed::Explain(allowance) => {
+            let _told = audit_explained(alloc, allowance, reader, written)?;
             Ok(())
         }
         Deed::ExplainFile(journal) => {

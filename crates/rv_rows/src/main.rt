@@ -13,7 +13,7 @@
 //! `NAME.notes`, where it is there, is what has to be told of the lists of the script.
 //! Where a script is played that has texts of units, and no fault, its journal is judged over its units, and each end of a body has
 //! to be what its text means, or `NAME.ends` is what has to be said. Beside a `NAME.verdict` it is what has to be said of ends
-//! below the verdict.
+//! below the verdict; and `NAME.quota` the entries that each unit could spend, where that was bounded.
 //!
 //! Where there is a `NAME.cuts`, the script is also checked cut at every byte: the file has a line `FIRST..LAST -> WORDS`, or
 //! `BYTES -> WORDS`, for as many bytes kept of it, from none to all, which lead to the same words (`bench/model/cuts.py
@@ -47,6 +47,7 @@ use row_files::{bytes_of, names_before};
 use rv_check::warnings::{Warnings, run_warnings_of, warnings_of, whole_warnings_of};
 use rv_exec::machine::STACK_BYTES;
 use rv_fault::Failure;
+use rv_text::natural_of;
 use std::alloc::Global;
 use std::{env, io, thread};
 use unread::told_below;
@@ -86,6 +87,8 @@ struct Wanted {
     is_audited: bool,
     // Whether the ends in a journal that is judged are explained.
     is_explained: bool,
+    // How many entries each unit could spend, where that was bounded.
+    quota: Option<u32>,
     is_refused: bool,
     // Whether its fault is explained.
     is_told: bool,
@@ -158,6 +161,18 @@ fn add_file(rt: &HostRuntime, name: &str, ending: &str, bytes: &mut Vec<u8>) -> 
     }
 }
 
+// The number that stands beside a script in a file `NAME.quota`, if there is one.
+fn quota_beside(rt: &HostRuntime, name: &str) -> io::Result<Option<u32>> {
+    let Some(file) = bytes_of(rt, name, "quota")? else {
+        return Ok(None);
+    };
+    let word = str::from_utf8(file.as_slice()).unwrap_or("");
+    match natural_of(word.trim_end()) {
+        Some(number) if number <= u32::MAX as u64 => Ok(Some(number as u32)),
+        _ => Ok(None),
+    }
+}
+
 // What stands beside a script.
 fn wanted_for(rt: &HostRuntime, name: &str) -> io::Result<Wanted> {
     let mut bytes = Vec::new(rt.alloc());
@@ -165,6 +180,7 @@ fn wanted_for(rt: &HostRuntime, name: &str) -> io::Result<Wanted> {
     let is_whole = add_file(rt, name, "whole", &mut bytes)?;
     let is_audited = add_file(rt, name, "verdict", &mut bytes)?;
     let is_explained = is_audited && add_file(rt, name, "ends", &mut bytes)?;
+    let quota = quota_beside(rt, name)?;
     let _is_played = add_file(rt, name, "journal", &mut bytes)?;
     let is_refused = add_file(rt, name, "fault", &mut bytes)?;
     let is_told = add_file(rt, name, "explained", &mut bytes)?;
@@ -175,6 +191,7 @@ fn wanted_for(rt: &HostRuntime, name: &str) -> io::Result<Wanted> {
         is_whole,
         is_audited,
         is_explained,
+        quota,
         is_refused,
         is_told,
         has_notes,
@@ -184,7 +201,7 @@ fn wanted_for(rt: &HostRuntime, name: &str) -> io::Result<Wanted> {
 // What is done with a script whose journal stands in no file of its own.
 fn deed_beside(wanted: &Wanted) -> Deed<'static> {
     if wanted.is_audited && wanted.is_explained {
-        Deed::Explain
+        Deed::Explain(wanted.quota)
     } else if wanted.is_audited {
         Deed::Audit
     } else if wanted.is_whole {

@@ -57,7 +57,7 @@ pub fn run_task<R, O: Outward<R>>(
     table: &Table,
     stack: Stack,
     actor: usize,
-    requests: u32,
+    requests: u64,
     outward: &mut O,
 ) -> (Exit, Stack)
     requires { IsFor table.now.unit stack }

@@ -2,7 +2,7 @@
 //! that no answer waits while one looks back.
 #![tactic(auto)]
 
-ghost use Rattle.std.specs.Prelude.{◌≡◌, ◌<◌, ◌^◌, ◌∷◌, [], ℕ, List, length};
+ghost use Rattle.std.specs.Prelude.{◌≡◌, ◌<◌, ◌^◌, ◌∷◌, [], ℕ, List, None, Some, length};
 ghost use Rattle.rv_event.specs.declared.entry.Entry.TheVariants.{Asked};
 ghost use Rattle.rv_event.specs.declared.entry.Entry.{Entry};
 ghost use Rattle.rv_event.specs.declared.entry.Recorded.{Recorded};
@@ -61,14 +61,33 @@ impl Spent {
         self.counts[unit] = self.counts[unit].saturating_add(1);
     }
 
+    // One entry more, of a request that is charged to this unit.
+    #[tactic(auto, using(crate::proofs::Counting::noted))]
+    fn charge_to(&mut self, unit: usize)
+        ensures { (shapes : List Shape) (past : List Entry) (actor : ℕ) (request : Request) (word : Recorded) →
+            length past < 10 ^ 12 → AreSpent shapes past self.old → Some unit ≡ charged shapes past actor request →
+            AreSpent shapes (Asked actor request word ∷ past) self.new }
+    {
+        self.count(unit);
+    }
+
+    // One entry more, of a request that is charged to none.
+    #[tactic(auto, using(crate::proofs::Counting::unnoted))]
+    fn charge_to_none(&self)
+        ensures { (shapes : List Shape) (past : List Entry) (actor : ℕ) (request : Request) (word : Recorded) →
+            None ≡ charged shapes past actor request → AreSpent shapes past self.now →
+            AreSpent shapes (Asked actor request word ∷ past) self.now }
+    {}
+
     /// One entry more, of a request that is charged to this unit, if it is to one.
     pub fn charge(&mut self, unit: Option<usize>)
         ensures { (shapes : List Shape) (past : List Entry) (actor : ℕ) (request : Request) (word : Recorded) →
             length past < 10 ^ 12 → AreSpent shapes past self.old → unit ≡ charged shapes past actor request →
             AreSpent shapes (Asked actor request word ∷ past) self.new }
     {
-        if let Some(unit) = unit {
-            self.count(unit);
+        match unit {
+            Some(unit) => self.charge_to(unit),
+            None => self.charge_to_none(),
         }
     }
 
