@@ -4,20 +4,29 @@ use Rattle.std.specs.Prelude.{◌≢◌, ◌⊎◌, All, IfSome}
 use Rattle.std.specs.Option.{option_map}
 use Rattle.std.specs.Io.{StopsAt, appended_bytes}
 use Rattle.std.specs.Io.BufRead.{take_through}
+use Rattle.std.specs.Io.Take.{take_inner, take_limit, take_remaining}
+use Rattle.std.specs.declared.io.traits.Take.{Take}
 use Rattle.std.proofs.lemmas.List.{length-append}
 use Rattle.std.proofs.lemmas.List.Elements.{All-append}
 use Rattle.std.proofs.Math.Seq.{take-append_seam}
 use Rattle.rv_pipes.specs.Lines.{next_bytes}
 
 -- no line feed
-abbrev Other : ℕ → Type 0
+abbrev pub Other : ℕ → Type 0
 Other x = x ≢ 10
 
+known_first : (left : Option (List ℕ)) (limit : ℕ) (items before : List ℕ) → limit ≡ 4096 → before ≡ []
+    → IfSome (option_map (take limit) left) (λ xs. items ≡ before ++ take_through 10 xs) → IfSome left (λ xs. items ≡ next_bytes xs)
+known_first None limit items before l b e = tt
+known_first (Some xs) limit items before l b e =
+    e ∙ (ap (λ (z : List ℕ). z ++ take_through 10 (take limit xs)) b ∙ ap (λ (n : ℕ). take_through 10 (take n xs)) l)
+
 -- what a reader that is limited to a line gave
-pub known_next : (left : Option (List ℕ)) (items : List ℕ) → IfSome (option_map (take 4096) left) (λ xs. items ≡ [] ++ take_through 10 xs)
-    → IfSome left (λ xs. items ≡ next_bytes xs)
-known_next None items e = tt
-known_next (Some xs) items e = e
+pub known_next : {R : Type 0} (remaining : R → Option (List ℕ)) (old new : Take R) (items before : List ℕ) → take_limit new ≡ 4096
+    → take_inner new ≡ take_inner old → before ≡ [] → IfSome (take_remaining remaining new) (λ xs. items ≡ before ++ take_through 10 xs)
+    → IfSome (remaining (take_inner old)) (λ xs. items ≡ next_bytes xs)
+known_next {R} remaining old new items before l i b e = known_first (remaining (take_inner old)) (take_limit new) items before l b
+    (subst (λ (r : R). IfSome (option_map (take (take_limit new)) (remaining r)) (λ xs. items ≡ before ++ take_through 10 xs)) i e)
 
 pub stops_whole : (old items : List ℕ) → old ≡ [] → StopsAt (appended_bytes old items) 10 → StopsAt items 10
 stops_whole old items none stops = subst (λ (xs : List ℕ). StopsAt (drop (length xs) items) 10) none stops

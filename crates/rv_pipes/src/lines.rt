@@ -32,7 +32,7 @@ struct Piece {
 }
 
 // Reads on, up to a line feed, the greatest length, or the end.
-#[tactic(auto, using(crate::proofs::Read::known_next, crate::proofs::Read::stops_whole))]
+#[tactic(auto, using(crate::proofs::Read::stops_whole))]
 fn read_on<I: BufRead>(alloc: Global, reader: &mut Take<I>) -> io::Result<Vec<u8>>
     ensures stops { IfOk result (λ line. StopsAt line.items 10) }
     ensures known { IfOk result (λ line. IfSome (I.remaining (take_inner reader.old)) (λ xs. line.items ≡ next_bytes xs)) }
