@@ -30,7 +30,7 @@ passes_before list line zero test less p = absurd (no_line (list ++ line ∷ [])
 passes_before list line (suc k) test less p =
     sym (ap (passes test) (line_behind (list ++ line ∷ []) k ∙ (item_stays list line (suc k - 1) (omega (arith, less)) ∙ sym (line_behind list k)))) ∙ p
 
-at_last : (list : List Words) (line : Words) (number : ℕ) (test : Words → Bool) → Passes (list ++ line ∷ []) number test → (Passes list number test → ⊥) → number ≡ length (list ++ line ∷ [])
+pub at_last : (list : List Words) (line : Words) (number : ℕ) (test : Words → Bool) → Passes (list ++ line ∷ []) number test → (Passes list number test → ⊥) → number ≡ length (list ++ line ∷ [])
 at_last list line number test p not_before = by_cases (cases_lt (length list) number)
   where
     longer : length (list ++ line ∷ []) ≡ length list + 1
@@ -71,7 +71,7 @@ all_new scene list line notes adds = record {
 }
 
 -- the list that such a change makes
-made_by : (list : List Words) (line : Words) (after : List Words) → Some after ≡ made list (Append line) → after ≡ list ++ line ∷ []
+pub made_by : (list : List Words) (line : Words) (after : List Words) → Some after ≡ made list (Append line) → after ≡ list ++ line ∷ []
 made_by list line after e = by_room (nat_lt (length list) most_lines) e
   where
     by_room : (b : Bool) → Some after ≡ (if b then Some (list ++ line ∷ []) else None) → after ≡ list ++ line ∷ []

@@ -159,13 +159,13 @@ spans later line all never tick opened =
         absurd (never (name_for line.unit) (name_for line.object) (name_for line.operation) tick (matches_own line tick opened)
         (none_decides later (name_for line.unit) (name_for line.object) (name_for line.operation) tick e))
 
-to_nothing : (list : List Words) (k : ℕ) (line : Words) → k < length list → line ≡ get_or list k line → All IsSpelled list → IsSpanned (drop (suc k) list) line → DecidesNothing list (suc k)
+pub to_nothing : (list : List Words) (k : ℕ) (line : Words) → k < length list → line ≡ get_or list k line → All IsSpelled list → IsSpanned (drop (suc k) list) line → DecidesNothing list (suc k)
 to_nothing list k line less is all spanned unit object operation tick e =
     let both = decided_by list k line unit object operation tick less e in
     let here : matches line unit object operation tick ≡ true = subst (λ (l : Words). matches l unit object operation tick ≡ true) (sym is) both.0 in
     covers (drop (suc k) list) line (All-drop IsSpelled (suc k) list all) spanned unit object operation tick here both.1
 
-from_nothing : (list : List Words) (k : ℕ) (line : Words) → k < length list → line ≡ get_or list k line → All IsSpelled list → DecidesNothing list (suc k) → IsSpanned (drop (suc k) list) line
+pub from_nothing : (list : List Words) (k : ℕ) (line : Words) → k < length list → line ≡ get_or list k line → All IsSpelled list → DecidesNothing list (suc k) → IsSpanned (drop (suc k) list) line
 from_nothing list k line less is all nothing =
     spans (drop (suc k) list) line (All-drop IsSpelled (suc k) list all)
     (λ unit object operation tick here none.

@@ -6,3 +6,4 @@ pub mod Adding
 pub mod Changing
 pub mod Named
 pub mod Appending
+pub mod CoveredAnew

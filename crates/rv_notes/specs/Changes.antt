@@ -1,5 +1,5 @@
 -- What is told of a change of one line of a list: the notes on that line, and those that weren't due before. (own)
-use Rattle.std.specs.Prelude.{◌≡◌, ◌⊎◌, ◌&&◌, ℕ, Bool, true, false, not, nat_lt, if◌then◌else◌, List, [], length, Option, Some, None}
+use Rattle.std.specs.Prelude.{◌≡◌, ◌⊎◌, ◌<◌, ◌≤◌, ◌&&◌, ℕ, Bool, true, false, not, nat_lt, if◌then◌else◌, List, [], length, Option, Some, None}
 use Rattle.std.specs.List.{All, Contains}
 use Rattle.rv_access.specs.Changes.{changed}
 use Rattle.rv_access.specs.Limits.{most_lines}
@@ -7,6 +7,7 @@ use Rattle.rv_access.specs.Words.{Words}
 use Rattle.rv_access.specs.declared.change.Change.{Change}
 use Rattle.rv_access.specs.declared.change.Change.TheVariants.{Append, Replace}
 use Rattle.rv_notes.specs.Names.{Scene}
+use Rattle.rv_notes.specs.Covered.{DecidesNothing}
 use Rattle.rv_notes.specs.Notes.{Due, number_of}
 use Rattle.rv_notes.specs.declared.note.Note.{Note}
 use Rattle.rv_notes.specs.declared.note.Note.TheVariants.{Covered}
@@ -38,6 +39,16 @@ is_of_cover note = false
 abbrev pub IsNew : Scene → List Words → ℕ → Bool → Note → Type 0
 IsNew scene before number is_denial note =
     (number_of note ≡ number) ⊎ (((is_denial && is_of_cover note) ≡ false) × (Due scene before note → ⊥))
+
+-- the line of a number decides nothing in the one list, and decided something in the other
+abbrev pub IsCoveredAnew : List Words → List Words → ℕ → Type 0
+IsCoveredAnew before after number = DecidesNothing after number × (DecidesNothing before number → ⊥)
+
+-- each of these notes is due now, and new, where an appended line allows; and each of a line up to a number that is covered anew is
+-- among them
+pub record AreCoversAnew (scene : Scene) (before after : List Words) (number : ℕ) (notes : List Note) : Type 0 where
+  pub due : All (λ note. Due scene after note × IsNew scene before (length after) false note) notes
+  pub all : (k : ℕ) → 0 < k → k ≤ number → IsCoveredAnew before after k → Contains notes (Covered k)
 
 -- each of these notes is due now, and new; and each such note is among them
 pub record AreNew (scene : Scene) (before after : List Words) (number : ℕ) (is_denial : Bool) (notes : List Note) : Type 0 where

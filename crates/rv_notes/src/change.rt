@@ -1,18 +1,21 @@
 //! The notes on a change of one line of a list.
 
-ghost use Rattle.std.specs.Prelude.{◌≡◌, ◌&&◌, true, false, IfOk, List, Some, string_bytes};
+ghost use Rattle.std.specs.Prelude.{◌≡◌, ◌<◌, ◌≤◌, ◌↔◌, ◌&&◌, ◌∷◌, ◌++◌, [], true, false, length, IfOk, IsTrue, List, Some, string_bytes};
 ghost use Rattle.std.specs.List.{Contains};
-ghost use Rattle.rv_notes.specs.Changes.{AreChangeNotes, AreNew, IsNew, denies, is_of_cover, line_changed, made};
+ghost use Rattle.rv_notes.specs.Changes.{AreChangeNotes, AreCoversAnew, AreNew, IsCoveredAnew, IsNew, denies, is_of_cover, line_changed, made};
 ghost use Rattle.rv_notes.specs.Notes.{AreNotes};
 ghost use Rattle.rv_notes.specs.Telling.{TellsChange};
 ghost use Rattle.rv_notes.specs.Names.{Scene};
 ghost use Rattle.rv_access.specs.Words.{Words};
+ghost use Rattle.rv_access.specs.declared.change.Change.{Change};
+ghost use Rattle.rv_access.specs.declared.change.Change.TheVariants.{Append};
 
-use crate::judge::{notes, notes_on_last, tell};
+use crate::covered::{is_covered, is_wider};
+use crate::judge::{add_notes, notes, notes_on_last, tell};
 use crate::note::Note;
 use crate::scene::Scene;
 use crate::telling::put_notes;
-use rv_access::{AccessList, Change, MOST_LINES};
+use rv_access::{AccessList, Change, Line, MOST_LINES};
 use rv_shape::catalogue::Catalogue;
 use std::alloc::{AllocError, Global};
 
@@ -100,8 +103,70 @@ pub fn denies(change: &Change) -> bool
     }
 }
 
+// Whether the line of a number, one of 1 .. `len` of the list before, decides nothing in the list that an appended line makes, and
+// decided something. Err where memory was refused.
+#[tactic(auto, using(crate::proofs::CoveredAnew::not_anew))]
+fn is_covered_anew(
+    alloc: Global,
+    before: &AccessList,
+    after: &AccessList,
+    line: &Line,
+    number: usize,
+) -> Result<bool, AllocError>
+    requires counted { 0 < number }
+    requires there { number ≤ length before.now }
+    requires longer { length before.now < length after.now }
+    ensures { after.now ≡ before.now ++ line.now ∷ [] → IfOk result (λ told. IsTrue told ↔ IsCoveredAnew before.now after.now number) }
+{
+    before.spelled();
+    after.spelled();
+    if !is_wider(line, &before.lines()[number - 1]) {
+        return Ok(false);
+    }
+    if !is_covered(alloc, after, number)? {
+        return Ok(false);
+    }
+    Ok(!is_covered(alloc, before, number)?)
+}
+
+// The notes on the lines that an appended line alone covers. Err where memory was refused.
+fn covered_anew(
+    alloc: Global,
+    before: &AccessList,
+    after: &AccessList,
+    line: &Line,
+) -> Result<Vec<Note>, AllocError>
+    requires longer { length before.now < length after.now }
+    ensures { (scene : Scene) → after.now ≡ before.now ++ line.now ∷ [] → IfOk result (λ notes. AreCoversAnew scene before.now after.now (length before.now) notes.items) }
+{
+    let mut notes = Vec::new(alloc);
+    for place in 0..before.len() {
+        let is_told = is_covered_anew(alloc, before, after, line, place + 1)?;
+        tell(&mut notes, is_told, Note::Covered(place + 1))?;
+    }
+    Ok(notes)
+}
+
+// The notes on an appended line that allows: those on the lines that it alone covers, and on itself; no other line is as it wasn't
+// before. Err where memory was refused.
+fn notes_on_append(
+    alloc: Global,
+    scene: &Scene<'_>,
+    before: &AccessList,
+    after: &AccessList,
+    line: &Line,
+) -> Result<Vec<Note>, AllocError>
+    requires longer { length before.now < length after.now }
+    ensures { (change : Change) → change ≡ Append line.now → line.now.allow ≡ true → Some after.now ≡ made before.now change
+        → IfOk result (λ notes. AreChangeNotes scene.now before.now change notes.items) }
+{
+    let mut notes = covered_anew(alloc, before, after, line)?;
+    add_notes(alloc, scene, after, after.len(), &mut notes)?;
+    Ok(notes)
+}
+
 // The notes on a change that makes this list. A line that is appended, and denies, brings notes on itself alone: what stood before it is as
-// it was, and what it covers it covers on purpose.
+// it was, and what it covers it covers on purpose. One that allows brings also those on lines that it alone covers.
 fn notes_made(
     alloc: Global,
     scene: &Scene<'_>,
@@ -113,6 +178,9 @@ fn notes_made(
 {
     match change {
         Change::Append(line) if !line.allows() => notes_on_last(alloc, scene, after),
+        Change::Append(line) if before.len() < after.len() => {
+            notes_on_append(alloc, scene, before, after, line)
+        }
         _ => notes_compared(alloc, scene, before, after, change),
     }
 }

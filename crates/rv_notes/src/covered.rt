@@ -10,8 +10,8 @@ use crate::spans::{Span, are_held};
 use rv_access::{AccessList, Line, fits};
 use std::alloc::{AllocError, Global};
 
-// Whether each word of the first line fits whatever that of the other fits.
-fn is_wider(wide: &Line, line: &Line) -> bool
+/// Whether each word of the first line fits whatever that of the other fits.
+pub(crate) fn is_wider(wide: &Line, line: &Line) -> bool
     ensures { result ≡ is_wider wide.now line.now }
 {
     fits(wide.unit(), line.unit())

@@ -20,8 +20,8 @@ pub(crate) fn tell(notes: &mut Vec<Note>, is_told: bool, note: Note) -> Result<(
     Ok(())
 }
 
-// Adds the notes on the line of a number, one of 1 .. `len`. Err where memory was refused.
-fn add_notes(
+/// Adds the notes on the line of a number, one of 1 .. `len`. Err where memory was refused.
+pub(crate) fn add_notes(
     alloc: Global,
     scene: &Scene<'_>,
     list: &AccessList,
