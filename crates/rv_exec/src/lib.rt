@@ -9,7 +9,6 @@ pub mod bodies;
 pub mod choices;
 pub mod end;
 pub mod laws;
-pub mod machine;
 pub mod operators;
 pub mod outcome;
 pub mod outward;
