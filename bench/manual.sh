@@ -121,7 +121,7 @@ for line in open(sys.argv[1]):
 # Faults of a line's own words, but where a number is the fault, a word of the console, a section that another command serves, or
 # nothing that an editor shows.
 told = ("BadStep", "BadSection", "list BadWord", "list BadName", "lex BadCharacter", "lex NotAscii")
-not_told = {"go_zero_times", "go_below_zero_times", "step_calls_with_5_values", "step_operator_without_request",
+not_told = {"go_zero_times", "go_below_zero_times", "archive_of_fewer_than_none", "step_calls_with_5_values", "step_operator_without_request",
             "step_raises_with_a_letter_past_ascii", "step_without_request", "list_name_ends_in_underscore", "cause_command_journal",
             "cause_command_raise", "cause_command_blank", "cause_mark_before_a_section", "cause_load_of_a_section",
             "cause_step_33_components", "cause_step_alone", "cause_step_go", "cause_step_values_5", "whole_load_without_end",
