@@ -56,6 +56,23 @@ flags_named() {
     [ "$missing:$((count > 14))" = 0:1 ]
 }
 
+# Each status that README has, and each request of a step that SCRIPTS has, below the page's own heads.
+statuses_and_requests() {
+    python3 - "$folder/page" <<'END'
+import re, sys
+page = open(sys.argv[1]).read()
+below = lambda head, end: re.search(head + r"\n(.*?)" + end, page, re.S)[1]
+told = re.search(r"^- Statuses: (.*?)\n-", open("README.md").read(), re.S | re.M)[1]
+statuses = set(re.findall(r"\b(\d+)[ ,]", told))
+stated = {it for row in re.findall(r"^ {5}(\d[\d, ]*?)(?: {2,}|$)", below("EXIT STATUS", "\nEXAMPLES"), re.M) for it in row.split(", ")}
+requests = set(re.findall(r"^- `(?:ACTOR|Int_K|operator) (\w+)", open("docs/SCRIPTS.md").read(), re.M))
+said = set(re.findall(r"\w+", below(" +Steps", "\n +Commands of a run")))
+assert len(statuses) > 7 and len(requests) > 12, (statuses, requests)
+missing = [f"status {it}" for it in sorted(statuses - stated, key=int)] + [f"request {it}" for it in sorted(requests - said)]
+sys.exit("not in the page: " + ", ".join(missing) if missing else 0)
+END
+}
+
 # What clap is told in the source stands in the stored help. bench/command_line.py compares it with the program's own.
 stored_help() {
     python3 - <<'END'
@@ -189,6 +206,7 @@ due "mandoc -Tlint" lint
 due "man --warnings" groff_page
 due "sentences of at most 20 words" sentences
 due "each flag stands in the page" flags_named
+due "each status and each request of a step stands in the page" statuses_and_requests
 due "the stored help has the words of the source" stored_help
 due "completions are those of the help" manual/completions.py --check
 due "a changed help is seen" stale
