@@ -1,7 +1,7 @@
 //! Characters of a unit text that make no word.
 
 use crate::cause::Cause;
-use crate::line::Form;
+use crate::forms::Form;
 use crate::words::Words;
 
 // What is said of a character, by what stands there.

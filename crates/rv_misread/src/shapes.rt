@@ -1,0 +1,198 @@
+//! Which line makes a text no shape. Each line is judged by the reader, in a text of a unit and an object, and each barrier among the
+//! scalars of its object.
+
+ghost use Rattle.std.specs.Prelude.{◌≡◌, ◌++◌, codes, is_some, IfOk};
+ghost use Rattle.rv_shape.specs.ShapeText.{shape_of};
+
+use rv_shape::fault::ShapeFault;
+use rv_shape::reading::read_shape;
+use rv_text::{integer_of, next_line, next_word};
+use std::alloc::{AllocError, Global};
+
+/// Why a text is no shape. A number is that of a line, from 0.
+#[derive(Clone, Copy, Debug, Drop, PartialEq, Eq)]
+pub enum ShapeReason {
+    /// This first line isn't `unit` and a name, or there is none.
+    NoUnit,
+    /// This line is none of those that a shape has.
+    NoForm(usize),
+    /// This line is a part of a protected object, and stands directly below none.
+    Outside(usize),
+    /// The barrier of the entry in this line is none of its object's.
+    NoBarrier(usize),
+    /// The handler in this line has no interrupt line.
+    NoInterrupt(usize),
+}
+
+// Whether a text is a shape. Err where memory was refused.
+fn is_shape(alloc: Global, text: &str) -> Result<bool, AllocError>
+    ensures { IfOk result (λ is. is ≡ is_some (shape_of text.now)) }
+{
+    match read_shape(alloc, text) {
+        Ok(_) => Ok(true),
+        Err(ShapeFault::NoMemory) => Err(AllocError),
+        Err(_) => Ok(false),
+    }
+}
+
+// Whether a line stands in a shape below a unit. Err where memory was refused.
+fn is_of_unit(alloc: Global, line: &str) -> Result<bool, AllocError>
+    ensures { IfOk result (λ is. is ≡ is_some (shape_of (codes "unit U\n" ++ line.now ++ codes "\n"))) }
+{
+    let text = format!(in alloc; "unit U\n{line}\n")?;
+    is_shape(alloc, text.as_str())
+}
+
+// Whether a line stands in a shape below a protected object of these lines. Err where memory was refused.
+fn is_of_object(alloc: Global, lines: &str, line: &str) -> Result<bool, AllocError>
+    ensures { IfOk result (λ is. is ≡ is_some (shape_of (codes "unit U\nprotected P 1\n" ++ lines.now ++ line.now ++ codes "\n"))) }
+{
+    let text = format!(in alloc; "unit U\nprotected P 1\n{lines}{line}\n")?;
+    is_shape(alloc, text.as_str())
+}
+
+// Whether a line begins with a word.
+fn begins(line: &str, key: &str) -> bool {
+    match next_word(line) {
+        Some((word, _)) => word == key,
+        None => false,
+    }
+}
+
+// The line with a word that is right in the place of a barrier, or of a number of an interrupt line. Err where memory was refused.
+fn mended(alloc: Global, line: &str) -> Result<String, AllocError> {
+    if let Some((key, rest)) = next_word(line) {
+        if let Some((name, rest)) = next_word(rest) {
+            if let Some((word, rest)) = next_word(rest) {
+                if key == "entry" {
+                    return format!(in alloc; "{key} {name} open {rest}");
+                }
+                if key == "handler" && integer_of(word).is_some() {
+                    return format!(in alloc; "{key} {name} 0 {rest}");
+                }
+            }
+        }
+    }
+    String::from_str(alloc, line)
+}
+
+// Why a line behind the first, of this number, stands where it does in no shape, barriers and interrupt lines aside.
+fn line_reason(
+    alloc: Global,
+    number: usize,
+    line: &str,
+    is_inside: bool,
+) -> Result<Option<ShapeReason>, AllocError> {
+    let mended = mended(alloc, line)?;
+    if !is_of_object(alloc, "", mended.as_str())? {
+        return Ok(Some(ShapeReason::NoForm(number)));
+    }
+    if !is_inside && !is_of_unit(alloc, mended.as_str())? {
+        return Ok(Some(ShapeReason::Outside(number)));
+    }
+    Ok(None)
+}
+
+// Whether a line that is right goes on with the parts of a protected object, where the one before it does or doesn't.
+fn goes_on(alloc: Global, line: &str, is_inside: bool) -> Result<bool, AllocError> {
+    if begins(line, "protected") {
+        return Ok(true);
+    }
+    if !is_inside {
+        return Ok(false);
+    }
+    let mended = mended(alloc, line)?;
+    Ok(!is_of_unit(alloc, mended.as_str())?)
+}
+
+// The lines of the scalars of the object whose parts a text begins with.
+fn scalars_of(alloc: Global, text: &str) -> Result<String, AllocError> {
+    let mut scalars = String::new(alloc);
+    let mut rest = text;
+    'each: while let Some((line, behind)) = next_line(rest) {
+        if begins(line, "scalar") {
+            scalars.push_str(line)?;
+            scalars.push_str("\n")?;
+        } else if begins(line, "protected") || begins(line, "task") || begins(line, "suspension") {
+            return Ok(scalars);
+        }
+        rest = behind;
+    }
+    Ok(scalars)
+}
+
+// Which barrier or interrupt line is none, where all lines are right but for those.
+fn barrier_reason(alloc: Global, text: &str) -> Result<Option<ShapeReason>, AllocError> {
+    let mut scalars = String::new(alloc);
+    let mut number = 0usize;
+    let mut rest = text;
+    'each: while let Some((line, behind)) = next_line(rest) {
+        if begins(line, "protected") {
+            scalars = scalars_of(alloc, behind)?;
+        }
+        if begins(line, "entry") && !is_of_object(alloc, scalars.as_str(), line)? {
+            return Ok(Some(ShapeReason::NoBarrier(number)));
+        }
+        if begins(line, "handler") && !is_of_object(alloc, "", line)? {
+            return Ok(Some(ShapeReason::NoInterrupt(number)));
+        }
+        number = number.saturating_add(1);
+        rest = behind;
+    }
+    Ok(None)
+}
+
+/// Why a text is no shape; `None` where it is one. Err where memory was refused.
+pub fn shape_reason(alloc: Global, text: &str) -> Result<Option<ShapeReason>, AllocError> {
+    let Some((first, behind)) = next_line(text) else {
+        return Ok(Some(ShapeReason::NoUnit));
+    };
+    if !is_shape(alloc, first)? {
+        return Ok(Some(ShapeReason::NoUnit));
+    }
+    let mut is_inside = false;
+    let mut number = 1usize;
+    let mut rest = behind;
+    'each: while let Some((line, behind)) = next_line(rest) {
+        if let Some(reason) = line_reason(alloc, number, line, is_inside)? {
+            return Ok(Some(reason));
+        }
+        is_inside = goes_on(alloc, line, is_inside)?;
+        number = number.saturating_add(1);
+        rest = behind;
+    }
+    barrier_reason(alloc, text)
+}
+
+#[cfg(test)]
+mod tests {
+    use crate::shapes::{ShapeReason, shape_reason};
+    use std::alloc::Global;
+
+    // The reason of a text, if memory lasts.
+    fn reason_of(alloc: Global, text: &str) -> Option<ShapeReason> {
+        match shape_reason(alloc, text) {
+            Ok(reason) => reason,
+            Err(_) => None,
+        }
+    }
+
+    #[test]
+    fn reasons_of_shapes(rt: HostRuntime) {
+        let alloc = rt.alloc();
+        assert_eq!(rt; reason_of(alloc, "unit U\ntask T 5\n"), None);
+        assert_eq!(rt; reason_of(alloc, "unit\n"), Some(ShapeReason::NoUnit));
+        assert_eq!(rt;
+            reason_of(alloc, "unit U\ntask T\n"),
+            Some(ShapeReason::NoForm(1))
+        );
+        assert_eq!(rt;
+            reason_of(alloc, "unit U\nentry E open\n"),
+            Some(ShapeReason::Outside(1))
+        );
+        let barrier = "unit U\nprotected P 5\nentry E 2\nscalar 0 1 0\n";
+        assert_eq!(rt; reason_of(alloc, barrier), Some(ShapeReason::NoBarrier(2)));
+        let line = "unit U\nprotected P 35\nhandler H 10\n";
+        assert_eq!(rt; reason_of(alloc, line), Some(ShapeReason::NoInterrupt(2)));
+    }
+}
