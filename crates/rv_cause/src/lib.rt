@@ -10,7 +10,6 @@ pub mod forms;
 pub mod grammar;
 pub mod handlers;
 pub mod known;
-pub mod lexical;
 pub mod library;
 pub mod names;
 pub mod nulls;

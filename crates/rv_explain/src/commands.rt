@@ -1,7 +1,8 @@
 //! Lines behind a line `@run` that are no commands.
 
-use crate::line::{Form, Line, said_of};
+use crate::line::{Line, said_of};
 use rv_cause::cause::Cause;
+use rv_cause::forms::Form;
 use rv_text::integer_of;
 
 const ENDING: &str = "nothing may stand behind halt, nor behind quit";

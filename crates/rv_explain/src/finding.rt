@@ -75,7 +75,7 @@ fn of_list<'a>(
     };
     let words = Line::of(alloc, spot.line, 0)?;
     let first = if is_part { 0 } else { first_of_step(&words) };
-    let cause = cause_of_list(spot.line, &words, first);
+    let cause = cause_of_list(spot.line, &words, first, fault);
     of_line(alloc, &spot, &cause, &Known::new(alloc))
 }
 
@@ -286,7 +286,7 @@ fn of_command<'a>(
 ) -> Result<Explanation<'a>, AllocError> {
     let words = Line::of(alloc, line, 0)?;
     let cause = match what {
-        What::List(_) => cause_of_list(line, &words, first_of_step(&words)),
+        What::List(fault) => cause_of_list(line, &words, first_of_step(&words), fault),
         _ => bad_command(&words),
     };
     let spot = Spot {

@@ -1,6 +1,7 @@
 //! The words of a line of a script, each with its place.
 
 use rv_cause::cause::Cause;
+use rv_cause::forms::Form;
 use rv_text::{integer_of, next_line, next_word};
 use std::alloc::{AllocError, Global};
 
@@ -17,13 +18,6 @@ pub(crate) struct Line<'a> {
     parts: Vec<Part<'a>>,
     // Where it ends.
     end: usize,
-}
-
-/// What is said of a line by its first word.
-#[derive(Clone, Copy)]
-pub(crate) struct Form {
-    pub(crate) word: &'static str,
-    pub(crate) said: &'static str,
 }
 
 /// What the first form says that has this word, letter for letter.

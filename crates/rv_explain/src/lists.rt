@@ -1,6 +1,7 @@
 //! Lines that are no lines of a list.
 
 use crate::line::Line;
+use rv_access::ListFault;
 use rv_cause::cause::Cause;
 use rv_misread::{LineReason, line_reason};
 use rv_text::is_identifier;
@@ -70,10 +71,18 @@ fn told<'a>(line: &Line<'a>, first: usize, reason: LineReason) -> Cause<'a> {
     }
 }
 
-/// Why the words of a line of this text, from one of a number on, aren't taken into a list.
-pub(crate) fn cause_of_list<'a>(text: &'a str, line: &Line<'a>, first: usize) -> Cause<'a> {
+/// Why the words of a line of this text, from one of a number on, aren't taken into a list; the fault is the one that was told.
+pub(crate) fn cause_of_list<'a>(
+    text: &'a str,
+    line: &Line<'a>,
+    first: usize,
+    fault: ListFault,
+) -> Cause<'a> {
+    if let ListFault::TooMany(_) = fault {
+        return line.cause(0, "this is the 513th line of the list; 512 are the most");
+    }
     match line_reason(text.get(line.at(first)..).unwrap_or("")) {
         Some(reason) => told(line, first, reason),
-        None => line.cause(0, "this is the 513th line of the list; 512 are the most"),
+        None => Cause::plain(0, "memory was refused"),
     }
 }

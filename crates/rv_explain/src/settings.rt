@@ -1,7 +1,8 @@
 //! What stands against settings.
 
-use crate::line::{Form, said_of};
+use crate::line::said_of;
 use rv_cause::cause::Cause;
+use rv_cause::forms::Form;
 use rv_misread::{SettingsReason, bad_value, not_toml, unknown_key};
 use rv_near::nearest;
 use rv_settings::SettingsFault;

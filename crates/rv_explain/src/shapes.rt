@@ -1,8 +1,8 @@
 //! What stands against the text of a shape.
 
-use crate::line::{Form, Line, said_of};
+use crate::line::{Line, said_of};
 use rv_cause::cause::Cause;
-use rv_cause::forms::is_listed;
+use rv_cause::forms::{Form, is_listed};
 use rv_cause::known::Known;
 use rv_misread::{ShapeReason, shape_reason};
 use rv_text::is_same_name;

@@ -1,7 +1,8 @@
 //! Lines that are no steps.
 
-use crate::line::{Form, Line, said_of};
+use crate::line::{Line, said_of};
 use rv_cause::cause::Cause;
+use rv_cause::forms::Form;
 use rv_misread::{StepReason, step_reason};
 use std::alloc::{AllocError, Global};
 

@@ -13,7 +13,7 @@ use rv_text::{dotted_parts, is_identifier, is_same_name, natural_of, next_word};
 
 /// Why the words of a line are none of a list. Words count from 0: `allow` or `deny`, the unit, the object, the operation, then a
 /// window of four words.
-#[derive(Clone, Copy, Debug, Drop, PartialEq, Eq)]
+#[derive(Clone, Copy)]
 pub enum LineReason {
     /// Word 0 is neither `allow` nor `deny`, or there is no word.
     NoVerb,
@@ -203,26 +203,4 @@ pub fn line_reason(line: &str) -> Option<LineReason>
         return Some(LineReason::NoVerb);
     }
     reason_behind(rest)
-}
-
-#[cfg(test)]
-mod tests {
-    use crate::lists::{LineReason, line_reason};
-
-    #[test]
-    fn reasons_of_lines(rt: HostRuntime) {
-        assert_eq!(rt; line_reason("allow * * *"), None);
-        assert_eq!(rt; line_reason("Allow * * *"), Some(LineReason::NoVerb));
-        assert_eq!(rt; line_reason("deny A A.B"), Some(LineReason::Missing));
-        assert_eq!(rt; line_reason("deny A A *"), Some(LineReason::NoObject));
-        assert_eq!(rt;
-            line_reason("deny A * * from 3 till 9"),
-            Some(LineReason::NoUntil)
-        );
-        assert_eq!(rt;
-            line_reason("deny A * * from 3 until 3"),
-            Some(LineReason::Empty)
-        );
-        assert_eq!(rt; line_reason("deny A * * from 3 until 9"), None);
-    }
 }

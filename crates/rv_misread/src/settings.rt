@@ -274,38 +274,3 @@ pub fn bad_value(alloc: Global, text: &str) -> Result<Option<SettingsReason<'_>>
     }
     lacking(alloc, text, entries.as_slice())
 }
-
-#[cfg(test)]
-mod tests {
-    use crate::settings::{SettingsReason, bad_value, not_toml, unknown_key};
-    use std::alloc::Global;
-
-    // The place that a reason of a value tells.
-    fn place_of(alloc: Global, text: &str) -> Option<usize> {
-        match bad_value(alloc, text) {
-            Ok(Some(SettingsReason::BadValue(at, _))) => Some(at),
-            Ok(Some(SettingsReason::Lacks(at, _))) => Some(at),
-            _ => None,
-        }
-    }
-
-    // Whether the first line of a text is told to have a key that settings don't have.
-    fn has_no_key(alloc: Global, text: &str) -> bool {
-        match unknown_key(alloc, text) {
-            Ok(Some(SettingsReason::NoKey(at, is_of_device, _))) => at == 0 && !is_of_device,
-            _ => false,
-        }
-    }
-
-    #[test]
-    fn places_of_settings(rt: HostRuntime) {
-        let alloc = rt.alloc();
-        assert_eq!(rt; place_of(alloc, "capacity = 32\nbudget = 0\n"), Some(14));
-        assert_eq!(rt;
-            place_of(alloc, "budget = 9\n[[device]]\nunit = \"U\"\n"),
-            Some(11)
-        );
-        assert_eq!(rt; has_no_key(alloc, "budgt = 9"), true);
-        assert_eq!(rt; not_toml(alloc, "budget = 9").is_ok(), true);
-    }
-}

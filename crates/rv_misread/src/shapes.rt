@@ -10,7 +10,7 @@ use rv_text::{integer_of, next_line, next_word};
 use std::alloc::{AllocError, Global};
 
 /// Why a text is no shape. A number is that of a line, from 0.
-#[derive(Clone, Copy, Debug, Drop, PartialEq, Eq)]
+#[derive(Clone, Copy)]
 pub enum ShapeReason {
     /// This first line isn't `unit` and a name, or there is none.
     NoUnit,
@@ -162,37 +162,4 @@ pub fn shape_reason(alloc: Global, text: &str) -> Result<Option<ShapeReason>, Al
         rest = behind;
     }
     barrier_reason(alloc, text)
-}
-
-#[cfg(test)]
-mod tests {
-    use crate::shapes::{ShapeReason, shape_reason};
-    use std::alloc::Global;
-
-    // The reason of a text, if memory lasts.
-    fn reason_of(alloc: Global, text: &str) -> Option<ShapeReason> {
-        match shape_reason(alloc, text) {
-            Ok(reason) => reason,
-            Err(_) => None,
-        }
-    }
-
-    #[test]
-    fn reasons_of_shapes(rt: HostRuntime) {
-        let alloc = rt.alloc();
-        assert_eq!(rt; reason_of(alloc, "unit U\ntask T 5\n"), None);
-        assert_eq!(rt; reason_of(alloc, "unit\n"), Some(ShapeReason::NoUnit));
-        assert_eq!(rt;
-            reason_of(alloc, "unit U\ntask T\n"),
-            Some(ShapeReason::NoForm(1))
-        );
-        assert_eq!(rt;
-            reason_of(alloc, "unit U\nentry E open\n"),
-            Some(ShapeReason::Outside(1))
-        );
-        let barrier = "unit U\nprotected P 5\nentry E 2\nscalar 0 1 0\n";
-        assert_eq!(rt; reason_of(alloc, barrier), Some(ShapeReason::NoBarrier(2)));
-        let line = "unit U\nprotected P 35\nhandler H 10\n";
-        assert_eq!(rt; reason_of(alloc, line), Some(ShapeReason::NoInterrupt(2)));
-    }
 }
