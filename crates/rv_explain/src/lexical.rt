@@ -119,10 +119,8 @@ fn shown_of(rest: &str, reason: NumberReason) -> &str {
 /// Why digits are no number.
 pub(crate) fn bad_number<'a>(text: &'a str, at: usize) -> Cause<'a> {
     let rest = rest_from(text, at);
-    match number_reason(rest.as_bytes()) {
-        Some(reason) => Cause::of(at, said_of_number(reason), shown_of(rest, reason)),
-        None => Cause::of(at, "{0} is no number (2.4)", front_of(rest)),
-    }
+    let reason = number_reason(rest.as_bytes()).unwrap_or(NumberReason::Letter);
+    Cause::of(at, said_of_number(reason), shown_of(rest, reason))
 }
 
 /// Why a word that begins with a letter is no name.
@@ -132,10 +130,7 @@ pub(crate) fn bad_name<'a>(text: &'a str, at: usize) -> Cause<'a> {
         Some(NameReason::StrayUnderscore) => {
             "{0} has an underscore that isn't between two letters or digits (2.3)"
         }
-        Some(NameReason::TooLong) => {
-            "this name has over 64 characters, which is the most here (2.3)"
-        }
-        None => "{0} is no name (2.3)",
+        _ => "this name has over 64 characters, which is the most here (2.3)",
     };
     Cause::of(at, said, before_point(front_of(rest)))
 }

@@ -1,10 +1,10 @@
 -- Which fault of a line with a window is the first.
-use Rattle.std.proofs.Common.{◌≡◌, ◌∷◌, [], ℕ, Bool, true, false, List, refl, subst}
-use Rattle.std.specs.Prelude.{◌||◌, codes, Option, Some, None, Result, Ok, Err}
+use Rattle.std.proofs.Common.{◌≡◌, ℕ, Bool, true, false, List, refl, subst}
+use Rattle.std.specs.Prelude.{◌||◌, codes, Some, None, Result, Ok, Err}
 use Rattle.std.specs.Result.{result_err}
 use Rattle.std.specs.Str.{bytes_eq}
 use Rattle.rv_access.specs.Words.{WindowWords, Words}
-use Rattle.rv_access.specs.Windows.{is_framed, is_window}
+use Rattle.rv_access.specs.Windows.{is_window}
 use Rattle.rv_access.specs.Reading.{named, phrase_of, windowed, within, worded}
 use Rattle.rv_access.specs.declared.fault.ListFault.{ListFault}
 use Rattle.rv_misread.specs.Lists.{Frames, fault_within, is_verb}

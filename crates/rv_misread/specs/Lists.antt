@@ -1,6 +1,6 @@
 -- Which fault of a list each reason is one of (own).
 use Rattle.std.specs.Prelude.{◌≡◌, ℕ, ◌==◌, if◌then◌else◌, Bool, true, false, ◌||◌, nat_lt, List, [], ◌∷◌, codes, drop, length}
-use Rattle.std.specs.Prelude.{Option, Some, None, Result, Ok, Err}
+use Rattle.std.specs.Prelude.{Option, Some, None, Result, Err}
 use Rattle.std.specs.Str.{bytes_eq}
 use Rattle.rv_text.specs.Names.{is_identifier, is_same_name}
 use Rattle.rv_text.specs.Numbers.{is_natural, read_on}

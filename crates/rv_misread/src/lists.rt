@@ -151,7 +151,6 @@ fn window_reason(opening: &str, closing: &str) -> Option<LineReason>
 }
 
 // Why three names, and the words of a window behind them, are none.
-#[tactic(auto, using(crate::proofs::Windows::bad_names, crate::proofs::Windows::good_names))]
 fn windowed_reason(unit: &str, object: &str, operation: &str, window: &str) -> Option<LineReason>
     ensures agrees { (number : ℕ) → (allow : Bool) → option_map (fault_of number) result
         ≡ result_err (windowed number (phrase_of (words window.now)) (named number allow unit.now object.now operation.now)) }

