@@ -1,7 +1,7 @@
 //! The parts of a script, and what those before a line declare.
 
+use crate::shaped::add_shape;
 use rv_cause::known::Known;
-use rv_cause::loaded::add_shape;
 use rv_fault::{Failure, Part, Parts, shape_of, unit_of};
 use rv_lex::lexer::tokens;
 use rv_lex::token::Tokens;
@@ -157,6 +157,18 @@ fn add_shapes<'a>(
     Ok(())
 }
 
+/// What the unit texts of these words declare.
+pub(crate) fn declared_by<'a>(
+    alloc: Global,
+    texts: &[Tokens<'a>],
+) -> Result<Known<'a>, AllocError> {
+    let mut known = Known::new(alloc);
+    for words in texts {
+        known.add_text(words.as_slice(), false)?;
+    }
+    Ok(known)
+}
+
 /// What the parts before a line declare, whose unit texts have these words.
 pub(crate) fn known_before<'a>(
     alloc: Global,
@@ -164,10 +176,7 @@ pub(crate) fn known_before<'a>(
     line: usize,
     texts: &[Tokens<'a>],
 ) -> Result<Known<'a>, AllocError> {
-    let mut known = Known::new(alloc);
-    for words in texts {
-        known.add_text(words.as_slice(), false)?;
-    }
+    let mut known = declared_by(alloc, texts)?;
     add_shapes(alloc, script, line, &mut known)?;
     Ok(known)
 }
