@@ -1,6 +1,6 @@
 -- What is kept of what actors have heard.
 use Rattle.std.proofs.Common.{◌≡◌, ◌≢◌, ◌<◌, ◌≤◌, ◌+◌, ◌-◌, refl, sym, ap, subst, ◌∙◌, arith, ℕ, List, [], ◌∷◌, ◌++◌, Bool, true, false, cond, length, get_or, set, reverse, inl, inr}
-use Rattle.std.specs.Prelude.{◌==◌, ◌&&◌, not, IsTrue, All, IfOk, OnOk, OnErr, Result, Ok, Err, Option, Some, None, nat_lt, slice_get}
+use Rattle.std.specs.Prelude.{◌==◌, ◌&&◌, not, IsTrue, All, IfOk, IfSome, OnOk, OnErr, Result, Ok, Err, Option, Some, None, is_none, nat_lt, slice_get}
 use Rattle.std.specs.Option.{ForSome}
 use Rattle.std.proofs.lemmas.Bool.{cases_eq}
 use Rattle.std.proofs.lemmas.Bool.Decides.{nat_tests}
@@ -54,37 +54,85 @@ heard_own actor heard h own =
 
 -- What one actor keeps
 
+-- the same by cases
+KeepsBy : Option Running → (budget : ℕ) → (all : List Answer) → (actor : ℕ) → (kept : List Answer) → Option Run → Type 0
+KeepsBy running budget all actor kept None = kept ≡ all
+KeepsBy None budget all actor kept (Some run) = ⊥
+KeepsBy (Some r) budget all actor kept (Some run) = Follows r.table budget all actor kept run
+
+one_running : (a b : Running) → Some a ≡ Some b → a ≡ b
+one_running a b e = cc e
+
+one_run : (a b : Run) → Some a ≡ Some b → a ≡ b
+one_run a b e = cc e
+
+to_keep : (running : Option Running) (budget : ℕ) (all : List Answer) (actor : ℕ) (kept : List Answer) (o : Option Run) → KeepsBy running budget all actor kept o → Keeps running budget all actor kept o
+unfolding KeepsBy
+to_keep running budget all actor kept None keeps = record { whole = λ none. keeps; table = λ none. refl; follows = λ r at run is. absurd (cc is) }
+to_keep None budget all actor kept (Some run) keeps = absurd keeps
+to_keep (Some r) budget all actor kept (Some run) keeps = record {
+  whole = λ none. absurd (cc none);
+  table = λ none. absurd (cc none);
+  follows = λ x at y is.
+      subst (λ (z : Running). Follows z.table budget all actor kept y) (one_running r x at) (subst (λ (z : Run). Follows r.table budget all actor kept z) (one_run run y is) keeps);
+}
+
+of_keep : (running : Option Running) (budget : ℕ) (all : List Answer) (actor : ℕ) (kept : List Answer) (o : Option Run) → Keeps running budget all actor kept o → KeepsBy running budget all actor kept o
+unfolding KeepsBy
+of_keep running budget all actor kept None keeps = keeps.whole refl
+of_keep None budget all actor kept (Some run) keeps = let none : false ≡ true = keeps.table refl in absurd (cc none)
+of_keep (Some r) budget all actor kept (Some run) keeps = keeps.follows r refl run refl
+
 pub keeps_run : (r : Running) (budget : ℕ) (all : List Answer) (actor : ℕ) (kept : List Answer) (o : Option Run) (run : Run)
     → o ≡ Some run → Keeps (Some r) budget all actor kept o → Follows r.table budget all actor kept run
-keeps_run r budget all actor kept o run is keeps = subst (λ (x : Option Run). Keeps (Some r) budget all actor kept x) is keeps
+keeps_run r budget all actor kept o run is keeps = keeps.follows r refl run is
 
-pub keeps_follows : (r : Running) (budget : ℕ) (all : List Answer) (actor : ℕ) (kept : List Answer) (o : Option Run) (run : Run)
-    → o ≡ Some run → Follows r.table budget all actor kept run → Keeps (Some r) budget all actor kept o
-keeps_follows r budget all actor kept o run is follows = subst (λ (x : Option Run). Keeps (Some r) budget all actor kept x) (sym is) follows
+pub keeps_follows : (r : Running) (budget : ℕ) (all : List Answer) (actor : ℕ) (kept : List Answer) (run : Run)
+    → Follows r.table budget all actor kept run → Keeps (Some r) budget all actor kept (Some run)
+unfolding KeepsBy
+keeps_follows r budget all actor kept run follows = to_keep (Some r) budget all actor kept (Some run) follows
 
 pub keeps_none : (running : Option Running) (budget : ℕ) (all : List Answer) (actor : ℕ) (kept : List Answer) (o : Option Run)
     → o ≡ None → kept ≡ all → Keeps running budget all actor kept o
-keeps_none running budget all actor kept o is whole = subst (λ (x : Option Run). Keeps running budget all actor kept x) (sym is) whole
+unfolding KeepsBy
+keeps_none running budget all actor kept o is whole = subst (λ (x : Option Run). Keeps running budget all actor kept x) (sym is) (to_keep running budget all actor kept None whole)
 
 -- all is kept where no machine runs this text
+whole_by : (r : Running) (budget : ℕ) (all : List Answer) (actor : ℕ) (kept : List Answer) (o : Option Run) (text : Text)
+    → IsText actor text → ((run : Run) → o ≡ Some run → run.text ≡ text → ⊥) → KeepsBy (Some r) budget all actor kept o → kept ≡ all
+unfolding KeepsBy
+whole_by r budget all actor kept None text is other keeps = keeps
+whole_by r budget all actor kept (Some run) text is other keeps = other_whole r.table budget all actor kept run text is (other run refl) keeps
+
 pub keeps_whole : (r : Running) (budget : ℕ) (all : List Answer) (actor : ℕ) (kept : List Answer) (o : Option Run) (text : Text)
     → IsText actor text → ((run : Run) → o ≡ Some run → run.text ≡ text → ⊥) → Keeps (Some r) budget all actor kept o → kept ≡ all
-keeps_whole r budget all actor kept None text is other keeps = keeps
-keeps_whole r budget all actor kept (Some run) text is other keeps = other_whole r.table budget all actor kept run text is (other run refl) keeps
+keeps_whole r budget all actor kept o text is other keeps = whole_by r budget all actor kept o text is other (of_keep (Some r) budget all actor kept o keeps)
 
 -- a table where there was none
+table_by : (r : Running) (budget : ℕ) (all : List Answer) (actor : ℕ) (kept : List Answer) (o : Option Run) → KeepsBy None budget all actor kept o → KeepsBy (Some r) budget all actor kept o
+unfolding KeepsBy
+table_by r budget all actor kept None keeps = keeps
+table_by r budget all actor kept (Some run) keeps = absurd keeps
+
 keeps_table : (r : Running) (budget : ℕ) (all : List Answer) (actor : ℕ) (kept : List Answer) (o : Option Run) → Keeps None budget all actor kept o → Keeps (Some r) budget all actor kept o
-keeps_table r budget all actor kept None keeps = keeps
-keeps_table r budget all actor kept (Some run) keeps = absurd keeps
+keeps_table r budget all actor kept o keeps = to_keep (Some r) budget all actor kept o (table_by r budget all actor kept o (of_keep None budget all actor kept o keeps))
 
 -- one answer more
-keeps_on : (running : Option Running) (budget : ℕ) (all : List Answer) (actor : ℕ) (kept : List Answer) (o : Option Run) (h : Heard) (b : Bool)
+on_by : (running : Option Running) (budget : ℕ) (all : List Answer) (actor : ℕ) (kept : List Answer) (o : Option Run) (h : Heard) (b : Bool)
+    → KeepsBy running budget all actor kept o
+    → KeepsBy running budget (cond b (h.answer ∷ []) (all ++ h.answer ∷ [])) actor (cond b (h.answer ∷ []) (kept ++ h.answer ∷ [])) (cond b None o)
+unfolding KeepsBy
+on_by running budget all actor kept o h true keeps = refl
+on_by running budget all actor kept None h false keeps = ap (λ (x : List Answer). x ++ h.answer ∷ []) keeps
+on_by None budget all actor kept (Some run) h false keeps = absurd keeps
+on_by (Some r) budget all actor kept (Some run) h false keeps = follows_more r.table budget all actor kept run h.answer keeps
+
+pub keeps_on : (running : Option Running) (budget : ℕ) (all : List Answer) (actor : ℕ) (kept : List Answer) (o : Option Run) (h : Heard) (b : Bool)
     → Keeps running budget all actor kept o
     → Keeps running budget (cond b (h.answer ∷ []) (all ++ h.answer ∷ [])) actor (cond b (h.answer ∷ []) (kept ++ h.answer ∷ [])) (cond b None o)
-keeps_on running budget all actor kept o h true keeps = refl
-keeps_on running budget all actor kept None h false keeps = ap (λ (x : List Answer). x ++ h.answer ∷ []) keeps
-keeps_on None budget all actor kept (Some run) h false keeps = absurd keeps
-keeps_on (Some r) budget all actor kept (Some run) h false keeps = follows_more r.table budget all actor kept run h.answer keeps
+keeps_on running budget all actor kept o h b keeps =
+    to_keep running budget (cond b (h.answer ∷ []) (all ++ h.answer ∷ [])) actor (cond b (h.answer ∷ []) (kept ++ h.answer ∷ [])) (cond b None o)
+    (on_by running budget all actor kept o h b (of_keep running budget all actor kept o keeps))
 
 -- the same of an actor that has heard it
 pub listens_on : (running : Option Running) (budget : ℕ) (heard : List Heard) (old new : Listener) (h : Heard)
@@ -123,14 +171,14 @@ pub listens_asked : (r : Running) (budget : ℕ) (heard : List Heard) (actor : �
     → ((x : Running) (b : ℕ) (all : List Answer) → new.looked ≡ length between.answers.items → (IsTrue (is_of_task text && not keeps) → IsTaskOf between.actor new.text)
     → Follows x.table b all between.actor between.answers.items new → Keeps (Some x) b all between.actor after.answers.items after.run)
     → Follows r.table budget (heard_by actor heard) actor kept old → Listens (Some r) budget heard after
-listens_asked r budget heard actor kept given text keeps old new between after here same number still is of stays looked moves puts follows =
+listens_asked r budget heard actor kept given text keeps old new between after here same number still is its stays looked moves puts follows =
     let all : List Answer = heard_by actor heard in
     let first : Follows r.table budget all actor given old = subst (λ (x : List Answer). Follows r.table budget all actor x old) (sym (here ∙ same)) follows in
-    let then : Follows r.table budget all actor given new = still_follows r.table budget all actor given old new stays moves first in
+    let onward : Follows r.table budget all actor given new = still_follows r.table budget all actor given old new stays moves first in
     let there : Follows r.table budget all between.actor between.answers.items new =
-    subst (λ (a : ℕ). Follows r.table budget all a between.answers.items new) (sym number) (subst (λ (x : List Answer). Follows r.table budget all actor x new) here then) in
+    subst (λ (a : ℕ). Follows r.table budget all a between.answers.items new) (sym number) (subst (λ (x : List Answer). Follows r.table budget all actor x new) here onward) in
     let own : IsTrue (is_of_task text && not keeps) → IsTaskOf between.actor new.text =
-    λ yes. subst (λ (a : ℕ). IsTaskOf a new.text) (sym number) (subst (λ (t : Text). IsTaskOf actor t) (sym (stays ∙ of)) (text_of_task actor text keeps is yes)) in
+    λ so. subst (λ (a : ℕ). IsTaskOf a new.text) (sym number) (subst (λ (t : Text). IsTaskOf actor t) (sym (stays ∙ its)) (text_of_task actor text keeps is so)) in
     let stands : Keeps (Some r) budget all between.actor after.answers.items after.run = puts r budget all (looked ∙ ap (λ (x : List Answer). length x) here) own there in
     subst (λ (a : ℕ). Keeps (Some r) budget (heard_by a heard) a after.answers.items after.run) (sym (still ∙ number))
     (subst (λ (a : ℕ). Keeps (Some r) budget all a after.answers.items after.run) number stands)
@@ -372,3 +420,50 @@ pub asked_kept : {E : Type 0} (bodies : UnitBodies) (budget awaited : ℕ) (hear
     → IfOk result (λ asked. asked ≡ asked_by bodies budget text (settled actor heard))
 asked_kept bodies budget awaited heard ls r text actor (Ok asked) is by = by ∙ is.same r refl text (settled actor heard)
 asked_kept bodies budget awaited heard ls r text actor (Err e) is by = tt
+
+-- The texts
+
+-- nobody has heard anything yet, where nothing is kept
+pub nothing_heard : (bodies : UnitBodies) (budget awaited : ℕ) (heard : List Heard) (ls : List Listener) → heard ≡ [] → ls ≡ [] → IsKept bodies budget awaited heard None ls
+nothing_heard bodies budget awaited heard ls none empty =
+    subst (λ (hs : List Heard). IsKept bodies budget awaited hs None ls) (sym none) (subst (λ (xs : List Listener). IsKept bodies budget awaited [] None xs) (sym empty) (nothing_kept bodies budget awaited))
+
+-- others stand for the actors
+pub kept_by : (bodies : UnitBodies) (budget awaited : ℕ) (heard more : List Heard) (running : Option Running) (ls new : List Listener)
+    → AreKept budget awaited more running new → IsKept bodies budget awaited heard running ls → IsKept bodies budget awaited more running new
+kept_by bodies budget awaited heard more running ls new are is = record { same = is.same; kept = are }
+
+-- one answer more is heard
+pub kept_more : (bodies : UnitBodies) (budget awaited : ℕ) (heard more : List Heard) (h : Heard) (running : Option Running) (ls new : List Listener)
+    → more ≡ heard ++ h ∷ []
+    → ((b a : ℕ) (hs : List Heard) (r : Option Running) → AreKept b a hs r ls → AreKept b a (hs ++ h ∷ []) r new)
+    → IsKept bodies budget awaited heard running ls → IsKept bodies budget awaited more running new
+kept_more bodies budget awaited heard more h running ls new is goes kept =
+    kept_by bodies budget awaited heard more running ls new (subst (λ (hs : List Heard). AreKept budget awaited hs running new) (sym is) (goes budget awaited heard running kept.kept)) kept
+
+-- a table that was put back
+pub kept_back : (bodies : UnitBodies) (budget awaited : ℕ) (heard : List Heard) (old new : Option Running) (ls : List Listener)
+    → new ≡ old → IsKept bodies budget awaited heard old ls → IsKept bodies budget awaited heard new ls
+kept_back bodies budget awaited heard old new ls same is = subst (λ (o : Option Running). IsKept bodies budget awaited heard o ls) (sym same) is
+
+-- machines were let go
+pub kept_stopped : (bodies other : UnitBodies) (budget awaited left : ℕ) (heard : List Heard) (running : Option Running) (ls new : List Listener)
+    → 0 < awaited
+    → ((b a : ℕ) (hs : List Heard) (r : Option Running) → 0 < a → AreKept b a hs r ls → (c n : ℕ) (table : Option Running) → AreKept c n hs table new)
+    → IsKept bodies budget awaited heard running ls → IsKept other budget left heard None new
+kept_stopped bodies other budget awaited left heard running ls new some stopped is = record {
+  same = λ r at. absurd (cc at);
+  kept = stopped budget awaited heard running some is.kept budget left None;
+}
+
+-- fewer are awaited
+pub kept_fewer : (bodies : UnitBodies) (budget awaited left : ℕ) (heard : List Heard) (running : Option Running) (ls : List Listener)
+    → left ≤ awaited → IsKept bodies budget awaited heard running ls → IsKept bodies budget left heard running ls
+kept_fewer bodies budget awaited left heard running ls few is = record {
+  same = is.same;
+  kept = record { numbered = is.kept.numbered; listen = is.kept.listen; whole = λ some. is.kept.whole (omega (arith, few, some)) };
+}
+
+pub task_there : {X : Type 0} (bodies : UnitBodies) (actor : ℕ) (o : Option X) (body : X → Body) → is_none o ≡ false → IfSome o (λ x. task_of bodies actor ≡ Some (body x)) → 11 ≤ actor
+task_there bodies actor None body none found = absurd (cc none)
+task_there bodies actor (Some x) body none found = task_number bodies actor (body x) found

@@ -1,5 +1,5 @@
 -- What is kept of what actors have heard (own).
-use Rattle.std.specs.Prelude.{◌≡◌, ◌≤◌, ◌<◌, ℕ, List, [], All, length, get_or, Option, Some, None}
+use Rattle.std.specs.Prelude.{◌≡◌, ◌≤◌, ◌<◌, ℕ, true, List, [], All, length, get_or, is_none, Option}
 use Rattle.std.specs.Option.{ForSome}
 use Rattle.rv_event.specs.declared.entry.Answer.{Answer}
 use Rattle.rv_code.specs.Bodies.{UnitBodies}
@@ -13,10 +13,10 @@ use Rattle.rv_go.specs.Runs.{asked_by, heard_by, Follows}
 
 -- of all answers of an actor these are kept: all where no machine goes on by them, else those behind where a machine stands, over
 -- the table that there is
-abbrev pub Keeps : Option Running → (budget : ℕ) → (all : List Answer) → (actor : ℕ) → (kept : List Answer) → Option Run → Type 0
-Keeps running budget all actor kept None = kept ≡ all
-Keeps None budget all actor kept (Some run) = ⊥
-Keeps (Some r) budget all actor kept (Some run) = Follows r.table budget all actor kept run
+pub record Keeps (running : Option Running) (budget : ℕ) (all : List Answer) (actor : ℕ) (kept : List Answer) (machine : Option Run) : Type 0 where
+  pub whole : is_none machine ≡ true → kept ≡ all
+  pub table : is_none running ≡ true → is_none machine ≡ true
+  pub follows : ForSome running (λ r. ForSome machine (λ run. Follows r.table budget all actor kept run))
 
 abbrev pub Listens : Option Running → ℕ → List Heard → Listener → Type 0
 Listens running budget heard l = Keeps running budget (heard_by l.actor heard) l.actor l.answers.items l.run

@@ -1,5 +1,5 @@
 -- Machines that run the texts of actors, kept from one `go` to the next (own).
-use Rattle.std.specs.Prelude.{◌≡◌, ◌≤◌, ◌<◌, ◌⊎◌, ℕ, Bool, true, false, if◌then◌else◌, List, [], ◌∷◌, ◌++◌, length, reverse, take, Option}
+use Rattle.std.specs.Prelude.{◌≡◌, ◌≤◌, ◌<◌, ◌-◌, ℕ, Bool, true, false, if◌then◌else◌, List, [], ◌∷◌, ◌++◌, length, reverse, take, Option}
 use Rattle.rv_event.specs.declared.entry.Answer.{Answer}
 use Rattle.rv_event.specs.declared.entry.Request.{Request}
 use Rattle.rv_code.specs.Bodies.{UnitBodies}
@@ -47,19 +47,22 @@ is_of_task (texts.Task actor) = true
 is_of_task (texts.Handler object operation) = false
 
 -- the text is that of the task that an actor is: tasks are the actors from 11 on
-abbrev pub IsTaskOf : ℕ → Text → Type 0
-IsTaskOf actor (texts.Task task) = (task ≡ actor) × (11 ≤ actor)
-IsTaskOf actor (texts.Handler object operation) = ⊥
+pub record IsTaskOf (actor : ℕ) (text : Text) : Type 0 where
+  pub own : text ≡ texts.Task actor
+  pub number : 11 ≤ actor
 
 -- the text may be an actor's: that of a handler is a line's
 abbrev pub IsText : ℕ → Text → Type 0
 IsText actor (texts.Task task) = (task ≡ actor) × (11 ≤ actor)
 IsText actor (texts.Handler object operation) = actor < 11
 
+-- the answers that are forgotten, where of all answers these are kept
+abbrev pub forgotten : (all kept : List Answer) → List Answer
+forgotten all kept = take (length all - length kept) all
+
 -- a machine goes on by all answers of an actor: by those that are forgotten, which only a task's text goes on without, and by those
 -- that are kept
 pub record Follows (u : FlatUnit) (budget : ℕ) (all : List Answer) (actor : ℕ) (kept : List Answer) (run : Run) : Type 0 where
-  pub forgotten : List Answer
-  pub whole : forgotten ++ kept ≡ all
-  pub own : (forgotten ≡ []) ⊎ IsTaskOf actor run.text
-  pub run : IsRun u budget forgotten kept run
+  pub whole : forgotten all kept ++ kept ≡ all
+  pub own : length kept < length all → IsTaskOf actor run.text
+  pub is_run : IsRun u budget (forgotten all kept) kept run

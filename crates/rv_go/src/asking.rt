@@ -21,6 +21,7 @@ use rv_shape::catalogue::Catalogue;
 use std::alloc::{AllocError, Global};
 
 // The table of the bodies is taken out; where there is none yet, it is made. Err where memory was refused.
+#[tactic(auto, using(crate::proofs::Keeping::table_kept, crate::proofs::Keeping::table_there))]
 fn taken(
     alloc: Global,
     running: &mut Option<Running>,
@@ -31,10 +32,10 @@ fn taken(
         → IfOk result (λ r. IsKept (bodies_view bodies.now) budget awaited heard (Some r) listeners) }
     ensures err { OnErr result (running.new ≡ running.old) }
 {
-    if let Some(running) = running.take() {
-        return Ok(running);
+    match running.take() {
+        Some(there) => Ok(there),
+        None => Running::new(alloc, bodies),
     }
-    Running::new(alloc, bodies)
 }
 
 impl Texts {

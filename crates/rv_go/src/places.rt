@@ -20,7 +20,8 @@ fn reach(alloc: Global, listeners: &mut Vec<Listener>, actor: usize) -> Result<(
         → AreKept budget awaited heard running listeners.old.items → AreKept budget awaited heard running listeners.new.items }
 {
     'places: while listeners.len() <= actor {
-        let listener = Listener::new(alloc, listeners.len());
+        let place = listeners.len();
+        let listener = Listener::new(alloc, place);
         listeners.push(listener)?;
     }
     Ok(())
@@ -68,6 +69,6 @@ pub fn ask(
     ensures kept { AreKept budget awaited heard.now.items (Some running.now) listeners.new.items }
 {
     reach(alloc, listeners, actor)?;
-    let keeps = awaited > 0;
+    let keeps = 0 < awaited;
     listeners[actor].asks(alloc, running, budget, heard, text, keeps)
 }
