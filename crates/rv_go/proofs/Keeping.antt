@@ -1,6 +1,6 @@
 -- What is kept of what actors have heard.
 use Rattle.std.proofs.Common.{◌≡◌, ◌≢◌, ◌<◌, ◌≤◌, ◌+◌, ◌-◌, refl, sym, ap, subst, ◌∙◌, arith, ℕ, List, [], ◌∷◌, ◌++◌, Bool, true, false, cond, length, get_or, set, reverse, inl, inr}
-use Rattle.std.specs.Prelude.{◌==◌, ◌&&◌, not, IsTrue, All, IfOk, IfSome, OnOk, OnErr, Result, Ok, Err, Option, Some, None, is_none, nat_lt, slice_get}
+use Rattle.std.specs.Prelude.{◌==◌, ◌&&◌, not, IsTrue, All, IfOk, IfSome, OnOk, OnErr, Result, Ok, Err, Option, Some, None, is_some, nat_lt, slice_get}
 use Rattle.std.specs.Option.{ForSome}
 use Rattle.std.proofs.lemmas.Bool.{cases_eq}
 use Rattle.std.proofs.lemmas.Bool.Decides.{nat_tests}
@@ -23,7 +23,7 @@ use Rattle.rv_go.specs.declared.running.Running.{Running}
 use Rattle.rv_go.specs.declared.texts.Heard.{Heard}
 use Rattle.rv_go.specs.Runs.{asked_by, given_by, heard_by, settled, is_of_task, IsRun, IsTaskOf, IsText, Follows}
 use Rattle.rv_go.specs.Kept.{Keeps, Listens, IsWhole, AreNumbered, AreKept, IsKept}
-use Rattle.rv_go.proofs.Following.{follows_more, still_follows, other_whole, text_of_task}
+use Rattle.rv_go.proofs.Following.{begins_to_follow, follows_more, still_follows, other_whole, text_of_task}
 
 -- One answer more
 
@@ -164,21 +164,22 @@ pub whole_same : (heard : List Heard) (old new : Listener)
 whole_same heard old new actor answers whole = answers ∙ (whole ∙ ap (λ (a : ℕ). heard_by a heard) (sym actor))
 
 -- a text asks, and its machine stands for the actor again
-pub listens_asked : (r : Running) (budget : ℕ) (heard : List Heard) (actor : ℕ) (kept given : List Answer) (text : Text) (keeps : Bool) (old new : Run) (between after : Listener)
+pub listens_asked : (r : Running) (budget : ℕ) (heard : List Heard) (actor : ℕ) (kept given : List Answer) (text : Text) (keeps forgets : Bool) (old new : Run) (between after : Listener)
     → given ≡ between.answers.items → between.answers.items ≡ kept → between.actor ≡ actor → after.actor ≡ between.actor
     → IsText actor text → old.text ≡ text → new.text ≡ old.text → new.looked ≡ length given
     → ((b : ℕ) (before : List Answer) → IsRun r.table b before given old → IsRun r.table b before given new)
-    → ((x : Running) (b : ℕ) (all : List Answer) → new.looked ≡ length between.answers.items → (IsTrue (is_of_task text && not keeps) → IsTaskOf between.actor new.text)
+    → forgets ≡ (is_of_task text && not keeps)
+    → ((x : Running) (b : ℕ) (all : List Answer) → new.looked ≡ length between.answers.items → (IsTrue forgets → IsTaskOf between.actor new.text)
     → Follows x.table b all between.actor between.answers.items new → Keeps (Some x) b all between.actor after.answers.items after.run)
     → Follows r.table budget (heard_by actor heard) actor kept old → Listens (Some r) budget heard after
-listens_asked r budget heard actor kept given text keeps old new between after here same number still is its stays looked moves puts follows =
+listens_asked r budget heard actor kept given text keeps forgets old new between after here same number still is its stays looked moves gone puts follows =
     let all : List Answer = heard_by actor heard in
     let first : Follows r.table budget all actor given old = subst (λ (x : List Answer). Follows r.table budget all actor x old) (sym (here ∙ same)) follows in
     let onward : Follows r.table budget all actor given new = still_follows r.table budget all actor given old new stays moves first in
     let there : Follows r.table budget all between.actor between.answers.items new =
     subst (λ (a : ℕ). Follows r.table budget all a between.answers.items new) (sym number) (subst (λ (x : List Answer). Follows r.table budget all actor x new) here onward) in
     let own : IsTrue (is_of_task text && not keeps) → IsTaskOf between.actor new.text =
-    λ so. subst (λ (a : ℕ). IsTaskOf a new.text) (sym number) (subst (λ (t : Text). IsTaskOf actor t) (sym (stays ∙ its)) (text_of_task actor text keeps is so)) in
+    λ so. subst (λ (a : ℕ). IsTaskOf a new.text) (sym number) (subst (λ (t : Text). IsTaskOf actor t) (sym (stays ∙ its)) (text_of_task actor text keeps is (subst (λ (b : Bool). IsTrue b) gone so))) in
     let stands : Keeps (Some r) budget all between.actor after.answers.items after.run = puts r budget all (looked ∙ ap (λ (x : List Answer). length x) here) own there in
     subst (λ (a : ℕ). Keeps (Some r) budget (heard_by a heard) a after.answers.items after.run) (sym (still ∙ number))
     (subst (λ (a : ℕ). Keeps (Some r) budget all a after.answers.items after.run) number stands)
@@ -188,6 +189,16 @@ pub listens_none : (running : Option Running) (budget : ℕ) (heard : List Heard
     → new.run ≡ None → new.answers.items ≡ old.answers.items → old.answers.items ≡ heard_by old.actor heard → new.actor ≡ old.actor → Listens running budget heard new
 listens_none running budget heard old new none answers whole actor =
     keeps_none running budget (heard_by new.actor heard) new.actor new.answers.items new.run none (answers ∙ (whole ∙ ap (λ (a : ℕ). heard_by a heard) (sym actor)))
+
+-- a machine that was made, where all is kept
+pub made_follows : {E : Type 0} (u : FlatUnit) (budget : ℕ) (all : List Answer) (actor : ℕ) (kept : List Answer) (result : Result Run E)
+    → kept ≡ all → IfOk result (λ run. (given : List Answer) → IsRun u budget [] given run) → IfOk result (Follows u budget all actor kept)
+made_follows u budget all actor kept (Ok run) whole is = begins_to_follow u budget all actor kept run whole is
+made_follows u budget all actor kept (Err e) whole is = tt
+
+pub on_err : {A E : Type 0} (result : Result A E) (P : Type 0) → P → OnErr result P
+on_err (Ok a) P holds = tt
+on_err (Err e) P holds = holds
 
 -- All actors
 
@@ -464,6 +475,6 @@ kept_fewer bodies budget awaited left heard running ls few is = record {
   kept = record { numbered = is.kept.numbered; listen = is.kept.listen; whole = λ some. is.kept.whole (omega (arith, few, some)) };
 }
 
-pub task_there : {X : Type 0} (bodies : UnitBodies) (actor : ℕ) (o : Option X) (body : X → Body) → is_none o ≡ false → IfSome o (λ x. task_of bodies actor ≡ Some (body x)) → 11 ≤ actor
-task_there bodies actor None body none found = absurd (cc none)
-task_there bodies actor (Some x) body none found = task_number bodies actor (body x) found
+pub task_there : {X : Type 0} (bodies : UnitBodies) (actor : ℕ) (o : Option X) (body : X → Body) → is_some o ≡ true → IfSome o (λ x. task_of bodies actor ≡ Some (body x)) → 11 ≤ actor
+task_there bodies actor None body there found = absurd (cc there)
+task_there bodies actor (Some x) body there found = task_number bodies actor (body x) found

@@ -144,8 +144,7 @@ impl Listener {
     {
         let mut run = self.run_of(alloc, running, budget, heard, text)?;
         let asked = run.asks(&running.table, self.answers.as_slice());
-        let of_task = text.is_of_task();
-        self.put(run, of_task && !keeps);
+        self.put(run, text.forgets(keeps));
         Ok(asked)
     }
 }

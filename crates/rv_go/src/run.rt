@@ -1,6 +1,6 @@
 //! A machine that runs an actor's text, and goes on by the actor's answers.
 
-ghost use Rattle.std.specs.Prelude.{◌≡◌, ◌∷◌, ◌++◌, [], IfOk, IsTrue, IsFalse, ℕ, List, Option, length, get_or, ◌<◌, ◌≤◌, ◌+◌};
+ghost use Rattle.std.specs.Prelude.{◌≡◌, ◌∷◌, ◌++◌, [], IfOk, IsTrue, IsFalse, not, ◌&&◌, ℕ, List, Option, length, get_or, ◌<◌, ◌≤◌, ◌+◌};
 ghost use Rattle.rv_event.specs.declared.entry.Answer.{Answer};
 ghost use Rattle.rv_event.specs.declared.entry.Request.{Request};
 ghost use Rattle.rv_exec.specs.Next.{settling};
@@ -50,12 +50,12 @@ impl Text {
         }
     }
 
-    /// Whether it is that of a task's own body.
-    pub fn is_of_task(self) -> bool
-        ensures { result ≡ is_of_task self }
+    /// Whether it goes on without the answers that it went on by, unless all are kept: only that of a task's own body does.
+    pub fn forgets(self, keeps: bool) -> bool
+        ensures { result ≡ (is_of_task self && not keeps) }
     {
         match self {
-            Text::Task(_) => true,
+            Text::Task(_) => !keeps,
             Text::Handler(_, _) => false,
         }
     }

@@ -1,6 +1,7 @@
-use Rattle.std.proofs.Common.{◌∙◌, ap, arith, List, length, Some}
+use Rattle.std.proofs.Common.{◌∙◌, sym, ap, subst, arith, Bool, List, length, Some}
+use Rattle.std.specs.Prelude.{IsFalse}
 use Rattle.rv_event.specs.declared.entry.Answer.{Answer}
-use Rattle.rv_go.specs.Runs.{heard_by}
+use Rattle.rv_go.specs.Runs.{heard_by, is_of_task}
 use Rattle.rv_go.proofs.Following.{asked_all, forgets_not}
 use Rattle.rv_go.proofs.Keeping.{listens_asked, listens_none}
 use Rattle.rv_go.proofs.listening.Listener.asks.Goals as goal
@@ -27,6 +28,10 @@ returns-clause-asked c =
 pub returns-clause-listens : goal.returns-clause-listens
 returns-clause-listens c =
     let self = c.args.self.now in
-    listens_asked c.args.running.now c.args.budget c.args.heard.now.items self.actor self.answers.items c.as_slice.result.now c.args.text c.args.keeps c.in_ok-run.run' c.asks-asked.new.self c.run_of.new.self c.put.new.self
-    c.as_slice.ensures.value c.run_of.ensures.answers c.run_of.ensures.actor c.put.ensures.actor c.requires.text c.in_ok-run.ensures.text c.asks-asked.ensures.text c.asks-asked.ensures.all c.asks-asked.ensures.run c.put.ensures.keeps
+    listens_asked c.args.running.now c.args.budget c.args.heard.now.items self.actor self.answers.items c.as_slice.result.now c.args.text c.args.keeps c.forgets.result c.in_ok-run.run' c.asks-asked.new.self c.run_of.new.self c.put.new.self
+    c.as_slice.ensures.value c.run_of.ensures.answers c.run_of.ensures.actor c.put.ensures.actor c.requires.text c.in_ok-run.ensures.text c.asks-asked.ensures.text c.asks-asked.ensures.all c.asks-asked.ensures.run c.forgets.ensures c.put.ensures.keeps
     c.in_ok-run.ensures.follows
+
+pub returns-clause-kept : goal.returns-clause-kept
+returns-clause-kept c = λ so.
+    c.put.ensures.kept (subst (λ (b : Bool). IsFalse b) (sym c.forgets.ensures) (forgets_not (is_of_task c.args.text) c.args.keeps so)) ∙ c.run_of.ensures.answers

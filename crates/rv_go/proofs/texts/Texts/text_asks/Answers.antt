@@ -1,6 +1,6 @@
 use Rattle.std.proofs.Common.{Some}
 use Rattle.rv_exec.specs.Bodies.{bodies_view}
-use Rattle.rv_go.proofs.Keeping.{asked_kept, kept_by}
+use Rattle.rv_go.proofs.Keeping.{asked_kept, kept_by, kept_back}
 use Rattle.rv_go.proofs.texts.Texts.text_asks.Goals as goal
 
 pub ask-asked-requires-clause-kept : goal.ask-asked-requires-clause-kept
@@ -21,3 +21,8 @@ invariant_of-self-2 c =
       kept = kept_by (bodies_view old.bodies) old.budget old.awaited old.heard.items old.heard.items (Some c.in_ok-running.running) old.listeners.items c.ask-asked.new.listeners.items c.ask-asked.ensures.kept
           (c.in_ok-running.ensures.kept old.budget old.awaited old.heard.items old.listeners.items old.kept);
     }
+
+pub invariant_of-self : goal.invariant_of-self
+invariant_of-self c =
+    let old = c.args.self.now in
+    record { kept = kept_back (bodies_view old.bodies) old.budget old.awaited old.heard.items old.running c.taken.new.running old.listeners.items c.in_err-running.ensures.err old.kept }
