@@ -178,7 +178,7 @@ listens_asked r budget heard actor kept given text keeps forgets old new between
     let onward : Follows r.table budget all actor given new = still_follows r.table budget all actor given old new stays moves first in
     let there : Follows r.table budget all between.actor between.answers.items new =
     subst (λ (a : ℕ). Follows r.table budget all a between.answers.items new) (sym number) (subst (λ (x : List Answer). Follows r.table budget all actor x new) here onward) in
-    let own : IsTrue (is_of_task text && not keeps) → IsTaskOf between.actor new.text =
+    let own : IsTrue forgets → IsTaskOf between.actor new.text =
     λ so. subst (λ (a : ℕ). IsTaskOf a new.text) (sym number) (subst (λ (t : Text). IsTaskOf actor t) (sym (stays ∙ its)) (text_of_task actor text keeps is (subst (λ (b : Bool). IsTrue b) gone so))) in
     let stands : Keeps (Some r) budget all between.actor after.answers.items after.run = puts r budget all (looked ∙ ap (λ (x : List Answer). length x) here) own there in
     subst (λ (a : ℕ). Keeps (Some r) budget (heard_by a heard) a after.answers.items after.run) (sym (still ∙ number))
