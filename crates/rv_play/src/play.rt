@@ -189,8 +189,11 @@ fn units_in(text: &str) -> usize {
     if let Ok(script) = open(text) {
         let mut parts = Parts::of(script.sections);
         'each: while let Some(part) = parts.next_part() {
-            if let Some(Opening::UnitText | Opening::Shape) = part.opening {
-                units = units.saturating_add(1);
+            match part.opening {
+                Some(Opening::UnitText) | Some(Opening::Shape) => {
+                    units = units.saturating_add(1);
+                }
+                _ => {}
             }
         }
     }
