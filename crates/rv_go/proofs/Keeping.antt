@@ -1,7 +1,6 @@
 -- What is kept of what actors have heard.
-use Rattle.std.proofs.Common.{◌≡◌, ◌≢◌, ◌<◌, ◌≤◌, ◌+◌, ◌-◌, refl, sym, ap, subst, ◌∙◌, arith, ℕ, List, [], ◌∷◌, ◌++◌, Bool, true, false, cond, length, get_or, set, reverse, inl, inr}
+use Rattle.std.proofs.Common.{◌≡◌, ◌≢◌, ◌<◌, ◌≤◌, ◌+◌, ◌-◌, refl, sym, ap, subst, ◌∙◌, arith, ℕ, List, [], ◌∷◌, ◌++◌, Bool, true, false, cond, length, get_or, set, inl, inr}
 use Rattle.std.specs.Prelude.{◌==◌, ◌&&◌, not, IsTrue, All, IfOk, IfSome, OnOk, OnErr, Result, Ok, Err, Option, Some, None, is_some, nat_lt, slice_get}
-use Rattle.std.specs.Option.{ForSome}
 use Rattle.std.proofs.lemmas.Bool.{cases_eq}
 use Rattle.std.proofs.lemmas.Bool.Decides.{nat_tests}
 use Rattle.std.proofs.lemmas.List.{length-append, length-set, reverse-append, get_or_append_left, get_or_push, get_or-set_same, get_or-set_other}

@@ -1,4 +1,3 @@
-use Rattle.std.proofs.Common.{sym}
 use Rattle.rv_flat.specs.FlatUnits.{flat_view}
 use Rattle.rv_go.specs.Runs.{asked_by}
 use Rattle.rv_go.proofs.Following.{moved, asks_on}
