@@ -11,6 +11,7 @@ ghost use Rattle.rv_crew.specs.Tasks.{Calls, Fires, goes_on};
 
 use crate::notice::{Notice, notify};
 use crossbeam_channel::{Receiver, Sender};
+use rv_port::budget::Budget;
 use rv_port::ended::Ending;
 use rv_port::port::{Finished, Port};
 use rv_port::reached::Reached;
@@ -41,7 +42,7 @@ fn make_calls<R: Wait>(rt: &R, port: &mut Port, object: usize, operation: usize,
 
 /// The job of a task with a text: it runs the text to its end (9.2, 9.3), with so many requests of
 /// its own, and finishes. What its actor asked is then what the text asks. It gives how the text ended.
-pub fn text_task<R: Wait>(rt: &R, mut port: Port, budget: u32) -> (Finished, Ending)
+pub fn text_task<R: Wait>(rt: &R, mut port: Port, budget: Budget) -> (Finished, Ending)
     ensures ran { (exit : Exit) × (done : Porting) × TextRan (pass_of port) port.refused budget exit (pass_of done) done.refused × LeavesText done.refused (pass_of done) (pass_of result.0) × (result.0.refused ≡ done.refused) }
     ensures ended { (exit : Exit) × (done : Porting) × TextEnded (pass_of port) port.refused budget exit result.1 (pass_of done) done.refused × LeavesText done.refused (pass_of done) (pass_of result.0) }
     ensures stays { Stays (pass_of port) (pass_of result.0) }
@@ -56,7 +57,7 @@ pub fn text_task<R: Wait>(rt: &R, mut port: Port, budget: u32) -> (Finished, End
 pub fn noticed_text_task<R: Wait>(
     rt: &R,
     port: Port,
-    budget: u32,
+    budget: Budget,
     notices: &Option<Sender<Notice>>,
 ) -> Finished
     ensures ran { (exit : Exit) × (done : Porting) × TextRan (pass_of port) port.refused budget exit (pass_of done) done.refused × LeavesText done.refused (pass_of done) (pass_of result) × (result.refused ≡ done.refused) }

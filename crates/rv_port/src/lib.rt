@@ -4,6 +4,7 @@
 mod asker;
 mod bell;
 mod body;
+pub mod budget;
 pub mod control;
 pub mod ended;
 pub mod fault;

@@ -191,7 +191,7 @@ impl Staff {
             (λ _. IsWorn self.old.control self.new.control) }
         ensures crew { self.new.crew ≡ self.old.crew }
     {
-        self.control.load(rt, unit)
+        self.control.load_or_shape(rt, unit)
     }
 
     /// So many ticks of the clock go by, 1 .. 1,000,000 (D.8).

@@ -13,6 +13,7 @@ use crate::work::Work;
 use crossbeam_channel::{Sender, unbounded};
 use rv_crew::hiring::HireFault;
 use rv_crew::notice::Notice;
+use rv_port::budget::Budget;
 use rv_port::fault::PortFault;
 use rv_port::port::Port;
 use rv_shape::actor::FIRST_TASK;
@@ -41,7 +42,7 @@ fn notices_of(session: &Session) -> Option<Sender<Notice>> {
 fn work_of(session: &Session, actor: usize) -> Work {
     match device_of(session.devices.as_slice(), actor) {
         Some(job) => Work::Device(job.object, job.operation, job.calls),
-        None => Work::Text(session.budget, notices_of(session)),
+        None => Work::Text(Budget::of(session.budget), notices_of(session)),
     }
 }
 
