@@ -6,7 +6,7 @@ use Rattle.rv_shape.specs.Shape.{Shape}
 use Rattle.rv_event.specs.declared.entry.Entry.{Entry}
 use Rattle.rv_event.specs.declared.entry.Entry.TheVariants.{Asked, Load, ListChange}
 use Rattle.rv_event.specs.declared.entry.Answer.{Answer}
-use Rattle.rv_event.specs.declared.entry.Answer.TheVariants.{Misuse}
+use Rattle.rv_event.specs.declared.entry.Answer.TheVariants.{Accepted, Misuse}
 use Rattle.rv_turn.specs.Histories.{mine}
 use Rattle.rv_turn.specs.Passes.{Acted, Parted, IsWorn, opening_of}
 use Rattle.rv_code.specs.Bodies as Code
@@ -71,6 +71,11 @@ answer_in (Gives.Entries marked) = Misuse
 answer_in Gives.Unread = Misuse
 answer_in (Gives.Viewed view) = Misuse
 answer_in (Gives.Bodies lent) = Misuse
+
+-- it was carried out (own)
+abbrev pub is_accepted : Answer → Bool
+is_accepted (Accepted value) = true
+is_accepted r = false
 
 -- an ask that loads no unit (own)
 abbrev pub LoadsNothing : Ask → Type 0

@@ -10,16 +10,16 @@ ghost use Rattle.rv_behind.specs.Acting.{BodiesFit};
 ghost use Rattle.rv_behind.specs.Events.{by, catalogue_of};
 ghost use Rattle.rv_port.specs.Composing.{MayGo};
 ghost use Rattle.rv_port.specs.Endings.{RunsCourse};
-ghost use Rattle.rv_port.specs.Traces.{RepliedOnce, Settled, SettlesBehind, SettlesIf, WoreOut, IsTold, told, asks_on, drops};
+ghost use Rattle.rv_port.specs.Traces.{RepliedOnce, Settled, SettlesBehind, SettlesIf, WoreOut, IsTold, asked_again, told, drops};
 
 use crate::bell::Bell;
 use crate::ended::{Course, Ending, stop_of};
+use crate::own_pass::OwnPass;
 use crate::stacks::PortStack;
-use rv_behind::behind::Behind;
 use rv_behind::event::Letter;
 use rv_event::entry::{Answer, Next, Request};
 use rv_exec::outward::Outward;
-use rv_turn::{Pass, Worn};
+use rv_turn::Worn;
 use std::alloc::Global;
 use std::sync::{Arc, Wait};
 
@@ -27,7 +27,7 @@ use std::sync::{Arc, Wait};
 /// else can ask the end of a body.
 #[derive(Drop)]
 pub(crate) struct Asker {
-    pub(crate) pass: Pass<Behind>,
+    pub(crate) pass: OwnPass,
     pub(crate) bell: Arc<Bell, Global>,
     // Whether bodies that were wanted couldn't be had.
     pub(crate) is_refused: bool,
@@ -47,11 +47,16 @@ pub(crate) struct Asker {
     pub(crate) ghost few: { held + pass.left < 2 ^ 63 },
 }
 
-// Whether the request is to be made again.
-fn must_wait(answer: &Answer) -> bool
-    ensures { result ≡ asks_on answer.now }
+// Whether the request is to be made again: where others hold the object, where the wait isn't over, and where a journal that lasts has
+// no room now.
+fn is_asked_again(is_lasting: bool, answer: &Answer) -> bool
+    ensures { result ≡ asked_again is_lasting answer.now }
 {
-    matches!(answer, Answer::Busy | Answer::Waiting)
+    match answer {
+        Answer::Busy | Answer::Waiting => true,
+        Answer::Full => is_lasting,
+        _ => false,
+    }
 }
 
 // What a body is told of an answer.
@@ -103,7 +108,8 @@ impl Asker {
         Ok(())
     }
 
-    /// Asks, and again at each ring while the answer is Busy or Waiting. Err where no act is left.
+    /// Asks, and again at each ring while the answer is Busy or Waiting, and while it is Full where the journal lasts. Err where no act is
+    /// left.
     pub(crate) fn insist<R: Wait>(&mut self, rt: &R, letter: &mut Letter) -> Result<(), Worn>
         ensures reply { MatchResult
             result
@@ -113,10 +119,11 @@ impl Asker {
     {
         for _ in rt.forever() {
             let rings = self.bell.rings();
+            let lasting = self.pass.is_lasting();
             let Ok(()) = self.try_ask(rt, letter) else {
                 return Err(Worn);
             };
-            if !must_wait(&letter.answer) {
+            if !is_asked_again(lasting, &letter.answer) {
                 self.bell.tell(&letter.answer);
                 return Ok(());
             }

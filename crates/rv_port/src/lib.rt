@@ -11,6 +11,7 @@ pub mod fault;
 pub mod gate;
 pub mod laws;
 pub mod note;
+mod own_pass;
 mod performance;
 pub mod port;
 pub mod reached;
