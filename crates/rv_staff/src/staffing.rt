@@ -5,6 +5,7 @@ ghost use Rattle.rv_behind.specs.Events.{catalogue_of};
 ghost use Rattle.rv_staff.specs.Giving.{GivesOne, SaidOfHire, Starts, actors_of};
 ghost use Rattle.rv_crew.specs.Hiring.{hired};
 ghost use Rattle.rv_staff.specs.Saying.{Says};
+ghost use Rattle.rv_staff.specs.declared.work.Work.{Work};
 
 use crate::hires::Hires;
 use crate::saying::{NO_MEMORY, say, say_no_thread};
@@ -47,6 +48,7 @@ fn work_of(session: &Session, actor: usize) -> Work {
 }
 
 // A thread for a line, with a channel for its raises.
+#[tactic(auto, using(crate::proofs::Starting::some_work, crate::proofs::Starting::this_work))]
 fn hire_line<H: Hires>(
     hires: &H,
     session: &mut Session,
@@ -54,7 +56,7 @@ fn hire_line<H: Hires>(
     port: Port,
 ) -> Result<(), HireFault>
     requires { port.turn ≡ session.old.staff.control.turn }
-    ensures { session.new.staff ≡ record session.old.staff { crew = hired session.old.staff.crew port result } }
+    ensures { (work : Work) × (session.new.staff ≡ record session.old.staff { crew = hired session.old.staff.crew port work result }) }
 {
     if session.channels.reserve(1).is_err() {
         return session.staff.give_up(port);
@@ -98,6 +100,7 @@ fn take_outsider(session: &mut Session, actor: usize) -> Option<Outsider>
 }
 
 // A thread for a task that belongs to another process, with the names of what is loaded by now.
+#[tactic(auto, using(crate::proofs::Starting::some_work, crate::proofs::Starting::this_work))]
 fn hire_outsider<H: Hires>(
     hires: &H,
     session: &mut Session,
@@ -105,7 +108,7 @@ fn hire_outsider<H: Hires>(
     port: Port,
 ) -> Result<(), HireFault>
     requires { port.turn ≡ session.old.staff.control.turn }
-    ensures { session.new.staff ≡ record session.old.staff { crew = hired session.old.staff.crew port result } }
+    ensures { (work : Work) × (session.new.staff ≡ record session.old.staff { crew = hired session.old.staff.crew port work result }) }
 {
     if session.enders.reserve(1).is_err() {
         return session.staff.give_up(port);
@@ -129,6 +132,7 @@ fn hire_outsider<H: Hires>(
 }
 
 // A thread for a task on its port: it serves the process that the task belongs to, or else does the task's own work.
+#[tactic(auto, using(crate::proofs::Starting::some_work, crate::proofs::Starting::this_work))]
 fn hire_task<H: Hires>(
     hires: &H,
     session: &mut Session,
@@ -136,7 +140,7 @@ fn hire_task<H: Hires>(
     port: Port,
 ) -> Result<(), HireFault>
     requires { port.turn ≡ session.old.staff.control.turn }
-    ensures { session.new.staff ≡ record session.old.staff { crew = hired session.old.staff.crew port result } }
+    ensures { (work : Work) × (session.new.staff ≡ record session.old.staff { crew = hired session.old.staff.crew port work result }) }
 {
     match take_outsider(session, actor) {
         Some(outsider) => hire_outsider(hires, session, outsider, port),
@@ -155,7 +159,7 @@ fn hire<H: Hires>(
     port: Port,
 ) -> Result<(), HireFault>
     requires { port.turn ≡ session.old.staff.control.turn }
-    ensures { session.new.staff ≡ record session.old.staff { crew = hired session.old.staff.crew port result } }
+    ensures { (work : Work) × (session.new.staff ≡ record session.old.staff { crew = hired session.old.staff.crew port work result }) }
 {
     if actor < FIRST_TASK {
         return hire_line(hires, session, actor.saturating_sub(1) as u8, port);

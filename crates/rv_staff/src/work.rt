@@ -75,7 +75,7 @@ pub fn perform<R: Wait + Clock>(rt: &R, port: Port, work: Work) -> Finished
     match work {
         Work::Text(budget, notices) => noticed_text_task(rt, port, budget, &notices),
         Work::Device(object, operation, calls) => device(rt, port, object, operation, calls),
-        Work::Line(raised, notices) => line_task(rt, port, raised, notices),
+        Work::Line(raised, notices) => line_task(rt, port, raised.into_iter(rt), notices),
         Work::Lines(alloc, pipes, names) => serve_lines(rt, alloc, port, pipes, &names),
     }
 }
