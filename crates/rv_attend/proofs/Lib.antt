@@ -9,4 +9,4 @@ pub mod Ended
 pub mod GoingOn
 pub mod Unread
 pub mod Beginning
-pub mod Least
+pub mod Owing

@@ -65,7 +65,7 @@ fn depth_of(catalogue: &Catalogue) -> usize
 }
 
 /// How many entries may be owed at once.
-#[tactic(auto, using(crate::proofs::Least::fewer_tasks, crate::proofs::Least::fewer_lines))]
+#[tactic(auto, using(crate::proofs::Owing::fewer_tasks, crate::proofs::Owing::fewer_lines))]
 pub(crate) fn most_owed(catalogue: &Catalogue) -> usize
     ensures owed { result ≡ most_owed catalogue.now }
     ensures few { result ≤ 1249 }
