@@ -1,5 +1,6 @@
 -- Threads that are joined one after another.
 use Rattle.std.proofs.Common.{◌≡◌, ◌∙◌, ◌++◌, List, [], ◌∷◌, map, reverse, refl, sym, ap, subst, append-nil}
+use Rattle.std.proofs.lemmas.List.{append_assoc, map-append, reverse-append}
 use Rattle.rv_port.specs.Ports.{Porting}
 use Rattle.rv_crew.specs.Teams.{EachTwo, Owed, Pays}
 use Rattle.rv_crew.specs.Crews.{Joins}
@@ -28,3 +29,26 @@ LeadsOn does owed all waiting before left = (after : List Porting) → Joins doe
 -- so does what is kept
 abbrev pub KeptOn : {D H K : Type 0} (owed : H → Owed D) (owed_for : K → Owed D) → List K → List H → List K → List H → Type 0
 KeptOn owed owed_for all waiting before left = map owed_for before ++ map owed (reverse left) ≡ map owed_for all ++ map owed (reverse waiting)
+
+-- the last of those that wait is the next that is joined
+reverse_last : {D H : Type 0} (owed : H → Owed D) (waiting left : List H) (thread : H) → waiting ≡ left ++ thread ∷ [] → map owed (reverse waiting) ≡ owed thread ∷ map owed (reverse left)
+reverse_last owed waiting left thread is = ap (λ l. map owed (reverse l)) is ∙ ap (map owed) (reverse-append left (thread ∷ []))
+
+-- one thread more is joined
+pub joins_one : {D H : Type 0} (does : D → Porting → Porting → Type 0) (owed : H → Owed D) (all before before' : List Porting) (first waiting left : List H) (thread : H) (finished : Porting)
+    → waiting ≡ left ++ thread ∷ [] → before' ≡ before ++ finished ∷ [] → Pays does (owed thread) finished → LeadsOn does owed all first before waiting → LeadsOn does owed all first before' left
+joins_one {D} does owed all before before' first waiting left thread finished is put pays leads after joins = leads after (
+  finished ∷ joins.0,
+  subst (λ (l : List (Owed D)). EachTwo (Pays does) l (finished ∷ joins.0)) (sym (reverse_last owed waiting left thread is)) (pays, joins.1),
+  joins.2 ∙ (ap (λ (l : List Porting). l ++ joins.0) put ∙ append_assoc before (finished ∷ []) joins.0),
+)
+
+-- what it owed is kept
+pub keeps_one : {D H K : Type 0} (owed : H → Owed D) (owed_for : K → Owed D) (all before before' : List K) (first waiting left : List H) (thread : H) (kept : K)
+    → waiting ≡ left ++ thread ∷ [] → before' ≡ before ++ kept ∷ [] → owed_for kept ≡ owed thread → KeptOn owed owed_for all first before waiting → KeptOn owed owed_for all first before' left
+keeps_one {D} owed owed_for all before before' first waiting left thread kept is put same on =
+    ap (λ l. map owed_for l ++ map owed (reverse left)) put
+    ∙ (ap (λ (l : List (Owed D)). l ++ map owed (reverse left)) (map-append owed_for before (kept ∷ []))
+    ∙ (append_assoc (map owed_for before) (owed_for kept ∷ []) (map owed (reverse left))
+    ∙ (ap (λ (o : Owed D). map owed_for before ++ o ∷ map owed (reverse left)) same
+    ∙ (ap (λ (l : List (Owed D)). map owed_for before ++ l) (sym (reverse_last owed waiting left thread is)) ∙ on))))

@@ -31,7 +31,7 @@ each_paid does turn (o ∷ os) [] paid of = absurd paid
 each_paid does turn (o ∷ os) (p ∷ ps) paid of = (paid.0.0 ∙ of.0, each_paid does turn os ps paid.1 of.1)
 
 -- a crew without ports
-pub none_of_turn : {D : Type 0} (turn : TableId) (refuses : ℕ) → IsOfTurn {D} turn (no_threads refuses)
+pub none_of_turn : {D : Type 0} (turn : TableId) (refuses : ℕ) → IsOfTurn {D = D} turn (no_threads refuses)
 none_of_turn turn refuses = record { out = tt; back = tt; gone = tt }
 
 -- one thread more, on a port of that turn

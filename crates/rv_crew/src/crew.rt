@@ -1,6 +1,6 @@
 //! The crew: threads that were started, each with a job and a port, and what came of them.
 
-ghost use Rattle.std.specs.Prelude.{◌≡◌, ◌==◌, ◌+◌, ◌≤◌, [], false, map, reverse, length, vec_len, IfOk, IfErr, IfSome, OnOk, OnErr};
+ghost use Rattle.std.specs.Prelude.{◌≡◌, ◌==◌, ◌+◌, ◌++◌, ◌≤◌, [], false, map, reverse, length, vec_len, IfOk, IfErr, IfSome, OnOk, OnErr};
 ghost use Rattle.std.specs.Vec.{vec_capacity};
 ghost use Rattle.rv_crew.specs.Teams.{IsOfTurn, no_threads};
 ghost use Rattle.rv_turn.specs.Histories.{Each};
@@ -118,6 +118,14 @@ impl<D: Duty> Drop for StillOpen<D> {
             control: _,
         } = self;
     }
+}
+
+// The same threads, the last first.
+fn turned<D: Duty>(mut threads: Vec<Running<D>>) -> Vec<Running<D>>
+    ensures { result.items ≡ reverse threads.items }
+{
+    threads.as_mut_slice().reverse();
+    threads
 }
 
 // Waits for threads, the last first, and keeps what each gives, with what was owed for it.
@@ -285,9 +293,8 @@ impl<D: Duty> Crew<D> {
         let count = self.running.len();
         self.joined.reserve(count)?;
         self.paid.reserve(count)?;
-        let mut waiting = mem::replace(&mut self.running, Vec::new(self.alloc));
-        waiting.as_mut_slice().reverse();
-        join_each(rt, waiting, &mut self.joined, &mut self.paid);
+        let waiting = mem::replace(&mut self.running, Vec::new(self.alloc));
+        join_each(rt, turned(waiting), &mut self.joined, &mut self.paid);
         Ok(())
     }
 

@@ -13,7 +13,7 @@ returns-then-has_ended-clause-parts g t c =
 pub returns-else-has_ended-clause-parts : goal.returns-else-has_ended-clause-parts
 returns-else-has_ended-clause-parts g t c =
     goes owed c.args.threads.items c.pop.new.self.items c.in-Some.last (map owed c.args.stay.now.items) c.args.gone.now.items (map owed c.part.new.stay.items) c.part.new.gone.items c.push_reserved-else-has_ended.new.self.items
-    c.in-Some.ensures.items (c.push_reserved-else-has_ended.ensures.items ∙ ap (λ (n : ℕ). c.part.new.gone.items ++ n ∷ []) c.in-Some.last.same) c.part.ensures.parts
+    c.in-Some.ensures.items (c.push_reserved-else-has_ended.ensures.items ∙ ap (λ (n : ℕ). c.part.new.gone.items ++ n ∷ []) c.in-Some.last.same.0) c.part.ensures.parts
 
 pub returns-in_default-clause-parts : goal.returns-in_default-clause-parts
 returns-in_default-clause-parts g t c =
