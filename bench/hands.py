@@ -744,7 +744,7 @@ def units_that_spend(hands: Hands) -> None:
         hands.due(f"{name}: the good unit is served to its end", sum(b" Good.Pilot call Good.Tank Fill -> started" in line for line in lines) == 400, lines[-3:])
         hands.due(f"{name}: no entry is spent by want of a bound", len(lines) < 30000, len(lines))
         for unit in (["Evil0", "Evil4", "Deep"] if name == "loops" else ["Busy"]):
-            due = f"quota: {unit} has spent its 1,000 entries; what it asked behind them was answered full\n".encode()
+            due = f"quota: {unit} has spent its 1,000 entries; what it asks behind them is answered full\n".encode()
             hands.due(f"{name}: the end says that {unit} has spent its quota", due in told, told[-2000:])
         for quota, explained in ((["--quota", "1000"], True), ([], name == "tasks")):
             done = hands.asked(["audit", "--explain", "--journal", str(journal), *quota], texts)

@@ -141,8 +141,8 @@ fn check_promise<E: Write>(session: &Session, asked: &Attention, room: &mut Room
         return;
     }
     room.units = units;
-    if is_too_much(catalogue, quota, session.budget, room.capacity) {
-        let line = promise_line(room.alloc, quota, session.budget, room.capacity);
+    if is_too_much(catalogue, quota, room.capacity) {
+        let line = promise_line(room.alloc, quota, room.capacity);
         room.tell(line, errors);
     }
 }

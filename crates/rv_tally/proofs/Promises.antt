@@ -3,7 +3,7 @@ use Rattle.std.proofs.Common.{◌≡◌, ◌∙◌, ◌+◌, ◌*◌, ◌<◌, �
 use Rattle.std.specs.List.{sum_by}
 use Rattle.std.proofs.lemmas.List.{length-map}
 use Rattle.std.proofs.lemmas.List.Sums.{sum_by-cons}
-use Rattle.std.proofs.Math.Nat.{add-mul, suc-mul}
+use Rattle.std.proofs.Math.Nat.{suc-mul}
 use Rattle.std.proofs.lemmas.Nat.{mul-le}
 use Rattle.rv_shape.specs.Catalogue.{all_tasks, tasks_of}
 use Rattle.rv_shape.specs.Objects.{TaskShape}
@@ -18,19 +18,15 @@ more shapes shape =
     length-append (tasks_of shape) (all_tasks shapes)
     ∙ ap (λ (n : ℕ). n + length (all_tasks shapes)) (length-map shape.tasks (λ (task : TaskShape). record { unit = shape.name; task = task }))
 
-pub all_promised : (shapes : List Shape) (units quota tasks budget : ℕ) → units ≡ length shapes → tasks ≡ length (all_tasks shapes)
-    → units * quota + 2 * (tasks * budget) ≡ sum_by (promised quota budget) shapes
-all_promised [] units quota tasks budget is are =
-    ap (λ (n : ℕ). n * quota + 2 * (tasks * budget)) is ∙ ap (λ (n : ℕ). 0 * quota + 2 * (n * budget)) are ∙ omega arith
-all_promised (shape ∷ shapes) units quota tasks budget is are =
-    let own : ℕ = length shape.tasks in
-    let behind : ℕ = length (all_tasks shapes) in
-    let before : length shapes * quota + 2 * (behind * budget) ≡ sum_by (promised quota budget) shapes =
-    all_promised shapes (length shapes) quota behind budget refl refl in
-    let all : sum_by (promised quota budget) (shape ∷ shapes) ≡ promised quota budget shape + sum_by (promised quota budget) shapes =
-    sum_by-cons (promised quota budget) shape shapes in
+pub all_promised : (shapes : List Shape) (units quota tasks : ℕ) → units ≡ length shapes → tasks ≡ length (all_tasks shapes)
+    → 3 * (units * quota) + tasks ≡ sum_by (promised quota) shapes
+all_promised [] units quota tasks is are = ap (λ (n : ℕ). 3 * (n * quota) + tasks) is ∙ ap (λ (n : ℕ). 3 * (0 * quota) + n) are ∙ omega arith
+all_promised (shape ∷ shapes) units quota tasks is are =
+    let before : 3 * (length shapes * quota) + length (all_tasks shapes) ≡ sum_by (promised quota) shapes =
+    all_promised shapes (length shapes) quota (length (all_tasks shapes)) refl refl in
+    let all : sum_by (promised quota) (shape ∷ shapes) ≡ promised quota shape + sum_by (promised quota) shapes =
+    sum_by-cons (promised quota) shape shapes in
     let quotas : units * quota ≡ length shapes * quota + quota =
     ap (λ (n : ℕ). n * quota) is ∙ suc-mul (length shapes) quota in
-    let budgets : tasks * budget ≡ own * budget + behind * budget =
-    ap (λ (n : ℕ). n * budget) (are ∙ more shapes shape) ∙ add-mul own behind budget in
-    omega (arith, before, all, quotas, budgets)
+    let ends : tasks ≡ length shape.tasks + length (all_tasks shapes) = are ∙ more shapes shape in
+    omega (arith, before, all, quotas, ends)

@@ -5,7 +5,7 @@ use Rattle.rv_tally.specs.Wording.{grouped}
 abbrev pub spent_words : List ℕ → List ℕ → List ℕ
 spent_words unit quota =
     codes "quota: " ++ (unit ++ (codes " has spent its " ++ (quota
-    ++ (codes " entries; what it asked behind them was answered full" ++ 10 ∷ []))))
+    ++ (codes " entries; what it asks behind them is answered full" ++ 10 ∷ []))))
 
 abbrev pub spent_line : List ℕ → ℕ → List ℕ
 spent_line unit quota = spent_words unit (grouped quota)

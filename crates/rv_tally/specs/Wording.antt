@@ -42,18 +42,18 @@ room_line shapes entries capacity used =
 
 -- Quotas
 
--- the entries that a unit's quota and twice its tasks' budgets allow it
-abbrev pub promised : ℕ → ℕ → Shape → ℕ
-promised quota budget shape = quota + 2 * (length shape.tasks * budget)
+-- the entries that a unit's quota lets it add: those that it spends, at most two behind each, and the end of each task
+abbrev pub promised : ℕ → Shape → ℕ
+promised quota shape = 3 * quota + length shape.tasks
 
 -- those of all units are more than a capacity less 512
-abbrev pub is_too_much : List Shape → ℕ → ℕ → ℕ → Bool
-is_too_much shapes quota budget capacity = nat_lt (capacity - 512) (sum_by (promised quota budget) shapes)
+abbrev pub is_too_much : List Shape → ℕ → ℕ → Bool
+is_too_much shapes quota capacity = nat_lt (capacity - 512) (sum_by (promised quota) shapes)
 
-abbrev pub promise_words : List ℕ → List ℕ → List ℕ → List ℕ
-promise_words quota budget capacity =
-    codes "journal: " ++ (capacity ++ (codes " entries less 512 don't hold the quota of " ++ (quota
-    ++ (codes " of each unit and twice the budget of " ++ (budget ++ codes " of each task\n")))))
+abbrev pub promise_words : List ℕ → List ℕ → List ℕ
+promise_words quota capacity =
+    codes "journal: " ++ (capacity ++ (codes " entries less 512 don't hold three times the quota of " ++ (quota
+    ++ codes " of each unit and the end of each task\n")))
 
-abbrev pub promise_line : ℕ → ℕ → ℕ → List ℕ
-promise_line quota budget capacity = promise_words (grouped quota) (grouped budget) (grouped capacity)
+abbrev pub promise_line : ℕ → ℕ → List ℕ
+promise_line quota capacity = promise_words (grouped quota) (grouped capacity)

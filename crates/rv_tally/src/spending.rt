@@ -11,7 +11,7 @@ fn spent_words(alloc: Global, unit: &str, quota: &str) -> Result<String, AllocEr
     ensures { IfOk result (λ line. string_bytes line ≡ spent_words unit.now quota.now) }
 {
     format!(in alloc;
-        "quota: {unit} has spent its {quota} entries; what it asked behind them was answered full\n"
+        "quota: {unit} has spent its {quota} entries; what it asks behind them is answered full\n"
     )
 }
 
