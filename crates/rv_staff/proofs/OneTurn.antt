@@ -32,6 +32,7 @@ use Rattle.rv_crew.specs.Hiring.{hired}
 use Rattle.rv_staff.specs.Staffs.{AreOf, Staffed, Workers, no_crew}
 use Rattle.rv_staff.specs.Working.{Works}
 use Rattle.rv_staff.specs.declared.work.Work.{Work}
+use Rattle.rv_staff.specs.declared.work.Work.TheVariants.{Text}
 use Rattle.rv_staff.specs.Ending.{Closes, Ended, Halts, Waits}
 
 -- What the operator does.
@@ -109,6 +110,12 @@ hired_stay control crew port work (Ok x) same are = record {
 hired_stay control crew port work (Err NoThread) same are = record { none_joined = are.none_joined; none_paid = are.none_paid; one_turn = lost_of_turn control.turn crew port are.one_turn same }
 hired_stay control crew port work (Err GivenUp) same are = record { none_joined = are.none_joined; none_paid = are.none_paid; one_turn = given_up_of_turn control.turn crew port are.one_turn same }
 hired_stay control crew port work (Err NoMemory) same are = are
+
+-- so is it where a port is given up, whatever work it was for
+pub given_up_stay : (control : Passing) (crew after : Workers) (port : Porting) (result : Result (Unit {0}) HireFault) → port.turn ≡ control.turn → AreOf control crew
+    → ((work : Work) → after ≡ hired crew port work result) → AreOf control after
+given_up_stay control crew after port result same are is =
+    subst (AreOf control) (sym (is (Text 1 None))) (hired_stay control crew port (Text 1 None) result same are)
 
 -- What is joined.
 

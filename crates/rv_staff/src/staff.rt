@@ -288,7 +288,6 @@ impl Staff {
     }
 
     /// Gives up a port of this host for whose thread memory was refused: its actor is lost.
-    #[tactic(auto, using(crate::proofs::OneTurn::hired_stay))]
     pub fn give_up(&mut self, port: Port) -> Result<(), HireFault>
         requires { port.turn ≡ self.old.control.turn }
         ensures { (work : Work) → self.new ≡ record self.old { crew = hired self.old.crew port work result } }
