@@ -80,13 +80,18 @@ cut_unbounded b v w p actor acts k t is = subst IsUnbounded (sym (ap (λ (z : Pa
 
 pub opened_unbounded : (turn : TableId) (pass : Passing) (limits : Limits) (log : List Event) (b : Bool) → pass ≡ opening_of turn limits by log
     → (b ≡ false → limits.allowance ≡ None) → b ≡ false → IsUnbounded pass.about
-opened_unbounded turn pass limits log b is k no = subst (λ (z : Passing). IsUnbounded z.about) (sym is) (k no)
+opened_unbounded turn pass limits log b is k free = subst (λ (z : Passing). IsUnbounded z.about) (sym is) (k free)
 
 pub both_known : (lasting bounded result : Bool) (v : Passing) → (lasting ≡ true → lasts v.seen ≡ true) × (bounded ≡ false → IsUnbounded v.about)
     → result ≡ (lasting && not bounded) → result ≡ true → IsKnown v
-both_known true false result v k is yes = (k.0 refl, k.1 refl)
-both_known true true result v k is yes = absurd (cc (sym yes ∙ is))
-both_known false bounded result v k is yes = absurd (cc (sym yes ∙ is))
+both_known true false result v k is e = (k.0 refl, k.1 refl)
+both_known true true result v k is e = absurd (cc (sym e ∙ is))
+both_known false bounded result v k is e = absurd (cc (sym e ∙ is))
+
+-- limits without an allowance
+pub none_of : (allowance : Option ℕ) (b : Bool) → b ≡ is_some allowance → b ≡ false → allowance ≡ None
+none_of None b is e = refl
+none_of (Some most) b is e = absurd (cc (sym is ∙ e))
 
 -- an archive that was accepted
 
@@ -113,19 +118,19 @@ archive_lasts v w n r t e =
 -- what is asked again
 
 unspent : (h : History) (unit : Option ℕ) → h.limits.allowance ≡ None → not (is_spent h unit) ≡ true
-unspent h None none = refl
-unspent h (Some number) none = ap (λ (most : Option ℕ). not (uses_up most (spent h.shapes number h.past))) none
+unspent h None free = refl
+unspent h (Some number) free = ap (λ (most : Option ℕ). not (uses_up most (spent h.shapes number h.past))) free
 
 -- without an allowance each Full is one of the journal
 may_spend_all : (h : History) (a : ℕ) (q : Request) → h.limits.allowance ≡ None → may_spend h a q ≡ true
-may_spend_all h a q none = unspent h (charged h.shapes h.past a q) none
+may_spend_all h a q free = unspent h (charged h.shapes h.past a q) free
 
 both_true : (x y : Bool) → x ≡ true → y ≡ true → (x && y) ≡ true
 both_true x y p q = ap (λ (t : Bool). t && y) p ∙ q
 
 known_again : (limits : Limits) (seen at : List Event) (a : ℕ) (q : Request) → lasts seen ≡ true → limits.allowance ≡ None → StartsWith at seen
     → (lasts at && may_spend (history_at limits at) a q) ≡ true
-known_again limits seen at a q has none s = both_true _ _ (lasts_later seen at s has) (may_spend_all (history_at limits at) a q none)
+known_again limits seen at a q has free s = both_true _ _ (lasts_later seen at s has) (may_spend_all (history_at limits at) a q free)
 
 pub again_at : (b : Bool) (v : Passing) (at : List Event) (q : Request) (r : Answer) → (b ≡ true → IsKnown v) → StartsWith at v.seen → asked_again b r ≡ true
     → comes_again (limits_in v.about) at v.actor q r ≡ true
@@ -148,3 +153,22 @@ pub calm_of : (b : Bool) (r : Answer) → asked_again b r ≡ false → asks_on 
 calm_of b Answers.Busy e = absurd (cc e)
 calm_of b Answers.Waiting e = absurd (cc e)
 calm_of b r e = refl
+
+-- where nothing comes again at Full
+
+without : (x y : Bool) → (x || (y && false)) ≡ x
+without true y = refl
+without false true = refl
+without false false = refl
+
+pub never_at_full : (limits : Limits) (log : List Event) (a : ℕ) (q : Request) (r : Answer) → lasts log ≡ false → comes_again limits log a q r ≡ asks_on r
+never_at_full limits log a q r e =
+    ap (λ (t : Bool). asks_on r || (is_full r && (t && may_spend (history_at limits log) a q))) e ∙ without (asks_on r) (is_full r)
+
+both_false : (x y : Bool) → y ≡ false → (x && y) ≡ false
+both_false true y e = e
+both_false false y e = refl
+
+pub never_when_spent : (limits : Limits) (log : List Event) (a : ℕ) (q : Request) (r : Answer) → may_spend (history_at limits log) a q ≡ false → comes_again limits log a q r ≡ asks_on r
+never_when_spent limits log a q r e =
+    ap (λ (t : Bool). asks_on r || (is_full r && t)) (both_false (lasts log) (may_spend (history_at limits log) a q) e) ∙ without (asks_on r) (is_full r)

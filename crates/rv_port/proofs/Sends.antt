@@ -162,7 +162,7 @@ bell_arc_send : IsSend (arc.the_row bell.the_row global.the_row ghosts)
 bell_arc_send = arc_crosses.the_send bell.the_row global.the_row ghosts bell_crosses.the_send global_crosses.the_send bell_crosses.the_sync global_crosses.the_sync heap_crosses.the_frees
 
 own_pass_inside_send : IsSend own_pass_inside.the_row
-own_pass_inside_send = recorded_send (own_pass_inside.the_field).row _ _ (own_pass_inside.the_type).to_one (struct_send (shape own_pass_inside.the_type) (pass_crosses.the_send behind.the_row ask.the_row reply.the_row letter.the_row event.the_row limits.the_row counted behind_send, (plain_send _ _ _ _ _, tt)))
+own_pass_inside_send = recorded_send (own_pass_inside.the_field).row _ _ (own_pass_inside.the_type).to_one (struct_send (shape own_pass_inside.the_type) (pass_crosses.the_send behind.the_row ask.the_row reply.the_row letter.the_row event.the_row limits.the_row counted behind_send, (plain_send _ _ _ _ _, (plain_send _ _ _ _ _, tt))))
 
 own_pass_send : IsSend own_pass.the_row
 own_pass_send = search (own_pass_inside_send, sendable)

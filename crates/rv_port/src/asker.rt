@@ -1,5 +1,6 @@
 //! The asking part of a port.
 
+ghost use Rattle.std.specs.Coded.{codes};
 ghost use Rattle.std.specs.Prelude.{◌≡◌, ◌<◌, ◌+◌, ◌^◌, ℕ, ◌++◌, ◌∷◌, [], MatchResult, true, false, is_some};
 ghost use Rattle.rv_turn.specs.Histories.{mine};
 ghost use Rattle.rv_turn.specs.Passes.{IsWorn};
@@ -7,6 +8,7 @@ ghost use Rattle.rv_port.specs.Held.{held_past};
 ghost use Rattle.rv_port.specs.Actors.{HasHandler};
 ghost use Rattle.rv_port.specs.Held.{held_by};
 ghost use Rattle.rv_behind.specs.Acting.{BodiesFit};
+ghost use Rattle.rv_behind.specs.contracts.event.Event as e;
 ghost use Rattle.rv_behind.specs.Events.{by, catalogue_of};
 ghost use Rattle.rv_port.specs.Composing.{MayGo};
 ghost use Rattle.rv_port.specs.Endings.{RunsCourse};
@@ -38,11 +40,11 @@ pub(crate) struct Asker {
     // The stack on which its bodies and its text run.
     pub(crate) stack: PortStack,
     pub(crate) ghost given: { pass.first ≡ false },
-    pub(crate) ghost fresh: { pass.base ≡ [] },
+    pub(crate) ghost fresh: { pass.base ≡ [] } by { Prim.hlevel (codes, e.the_row.coded) },
     pub(crate) ghost limited: { is_some pass.about ≡ true },
     pub(crate) ghost handles: { HasHandler (catalogue_of pass.seen) pass.actor },
     pub(crate) ghost fits: { BodiesFit pass.seen },
-    pub(crate) ghost owns: { mine by pass.actor pass.seen ≡ pass.base ++ pass.own },
+    pub(crate) ghost owns: { mine by pass.actor pass.seen ≡ pass.base ++ pass.own } by { Prim.hlevel (codes, e.the_row.coded) },
     pub(crate) ghost counts: { held ≡ held_by pass },
     pub(crate) ghost few: { held + pass.left < 2 ^ 63 },
 }

@@ -1,6 +1,6 @@
 //! The pass of a control or of a port, with what it knows of how long the journal lasts.
 
-ghost use Rattle.std.specs.Prelude.{◌≡◌, true, false, IfOk, IfErr, OnErr, MatchResult};
+ghost use Rattle.std.specs.Prelude.{◌≡◌, ◌<◌, true, false, IfOk, IfErr, OnErr, MatchResult};
 ghost use Rattle.rv_turn.specs.Faults.{IsFault};
 ghost use Rattle.rv_turn.specs.Histories.{Has};
 ghost use Rattle.rv_turn.specs.Passes.{Acted, IsWorn, Meets, Parted};

@@ -94,7 +94,7 @@ impl Control {
     /// # Errors
     /// `Unfit` where its bodies have another number of objects or tasks than the shape, or call what isn't there: then nothing is
     /// asked, and it is dropped. `load_shape` loads such a unit without bodies. `Worn` where no act is left.
-    #[tactic(auto, using(crate::proofs::Controls::told_ok, crate::proofs::Controls::told_fault))]
+    #[tactic(auto, using(crate::proofs::Controls::told_fault))]
     pub fn load<R: Wait>(&mut self, rt: &R, unit: Unit) -> Result<Answer, LoadFault>
         ensures ok { IfOk result (λ r. LoadTold self.old unit.shape (λ u. u ≡ unit.bodies) r self.new) }
         ensures fault { IfErr result (λ fault. IsLoadFault self.old unit.shape unit.bodies fault self.new) }
