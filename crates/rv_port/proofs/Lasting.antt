@@ -8,7 +8,6 @@ use Rattle.atomic_table.specs.Seated.{TableId}
 use Rattle.rv_turn.specs.Passes.{Acted, IsWorn, Meets, Parted, opening_of}
 use Rattle.rv_turn.specs.declared.pass.Worn.{Worn}
 use Rattle.rv_event.specs.Past.{archives}
-use Rattle.rv_event.specs.Recorded.{recorded}
 use Rattle.rv_event.specs.declared.entry.Request.{Request}
 use Rattle.rv_event.specs.declared.entry.Request.TheVariants.{Archive}
 use Rattle.rv_event.specs.declared.entry.Answer.{Answer}
