@@ -1,5 +1,5 @@
 -- What `run` chooses.
-use Rattle.std.proofs.Common.{◌≡◌, ◌∷◌, ◌∙◌, List, Option, Some, None, true≢false, codes, slice_index, ap, sym, subst}
+use Rattle.std.proofs.Common.{◌≡◌, ◌∙◌, List, Option, Some, None, true≢false, codes, slice_index, ap, sym, subst}
 use Rattle.std.specs.Prelude.{◌==◌, IfOk, Result, Ok, Err, false, option_map}
 use Rattle.clap.specs.Walk.{Row, Text, first_of}
 use Rattle.rv_choice.specs.declared.misuse.Misuse.{Misuse}
