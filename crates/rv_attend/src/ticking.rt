@@ -103,9 +103,10 @@ fn tick_once<T: Wait>(rt: &T, staff: &mut Staff, pace: &mut Pace, now: Instant)
     if ticks == 0 {
         return;
     }
-    if !ask_room(rt, staff, ticks) {
-        pace.give_back(ticks);
+    if ask_room(rt, staff, ticks) {
+        return;
     }
+    pace.give_back(ticks);
 }
 
 /// The same where the run lasts: at a reading at most 1,000,000 ticks are asked, and those that there is no room for now stay due.
