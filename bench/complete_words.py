@@ -124,8 +124,8 @@ OF_LAUNCHER = [
     ("{} --install y", ONE, "{} --install y-folder/"),
     ("{} --install x", ONE, "{} --install x"),
     ("{} --prove ", ALL, "{} --prove "),
-    ("{} audit --", ALL, "{} audit --color --explain --help --host --journal --list --notes --script --shape --torn --unit"),
-    ("{} audit --journal x-one.journal --", ALL, "{} audit --journal x-one.journal --color --explain --host --list --notes --script --shape --torn --unit"),
+    ("{} audit --", ALL, "{} audit --color --explain --help --host --journal --list --notes --quota --script --shape --torn --unit"),
+    ("{} audit --journal x-one.journal --", ALL, "{} audit --journal x-one.journal --color --explain --host --list --notes --quota --script --shape --torn --unit"),
 ]
 
 

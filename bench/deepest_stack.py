@@ -1,7 +1,8 @@
 #!/usr/bin/env python3
 """Shows how much of its stack the program's own thread touches on the deepest legal texts (`deepest_texts.py`): reading, types, the
 tables of the machine, and letting go of trees. Each text is loaded by `run`; then the resident bytes of that stack's mapping are
-read, which never shrink. It fails where twice the most is more than the stack.
+read, which never shrink. It fails where twice the most is more than rv_unit's STACK_BYTES, which threads that read texts need; the
+program's own has several times as much.
 
     bench/deepest_stack.py [--jobs N] [--text NAME].. PROGRAM..
 
@@ -19,18 +20,21 @@ import deepest_texts
 
 TOP = os.path.dirname(os.path.dirname(os.path.abspath(__file__)))
 SOURCE = os.path.join(TOP, "crates/rv_unit/src/lib.rt")
+PROGRAM = os.path.join(TOP, "crates/ravenhost/src/main.rt")
 LIMIT = 600  # seconds for one text
 PAGE = "bad command\n"  # the answer to a word that is no command
 
 
 def stack_bytes():
-    """The stack of the program's own thread, as the source gives it."""
+    """The stack that a thread which reads texts needs, as rv_unit gives it, and that of the program's own, which has it so many times."""
     with open(SOURCE, encoding="utf-8") as file:
         product = re.search(r"pub const STACK_BYTES: usize = ([\d* _]+);", file.read())[1]
-    whole = 1
+    with open(PROGRAM, encoding="utf-8") as file:
+        times = int(re.search(r"stack_size\((\d+) \* STACK_BYTES\)", file.read())[1])
+    needed_bytes = 1
     for part in product.replace("_", "").split("*"):
-        whole *= int(part)
-    return whole
+        needed_bytes *= int(part)
+    return needed_bytes, times * needed_bytes
 
 
 def touched(process, size):
@@ -76,14 +80,14 @@ def main():
     parser.add_argument("programs", metavar="PROGRAM", nargs="+")
     arguments = parser.parse_args()
     texts = [it for it in deepest_texts.texts() if not arguments.text or it[0] in arguments.text]
-    size, is_enough = stack_bytes(), True
+    (least, size), is_enough = stack_bytes(), True
     for program in arguments.programs:
         with ThreadPoolExecutor(arguments.jobs) as pool:
             told = list(pool.map(lambda it: (needed(program, size, it[1]), it[0]), texts))
         silent = [name for found, name in told if not found]
         most, name = max((found or 0, name) for found, name in told)
-        is_enough = is_enough and not silent and 0 < 2 * most <= size
-        print(f"{os.path.basename(program)}: {len(told)} deepest texts; {name} touches the most of the stack, {most:,} bytes of {size:,}", flush=True)
+        is_enough = is_enough and not silent and 0 < 2 * most <= least
+        print(f"{os.path.basename(program)}: {len(told)} deepest texts; {name} touches the most of the stack, {most:,} bytes; twice that may be {least:,}, and the stack has {size:,}", flush=True)
         if silent:
             print(f"no answer, or no such stack: {' '.join(silent)}", flush=True)
     return 0 if is_enough else 1

@@ -56,6 +56,23 @@ flags_named() {
     [ "$missing:$((count > 14))" = 0:1 ]
 }
 
+# Each status that README has, and each request of a step that SCRIPTS has, below the page's own heads.
+statuses_and_requests() {
+    python3 - "$folder/page" <<'END'
+import re, sys
+page = open(sys.argv[1]).read()
+below = lambda head, end: re.search(head + r"\n(.*?)" + end, page, re.S)[1]
+told = re.search(r"^- Statuses: (.*?)\n-", open("README.md").read(), re.S | re.M)[1]
+statuses = set(re.findall(r"\b(\d+)[ ,]", told))
+stated = {it for row in re.findall(r"^ {5}(\d[\d, ]*?)(?: {2,}|$)", below("EXIT STATUS", "\nEXAMPLES"), re.M) for it in row.split(", ")}
+requests = set(re.findall(r"^- `(?:ACTOR|Int_K|operator) (\w+)", open("docs/SCRIPTS.md").read(), re.M))
+said = set(re.findall(r"\w+", below(" +Steps", "\n +Commands of a run")))
+assert len(statuses) > 7 and len(requests) > 12, (statuses, requests)
+missing = [f"status {it}" for it in sorted(statuses - stated, key=int)] + [f"request {it}" for it in sorted(requests - said)]
+sys.exit("not in the page: " + ", ".join(missing) if missing else 0)
+END
+}
+
 # What clap is told in the source stands in the stored help. bench/command_line.py compares it with the program's own.
 stored_help() {
     python3 - <<'END'
@@ -121,7 +138,7 @@ for line in open(sys.argv[1]):
 # Faults of a line's own words, but where a number is the fault, a word of the console, a section that another command serves, or
 # nothing that an editor shows.
 told = ("BadStep", "BadSection", "list BadWord", "list BadName", "lex BadCharacter", "lex NotAscii")
-not_told = {"go_zero_times", "go_below_zero_times", "step_calls_with_5_values", "step_operator_without_request",
+not_told = {"go_zero_times", "go_below_zero_times", "archive_of_fewer_than_none", "step_calls_with_5_values", "step_operator_without_request",
             "step_raises_with_a_letter_past_ascii", "step_without_request", "list_name_ends_in_underscore", "cause_command_journal",
             "cause_command_raise", "cause_command_blank", "cause_mark_before_a_section", "cause_load_of_a_section",
             "cause_step_33_components", "cause_step_alone", "cause_step_go", "cause_step_values_5", "whole_load_without_end",
@@ -189,6 +206,7 @@ due "mandoc -Tlint" lint
 due "man --warnings" groff_page
 due "sentences of at most 20 words" sentences
 due "each flag stands in the page" flags_named
+due "each status and each request of a step stands in the page" statuses_and_requests
 due "the stored help has the words of the source" stored_help
 due "completions are those of the help" manual/completions.py --check
 due "a changed help is seen" stale

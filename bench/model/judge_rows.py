@@ -1,5 +1,6 @@
 #!/usr/bin/env python3
-"""Judges the unit texts of the worked rows, and compares what is stored beside each row. README.md says more."""
+"""Judges the unit texts of the worked rows, and compares what is stored beside each row. README.md says more. Ends with 1 where a verdict
+differs that isn't one of KNOWN, or where one of these doesn't differ any more."""
 import argparse
 import re
 import sys
@@ -10,6 +11,16 @@ from judge import Judge
 from play import Fault, sections_of
 
 ROWS = Path(__file__).parents[2] / "crates/rv_rows/data"
+# What the judge says of rows in which the documents can be read both ways: of a name of a line where an Integer has to be static, and which fault
+# of an `Attach_Handler` is told.
+KNOWN = {
+    "cause_handler_pragma_of_another": "names WrongKind at 228",
+    "cause_handler_pragma_of_none": "names WrongKind at 220",
+    "cause_handler_pragma_sum": "types Mismatch at 208",
+    "cause_line_given_twice": "types Mismatch at 177",
+    "cause_pragma_of_a_handler": "types Mismatch at 125",
+    "types_line_is_no_integer": "types Mismatch at 64",
+}
 
 
 def judged(script: str) -> Iterator[tuple[int, str]]:
@@ -49,16 +60,22 @@ def main() -> int:
     parser = argparse.ArgumentParser(description="The judge's verdicts on the unit texts of the rows.")
     parser.add_argument("rows", metavar="ROW", type=Path, nargs="*", help="a script; all rows where none is given")
     sys.setrecursionlimit(100_000)  # the deepest rows
-    texts = refused = differing = 0
-    for path in parser.parse_args().rows or sorted(ROWS.glob("*.raven")):
+    texts = refused = wrong = 0
+    rows = parser.parse_args().rows or sorted(ROWS.glob("*.raven"))
+    missed = known = {path.stem for path in rows} & set(KNOWN)
+    for path in rows:
         for verdict, stored in compare(path):
             texts += 1
             refused += not verdict.endswith(": ok")
             if verdict != stored:
-                differing += 1
-                print(f"{path.stem}: judged {verdict}, stored {stored}")
-    print(f"{texts} unit texts, {refused} refused, {differing} differ")
-    return 1 if differing else 0
+                is_known = KNOWN.get(path.stem) == verdict
+                wrong += not is_known
+                missed = missed - {path.stem} if is_known else missed
+                print(f"{path.stem}: judged {verdict}, stored {stored}" + (", as is known" if is_known else ""))
+    for name in sorted(missed):
+        print(f"{name}: doesn't differ as is known")
+    print(f"{texts} unit texts, {refused} refused, {len(known - missed)} differ as is known, {wrong + len(missed)} otherwise")
+    return 1 if wrong or missed else 0
 
 
 if __name__ == "__main__":
