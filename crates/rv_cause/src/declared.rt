@@ -77,6 +77,38 @@ impl Sort {
 }
 
 impl<'a> Declared<'a> {
+    /// What a shape declares in a unit, or as an operation of its object of a name.
+    pub fn shaped(unit: &'a str, home: &'a str, name: &'a str, sort: Sort) -> Declared<'a> {
+        Declared {
+            unit,
+            home,
+            operation: "",
+            name,
+            sort,
+            mark: "",
+            at: 0,
+            is_hidden: false,
+            is_declaration: true,
+            is_own: false,
+        }
+    }
+
+    /// The same, of a type.
+    pub fn of(self, mark: &'a str) -> Declared<'a> {
+        Declared {
+            unit: self.unit,
+            home: self.home,
+            operation: self.operation,
+            name: self.name,
+            sort: self.sort,
+            mark,
+            at: self.at,
+            is_hidden: self.is_hidden,
+            is_declaration: self.is_declaration,
+            is_own: self.is_own,
+        }
+    }
+
     /// Whether others call its operations.
     pub fn is_object(&self) -> bool {
         self.sort == Sort::Protected && self.mark != "type" || self.sort == Sort::Object

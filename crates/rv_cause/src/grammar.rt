@@ -3,7 +3,7 @@
 use crate::around::Around;
 use crate::cases::{Case, Within, first_of};
 use crate::cause::Cause;
-use crate::line::is_listed;
+use crate::forms::is_listed;
 use crate::words::Words;
 use rv_lex::token::Token;
 

@@ -2,7 +2,7 @@
 
 use crate::around::Around;
 use crate::declared::{Declared, Sort, either};
-use crate::line::is_listed;
+use crate::forms::is_listed;
 use crate::words::Words;
 use rv_lex::token::Token;
 use rv_near::nearest;

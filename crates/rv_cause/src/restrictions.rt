@@ -3,9 +3,9 @@
 use crate::around::Around;
 use crate::cause::Cause;
 use crate::declared::{Sort, is_a};
+use crate::forms::is_listed;
 use crate::known::Known;
 use crate::library;
-use crate::line::is_listed;
 use crate::unknown::unknown;
 use crate::words::Words;
 use std::alloc::{AllocError, Global};

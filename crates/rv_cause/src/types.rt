@@ -9,7 +9,6 @@ use crate::known::{Group, Known};
 use crate::ranges::outside;
 use crate::words::{Words, is_among, is_literal};
 use rv_text::is_same_name;
-use std::alloc::{AllocError, Global};
 
 const CONDITION: &str = "a condition is Boolean; what begins with {0} isn't (5.3)";
 

@@ -1,7 +1,7 @@
 //! Procedures that are attached to lines of interrupts (C.3.1), as texts and shapes declare them.
 
+use crate::line::Line;
 use rv_cause::around::Around;
-use rv_cause::line::Line;
 use rv_cause::words::Words;
 use rv_lex::token::Token;
 use std::alloc::{AllocError, Global};

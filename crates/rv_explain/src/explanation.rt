@@ -42,12 +42,7 @@ pub(crate) fn of_line<'a>(
     cause: &Cause<'_>,
     known: &Known<'_>,
 ) -> Result<Explanation<'a>, AllocError> {
-    let spot = Spot {
-        number: spot.number,
-        line: spot.line,
-        offset: cause.at,
-    };
-    at_spot(alloc, spot, cause, known, spot.number)
+    at_spot(alloc, spot.at(cause.at), cause, known, spot.number)
 }
 
 /// The same of one whose place counts in a part's text, without carriage returns before line feeds.

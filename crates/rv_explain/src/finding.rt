@@ -1,17 +1,25 @@
 //! Finds what is said of a fault.
 
 use crate::bytes::of_bytes;
-use crate::explanation::{Explanation, nothing, of_line, of_part, of_script};
-use crate::parts::{known_before, load_at, opening_before, part_at, texts_before};
+use crate::commands::bad_command;
+use crate::explanation::{Explanation, nothing, of_line, of_part, of_place, of_script};
+use crate::line::{Line, lines_of};
+use crate::lists::cause_of_list;
+use crate::loaded::Loaded;
+use crate::parts::{
+    catalogue_before, declared_by, known_before, load_at, opening_before, part_at, shapes_before,
+    texts_before,
+};
 use crate::sections::bad_section;
+use crate::settings::cause_of_settings;
+use crate::shapes;
 use crate::spot::{Spot, line_spot};
+use crate::steps::bad_step;
 use crate::taken::line_taken_by_shape;
 use crate::units::of_unit;
 use rv_access::ListFault;
 use rv_cause::cause::Cause;
 use rv_cause::known::Known;
-use rv_cause::line::Line;
-use rv_cause::{commands, lists, loaded, settings, shapes, steps};
 use rv_fault::{Part, ScriptFault, What};
 use rv_script::unit_text::unit_text;
 use rv_script::{Opening, TextError, opening_of, text_of};
@@ -35,23 +43,6 @@ fn list_line(fault: ListFault) -> usize {
         | ListFault::BadWindow(line)
         | ListFault::TooMany(line) => line,
         ListFault::NoMemory => 0,
-    }
-}
-
-// The cause of a fault of a line, whose first word of the list has a number.
-fn cause_of_list<'a>(
-    words: &Line<'a>,
-    first: usize,
-    fault: ListFault,
-) -> Result<Cause<'a>, AllocError> {
-    match fault {
-        ListFault::BadWord(_) => Ok(lists::bad_word(words, first)),
-        ListFault::BadName(_) => Ok(lists::bad_name(words, first)),
-        ListFault::BadWindow(_) => Ok(lists::bad_window(words, first)),
-        ListFault::TooMany(_) => {
-            Ok(words.cause(0, "this is the 513th line of the list; 512 are the most"))
-        }
-        ListFault::NoMemory => Ok(Cause::plain(0, "memory was refused")),
     }
 }
 
@@ -84,7 +75,7 @@ fn of_list<'a>(
     };
     let words = Line::of(alloc, spot.line, 0)?;
     let first = if is_part { 0 } else { first_of_step(&words) };
-    let cause = cause_of_list(&words, first, fault)?;
+    let cause = cause_of_list(spot.line, &words, first, fault);
     of_line(alloc, &spot, &cause, &Known::new(alloc))
 }
 
@@ -97,9 +88,15 @@ fn of_unknown<'a>(
 ) -> Result<Explanation<'a>, AllocError> {
     let words = Line::of(alloc, spot.line, 0)?;
     let texts = texts_before(alloc, script, line)?;
-    let known = known_before(alloc, script, line, texts.as_slice())?;
-    let cause = loaded::unknown_name(alloc, &words, &known)?;
-    of_line(alloc, spot, &cause, &known)
+    let known = declared_by(alloc, texts.as_slice())?;
+    let catalogue = catalogue_before(alloc, script, line)?;
+    let loaded = Loaded {
+        alloc,
+        catalogue: &catalogue,
+        known: &known,
+    };
+    let told = loaded.unknown_name(&words)?;
+    Ok(of_place(alloc, spot.at(told.at), told.sentence))
 }
 
 // The cause of a line that is no step or no command.
@@ -111,8 +108,8 @@ fn cause_of_step<'a>(
 ) -> Result<Cause<'a>, AllocError> {
     let words = Line::of(alloc, text, 0)?;
     match opening_before(script, line) {
-        Some(Opening::Run) => Ok(commands::bad_command(&words)),
-        _ => Ok(steps::bad_step(&words)),
+        Some(Opening::Run) => Ok(bad_command(&words)),
+        _ => bad_step(alloc, text, &words),
     }
 }
 
@@ -149,24 +146,6 @@ fn of_spot<'a>(
     of_line(alloc, &spot, &cause, &Known::new(alloc))
 }
 
-// The cause of a fault of settings.
-fn cause_of_settings<'a>(
-    alloc: Global,
-    text: &'a str,
-    fault: SettingsFault,
-) -> Result<Cause<'a>, AllocError> {
-    match fault {
-        SettingsFault::NotToml => Ok(settings::not_toml(alloc, text)),
-        SettingsFault::UnknownKey => {
-            settings::unknown_key(alloc, settings::entries_of(alloc, text)?.as_slice())
-        }
-        SettingsFault::BadValue => {
-            Ok(settings::bad_value(settings::entries_of(alloc, text)?.as_slice()))
-        }
-        SettingsFault::NoMemory => Ok(Cause::plain(0, "memory was refused")),
-    }
-}
-
 // What is said of a fault of settings.
 fn of_settings<'a>(
     alloc: Global,
@@ -186,7 +165,8 @@ fn name_taken<'a>(
     lines: &[Line<'a>],
 ) -> Result<Cause<'a>, AllocError> {
     let texts = texts_before(alloc, script, line)?;
-    let known = known_before(alloc, script, line, texts.as_slice())?;
+    let before = shapes_before(alloc, script, line)?;
+    let known = known_before(alloc, texts.as_slice(), before.as_slice())?;
     Ok(shapes::name_taken(lines, &known))
 }
 
@@ -195,14 +175,18 @@ fn cause_of_shape<'a>(
     alloc: Global,
     script: &str,
     line: usize,
+    text: &str,
     lines: &[Line<'a>],
     fault: ShapeFault,
 ) -> Result<Cause<'a>, AllocError> {
     match fault {
-        ShapeFault::BadText => Ok(shapes::bad_text(lines)),
+        ShapeFault::BadText => shapes::bad_text(alloc, text, lines),
         ShapeFault::NameTaken => name_taken(alloc, script, line, lines),
         ShapeFault::TooMany => Ok(shapes::too_many(lines)),
-        ShapeFault::LineTaken => Ok(shapes::line_taken(lines)),
+        ShapeFault::LineTaken => Ok(Cause::plain(
+            0,
+            "an interrupt line has a handler already (C.3.1)",
+        )),
         ShapeFault::CeilingTooLow => Ok(shapes::ceiling_too_low(lines)),
         ShapeFault::BadRange => Ok(shapes::bad_range(lines)),
         ShapeFault::NoMemory => Ok(Cause::plain(0, "memory was refused")),
@@ -224,8 +208,15 @@ fn of_shape<'a>(
         return line_taken_by_shape(alloc, script, part);
     }
     let text = unit_text(alloc, part.text)?;
-    let lines = shapes::lines_of(alloc, text.as_str())?;
-    let cause = cause_of_shape(alloc, script, part.line, lines.as_slice(), fault)?;
+    let lines = lines_of(alloc, text.as_str())?;
+    let cause = cause_of_shape(
+        alloc,
+        script,
+        part.line,
+        text.as_str(),
+        lines.as_slice(),
+        fault,
+    )?;
     of_part(alloc, part, &cause, &known)
 }
 
@@ -295,8 +286,8 @@ fn of_command<'a>(
 ) -> Result<Explanation<'a>, AllocError> {
     let words = Line::of(alloc, line, 0)?;
     let cause = match what {
-        What::List(fault) => cause_of_list(&words, first_of_step(&words), fault)?,
-        _ => commands::bad_command(&words),
+        What::List(fault) => cause_of_list(line, &words, first_of_step(&words), fault),
+        _ => bad_command(&words),
     };
     let spot = Spot {
         number,

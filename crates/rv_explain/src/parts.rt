@@ -1,7 +1,7 @@
 //! The parts of a script, and what those before a line declare.
 
+use crate::shaped::add_shape;
 use rv_cause::known::Known;
-use rv_cause::loaded::add_shape;
 use rv_fault::{Failure, Part, Parts, shape_of, unit_of};
 use rv_lex::lexer::tokens;
 use rv_lex::token::Tokens;
@@ -141,34 +141,48 @@ pub(crate) fn texts_before<'a>(
     Ok(texts)
 }
 
-// Adds what the shapes before a line declare.
-fn add_shapes<'a>(
+/// The shapes before a line.
+pub(crate) fn shapes_before(
     alloc: Global,
-    script: &'a str,
+    script: &str,
     line: usize,
-    known: &mut Known<'a>,
-) -> Result<(), AllocError> {
+) -> Result<Vec<UnitShape>, AllocError> {
+    let mut shapes = Vec::new(alloc);
     let mut parts = parts_of(script);
     'each: while let Some(part) = parts.next_part() {
         if part.line < line && part.opening == Some(Opening::Shape) {
-            add_shape(alloc, known, part.text)?;
+            match shape_of(alloc, part.line, part.text) {
+                Ok(shape) => shapes.push(shape)?,
+                Err(Failure::Memory) => return Err(AllocError),
+                Err(_) => {}
+            }
         }
     }
-    Ok(())
+    Ok(shapes)
 }
 
-/// What the parts before a line declare, whose unit texts have these words.
-pub(crate) fn known_before<'a>(
+/// What the unit texts of these words declare.
+pub(crate) fn declared_by<'a>(
     alloc: Global,
-    script: &'a str,
-    line: usize,
     texts: &[Tokens<'a>],
 ) -> Result<Known<'a>, AllocError> {
     let mut known = Known::new(alloc);
     for words in texts {
         known.add_text(words.as_slice(), false)?;
     }
-    add_shapes(alloc, script, line, &mut known)?;
+    Ok(known)
+}
+
+/// What the parts before a line declare, whose unit texts have these words, and whose shapes are these.
+pub(crate) fn known_before<'a>(
+    alloc: Global,
+    texts: &[Tokens<'a>],
+    shapes: &'a [UnitShape],
+) -> Result<Known<'a>, AllocError> {
+    let mut known = declared_by(alloc, texts)?;
+    for shape in shapes {
+        add_shape(&mut known, shape)?;
+    }
     Ok(known)
 }
 

@@ -34,6 +34,17 @@ fn characters(bytes: &[u8]) -> usize
 }
 
 impl<'a> Spot<'a> {
+    /// Another place of its line.
+    pub fn at(&self, offset: usize) -> Spot<'a>
+        ensures { (result.number ≡ self.now.number) × (result.line.now ≡ self.now.line.now) × (result.offset ≡ offset) }
+    {
+        Spot {
+            number: self.number,
+            line: self.line,
+            offset,
+        }
+    }
+
     #[tactic(auto, using(std::proofs::lemmas::List::take_all))]
     /// The column of the place, in characters from 1. A tab is one character.
     pub fn column(&self) -> usize

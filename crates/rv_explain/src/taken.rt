@@ -2,10 +2,10 @@
 
 use crate::attached::{Attached, attached_by_shape, attached_in, first_of};
 use crate::explanation::{Explanation, of_part, of_part_beside};
+use crate::line::lines_of;
 use crate::parts::{parts_of, unit_text_before};
 use rv_cause::cause::Cause;
 use rv_cause::known::Known;
-use rv_cause::shapes::lines_of;
 use rv_fault::Part;
 use rv_lex::lexer::tokens;
 use rv_script::Opening;

@@ -5,17 +5,17 @@ use crate::attached::attached_in;
 use crate::ceilings::ceiling_too_low;
 use crate::explanation::{Explanation, of_part};
 use crate::grammar::Stop;
-use crate::members;
-use crate::parts::{catalogue_before, known_before, texts_before};
+use crate::parts::{catalogue_before, known_before, shapes_before, texts_before};
 use crate::places::place_of;
 use crate::taken::line_taken;
 use crate::wanted::wanted_types;
+use crate::{lexical, members, shapes};
 use rv_cause::around::Around;
 use rv_cause::cases::told;
 use rv_cause::cause::Cause;
 use rv_cause::known::Known;
 use rv_cause::words::Words;
-use rv_cause::{grammar, lexical, names, nulls, restrictions, shapes, types, unknown};
+use rv_cause::{grammar, names, nulls, restrictions, types, unknown};
 use rv_fault::Part;
 use rv_further::further;
 use rv_lex::fault::LexFault;
@@ -60,9 +60,9 @@ fn of_words(alloc: Global, text: &str, fault: LexFault) -> Cause<'_> {
         LexFault::BadCharacter(at) => lexical::bad_character(text, at),
         LexFault::BadLiteral(at) => match of_fraction(alloc, text, at) {
             Some(cause) => cause,
-            None => lexical::bad_literal(text, at),
+            None => lexical::bad_number(text, at),
         },
-        LexFault::BadIdentifier(at) => lexical::bad_identifier(text, at),
+        LexFault::BadIdentifier(at) => lexical::bad_name(text, at),
         LexFault::NotAscii(at) => Cause::plain(at, NOT_ASCII),
         LexFault::NoMemory => Cause::plain(0, NO_MEMORY),
     }
@@ -369,7 +369,8 @@ pub(crate) fn of_unit<'a>(
         return of_part(alloc, part, &cause, &Known::new(alloc));
     };
     let texts = texts_before(alloc, script, part.line)?;
-    let mut known = known_before(alloc, script, part.line, texts.as_slice())?;
+    let shapes = shapes_before(alloc, script, part.line)?;
+    let mut known = known_before(alloc, texts.as_slice(), shapes.as_slice())?;
     if knows_itself(fault) {
         known.add_text(own.as_slice(), true)?;
     }
