@@ -1,2 +1,2 @@
 mod More
-mod Going
+mod Asked

@@ -35,7 +35,7 @@ impl Kept {
 
     /// Makes one request of an actor's text: what `go` of a script asks for it. Misuse where it asks nothing: it has no body, or has ended.
     /// A machine runs the text, so no stack is needed. OutOfMemory where memory is refused; then nothing is changed.
-    #[tactic(auto, using(crate::proofs::Going::gone, crate::proofs::Going::lacking))]
+    #[tactic(auto, using(crate::proofs::Asked::gone, crate::proofs::Asked::lacking))]
     pub fn go(&mut self, alloc: Global, actor: usize) -> Answer
         ensures { Goes actor self.old self.new result }
     {
@@ -60,7 +60,7 @@ impl Kept {
 
     /// An interrupt of a line, whose actor's number is one above its own. Where its handler has a text, that begins by the answer.
     /// OutOfMemory where memory is refused; then nothing is changed.
-    #[tactic(auto, using(crate::proofs::Going::fired))]
+    #[tactic(auto, using(crate::proofs::Asked::fired))]
     pub fn fire(&mut self, line: u32) -> Answer
         ensures { Fires line self.old self.new result }
     {

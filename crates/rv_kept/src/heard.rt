@@ -50,7 +50,7 @@ fn is_heard(goes: bool, request: &Request, answer: &Answer) -> bool
 }
 
 // Adds an item. Where memory is refused nothing is added.
-fn add(items: &mut Vec<Heard>, item: Heard) -> Result<(), AllocError>
+fn add<T: Drop>(items: &mut Vec<T>, item: T) -> Result<(), AllocError>
     ensures ok { OnOk result (items.new.items ≡ items.old.items ++ item ∷ []) }
     ensures err { OnErr result (items.new.items ≡ items.old.items) }
 {
