@@ -1,10 +1,8 @@
 -- Lines that are carried one after another.
-use Rattle.std.proofs.Common.{◌≡◌, ℕ, suc, List, [], ◌++◌, Option, Some, None, Ok, Err, Result, refl, sym, ap, ◌∙◌, subst, append-nil}
+use Rattle.std.proofs.Common.{◌≡◌, ℕ, suc, List, [], Some, None, Ok, Result, sym, ◌∙◌, subst, append-nil}
 use Rattle.std.specs.Io.KnownBytes.{Appends, Keeps}
 use Rattle.rv_script.specs.Prefixes.{WritesPrefix}
-use Rattle.std.specs.declared.io.Error.{Error}
-use Rattle.rv_pipes.specs.declared.lines.Next.{Next}
-use Rattle.rv_pipes.specs.Carrying.{Carries, CarriesAll, CarriesNext, CarriesUpTo, Known, ends_by}
+use Rattle.rv_pipes.specs.Carrying.{CarriesAll, CarriesNext, CarriesUpTo, Known, ends_by}
 use Rattle.rv_pipes.specs.declared.carrier.CarryFault.{CarryFault}
 use Rattle.rv_pipes.specs.declared.carrier.Goes.{Goes}
 use Rattle.rv_pipes.specs.declared.carrier.Goes.TheVariants.{On}
@@ -20,17 +18,13 @@ flushed (Some xs) (Some ys) (Some zs) line e k = k ∙ e
 pub flushed_whole : (a b c : Known) (line : List ℕ) → Appends a b line → Keeps b c → WritesPrefix a c line
 flushed_whole a b c line e k = record { prefix = line; rest = []; whole = sym (append-nil line); written = flushed a b c line e k }
 
--- what was read is carried
-pub carried_one : (read : Result Next Error) (a b : Known) (result : Result Goes CarryFault) → Carries read a b result → CarriesNext a b result
-carried_one read a b result carries = record { read = read; carries = carries }
-
 -- a line more
-pub one_more : (count : ℕ) (a b c : Known) (result : Result Goes CarryFault) → result ≡ Ok On
-    → CarriesUpTo count a b → CarriesNext b c result → CarriesUpTo (suc count) a c
-one_more count a b c result on before last = (b, before, subst (λ (r : Result Goes CarryFault). CarriesNext b c r) on last)
+pub one_more : (count : ℕ) (a b c left : Known) (result : Result Goes CarryFault) → result ≡ Ok On
+    → CarriesUpTo count a b → CarriesNext left b c result → CarriesUpTo (suc count) a c
+one_more count a b c left result on before last = (b, left, before, subst (λ (r : Result Goes CarryFault). CarriesNext left b c r) on last)
 
 -- the last line
-pub ended : (count : ℕ) (a b c : Known) (result : Result Goes CarryFault) (end : Result (Unit {0}) CarryFault) → result ≡ ends_by end
-    → CarriesUpTo count a b → CarriesNext b c result → CarriesAll a c end
-ended count a b c result end is before last =
-    record { count = count; before = b; carried = before; last = subst (λ (r : Result Goes CarryFault). CarriesNext b c r) is last }
+pub ended : (count : ℕ) (a b c left : Known) (result : Result Goes CarryFault) (end : Result (Unit {0}) CarryFault) → result ≡ ends_by end
+    → CarriesUpTo count a b → CarriesNext left b c result → CarriesAll a c end
+ended count a b c left result end is before last =
+    record { count = count; before = b; left = left; carried = before; last = subst (λ (r : Result Goes CarryFault). CarriesNext left b c r) is last }

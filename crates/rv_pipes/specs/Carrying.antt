@@ -3,6 +3,7 @@ use Rattle.std.specs.Prelude.{◌≡◌, ℕ, zero, suc, List, codes, Option, Re
 use Rattle.std.specs.Io.KnownBytes.{Appends}
 use Rattle.std.specs.declared.io.Error.{Error}
 use Rattle.rv_script.specs.Prefixes.{WritesPrefix}
+use Rattle.rv_pipes.specs.Reads.{ReadsNext}
 use Rattle.rv_pipes.specs.declared.carrier.CarryFault.{CarryFault}
 use Rattle.rv_pipes.specs.declared.carrier.CarryFault.TheVariants as Faults
 use Rattle.rv_pipes.specs.declared.carrier.Goes.{Goes}
@@ -45,15 +46,16 @@ Carries (Ok Nexts.TooLong) old new result = Writes too_long old new result × Go
 Carries (Ok Nexts.Over) old new result = (new ≡ old) × (result ≡ Ok Out)
 Carries (Err error) old new result = (new ≡ old) × (result ≡ Err (Faults.Read error))
 
--- one line is read, and carried
-pub record CarriesNext (old new : Known) (result : Result Goes CarryFault) : Type 0 where
-  pub read : Result Next Error
-  pub carries : Carries read old new result
+-- one line is read of what is left, and carried
+pub record CarriesNext (left old new : Known) (result : Result Goes CarryFault) : Type 0 where
+  pub next : Result Next Error
+  pub reads : ReadsNext left next
+  pub carries : Carries next old new result
 
 -- so many lines were carried, each with its answer before the next was read
 abbrev pub CarriesUpTo : ℕ → Known → Known → Type 0
 CarriesUpTo zero a b = b ≡ a
-CarriesUpTo (suc count) a c = (b : Known) × CarriesUpTo count a b × CarriesNext b c (Ok On)
+CarriesUpTo (suc count) a c = (b : Known) × (left : Known) × CarriesUpTo count a b × CarriesNext left b c (Ok On)
 
 -- how lines end, by what the last came to
 abbrev pub ends_by : Result (Unit {0}) CarryFault → Result Goes CarryFault
@@ -64,5 +66,6 @@ ends_by (Err fault) = Err fault
 pub record CarriesAll (a c : Known) (result : Result (Unit {0}) CarryFault) : Type 0 where
   pub count : ℕ
   pub before : Known
+  pub left : Known
   pub carried : CarriesUpTo count a before
-  pub last : CarriesNext before c (ends_by result)
+  pub last : CarriesNext left before c (ends_by result)

@@ -1,7 +1,9 @@
 //! What a thread does beside the job of a task: it reads and writes the pipes.
 
+ghost use Rattle.std.specs.Io.Take.{take_inner};
 ghost use Rattle.rv_pipes.specs.Carrying.{Answers, Carries, CarriesAll, CarriesNext, Writes};
 
+use crate::line::Line;
 use crate::lines::{Next, next_line};
 use crate::replies::STOPPED;
 use crossbeam_channel::{Receiver, Sender};
@@ -26,8 +28,8 @@ pub enum CarryFault {
 /// What a job is handed.
 #[derive(Drop)]
 pub(crate) enum Asked {
-    /// A request, with its line feed.
-    Line(Vec<u8>),
+    /// A request.
+    Line(Line),
     /// The end of the requests.
     Over,
 }
@@ -64,7 +66,7 @@ fn write_line<W: Write>(writer: &mut W, line: &[u8]) -> Result<(), CarryFault>
 
 impl Carrier {
     // Hands a request to the job, and gives what that came to; none where the job has ended.
-    fn ask<R: Wait>(&self, rt: &R, line: Vec<u8>) -> Option<Vec<u8>> {
+    fn ask<R: Wait>(&self, rt: &R, line: Line) -> Option<Vec<u8>> {
         if self.requests.send(rt, Asked::Line(line)).is_err() {
             return None;
         }
@@ -75,7 +77,7 @@ impl Carrier {
     fn carry_line<R: Wait, W: Write>(
         &self,
         rt: &R,
-        line: Vec<u8>,
+        line: Line,
         writer: &mut W,
     ) -> Result<Goes, CarryFault>
         ensures { Answers (W.contents writer.old) (W.contents writer.new) result }
@@ -110,14 +112,13 @@ impl Carrier {
     }
 
     // Reads a line, and carries it.
-    #[tactic(auto, using(crate::proofs::Carried::carried_one))]
     fn carry_next<R: Wait, I: BufRead, W: Write>(
         &self,
         rt: &R,
         reader: &mut Take<I>,
         writer: &mut W,
     ) -> Result<Goes, CarryFault>
-        ensures { CarriesNext (W.contents writer.old) (W.contents writer.new) result }
+        ensures { CarriesNext (I.remaining (take_inner reader.old)) (W.contents writer.old) (W.contents writer.new) result }
     {
         let read = next_line(self.alloc, reader);
         self.carry_read(rt, read, writer)

@@ -4,6 +4,7 @@
 #![tactic(auto)]
 
 mod carrier;
+mod line;
 mod lines;
 mod pair;
 mod replies;

@@ -36,7 +36,7 @@ impl<'a, R: Wait> Requests<'a, R> {
         }
         match self.pipes.requests.recv(self.rt) {
             Ok(Asked::Line(line)) => {
-                self.line = line;
+                self.line = line.bytes;
                 self.next = 0;
             }
             Ok(Asked::Over) | Err(_) => self.is_over = true,

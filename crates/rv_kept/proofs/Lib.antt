@@ -1,0 +1,2 @@
+mod More
+mod Asked
