@@ -4,8 +4,8 @@ is wanted.
 
     bench/actors_memory.py [PROGRAM]    the program is crates/ravenhost/out/ravenhost where none is named
 
-A run of 74 actors, which are 64 tasks and ten lines, beside one without an actor: the most address space (VmPeak) is to be at most 1 GiB
-more. All tasks have called an entry's body with statements, each line was raised once, and all actors are alive when it is looked at. The
+A run of 74 actors, which are 64 tasks and ten lines, beside one without an actor: the address space (VmSize, and at most VmPeak) is to be at
+most 1 GiB more. All tasks have called an entry's body with statements, each line was raised once, and all actors are alive when it is looked at. The
 same with one actor, for what an actor takes.
 
 A run of 16 tasks whose texts are among the deepest that may be written (`deepest_texts.py`): each calls through its 16 objects to the
@@ -24,8 +24,8 @@ TOP = os.path.dirname(os.path.dirname(os.path.abspath(__file__)))
 LIMIT = 300  # seconds
 PAGE = "bad command\n"  # the answer to a word that is no command
 TASKS, LINES, DEEP = 64, 10, 16
-WAITS = "delay until Clock + Seconds (1000);"
-DEEPEST = {name: text for name, text in deepest_texts.texts() if name in ("form_most", "place_declaration", "mixed_forms_and_statements", "procedures", "asks")}
+WAITS = "delay until Clock + Milliseconds (1000000);"
+DEEPEST = {name: text for name, text in deepest_texts.texts() if name in ("form_most", "place_declaration", "mixed_forms_and_statements", "procedures")}
 
 
 def plant(tasks, lines):
@@ -35,7 +35,7 @@ def plant(tasks, lines):
     declared = "".join(f"   task T{k} with Priority => 5;\n" for k in range(tasks))
     bodies = "".join(f"   task body T{k} is\n   begin\n      Tank.Put (3);\n      {WAITS}\n   end T{k};\n" for k in range(tasks))
     return ("@host.toml\ncapacity = 4096\n@unit\nwith Ada.Real_Time; use Ada.Real_Time;\nwith Ada.Interrupts.Names; use Ada.Interrupts.Names;\npackage Plant is\n"
-            "   protected Tank with Interrupt_Priority => 36 is\n      procedure Put (N : in Integer);\n" + handlers + "   private\n      Count : Integer := 0;\n   end Tank;\n" + declared
+            "   protected Tank with Interrupt_Priority => 40 is\n      procedure Put (N : in Integer);\n" + handlers + "   private\n      Count : Integer := 0;\n   end Tank;\n" + declared
             + "end Plant;\npackage body Plant is\n   protected body Tank is\n      procedure Put (N : in Integer) is\n      begin\n         for Turn in 1 .. N loop\n"
             "            Count := Count + (Turn * 2 - 1) mod 7;\n         end loop;\n      end Put;\n" + rings + "   end Tank;\n" + bodies + "end Plant;\n@list\nallow * * *\n@run\n")
 
@@ -44,7 +44,8 @@ def deep(text, is_called):
     """Units of 16 tasks with this text, which call all through it, or don't, and then wait."""
     units = []
     for number in range(1, DEEP + 1):
-        unit = re.sub(r"\bP\b", f"P{number}", text.unit)
+        # (without a suspension object that none of these uses: 16 units of 16 objects are all that a host has)
+        unit = re.sub(r"\bP\b", f"P{number}", text.unit.replace("   Lamp : Suspension_Object;\n", ""))
         head, begin, tail = unit.rpartition("begin ")
         call, end = tail.split(" end T;", 1)
         units.append(f"@unit\n{head}{begin}{call if is_called else ''} {WAITS} end T;{end}")
@@ -59,15 +60,19 @@ def sizes(process):
 
 def seen(program, script, commands, is_there):
     """What a run takes once its journal has what is wanted; it has to end with 0."""
+    checked = subprocess.run([program, "check", "--script"], input=script, capture_output=True, text=True, check=False)
+    if checked.returncode:
+        sys.exit(f"bench/actors_memory.py: a script of its own is refused: {checked.stderr[-400:]}")
     run = subprocess.Popen([program, "run"], stdin=subprocess.PIPE, stdout=subprocess.PIPE, stderr=subprocess.PIPE, text=True)
     until, journal = time.monotonic() + LIMIT, ""
     run.stdin.write(script + commands)
-    while not is_there(journal):
+    is_first = True
+    while is_first or not is_there(journal):
         if time.monotonic() > until or run.poll() is not None:
             run.kill()
             sys.exit(f"bench/actors_memory.py: what is wanted didn't come: {journal[-400:]} {run.communicate()[1][-400:]}")
-        time.sleep(0.05)
-        journal, page = "", "."
+        time.sleep(0 if is_first else 0.1)
+        page, is_first = ".", False
         while page:
             run.stdin.write(f"journal {journal.count(chr(10)) + 1}\nmark\n")
             run.stdin.flush()
@@ -101,9 +106,10 @@ def main():
         raised = "".join(f"raise {k}\n" for k in range(lines))
         found[tasks + lines] = seen(program, plant(tasks, lines), raised, lambda text: text.count(" -> delayed") == tasks and len(re.findall(r"Int_\d end .* -> done", text)) == lines)
         of = found[tasks + lines]
-        print(f"{tasks + lines} actors: {mib(of['VmPeak'])} of address space, {mib(of['VmRSS'])} resident, {mib(of['VmHWM'])} at most", flush=True)
-    more = found[TASKS + LINES]["VmPeak"] - found[0]["VmPeak"]
-    print(f"{TASKS + LINES} actors take {mib(more)} of address space and {mib(found[TASKS + LINES]['VmRSS'] - found[0]['VmRSS'])} of resident memory more than none (1 GiB of address space)")
+        print(f"{tasks + lines} actors: {mib(of['VmSize'])} of address space, {mib(of['VmPeak'])} at most; {mib(of['VmRSS'])} resident, {mib(of['VmHWM'])} at most", flush=True)
+    size, most, resident = (found[TASKS + LINES][name] - found[0][name] for name in ("VmSize", "VmPeak", "VmRSS"))
+    more = max(size, most)
+    print(f"{TASKS + LINES} actors take {mib(size)} of address space, {mib(most)} at most (1 GiB), and {mib(resident)} of resident memory more than none")
     if more > 1 << 30:
         missed.append("address space")
     for name, text in DEEPEST.items():

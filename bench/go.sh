@@ -1,8 +1,8 @@
 #!/usr/bin/env bash
 # Measures how long a program takes for requests that a task's text makes, by one `go N` and by N lines of `go`: requests alone, and
 # requests with 1,000 turns of a loop before each call. Fails where an answer is missing, or where ten times as many requests with
-# such turns take more than 12 times as long. The program is the built one, which is proved first, unless one is named. It needs
-# python3.
+# such turns take more than 12 times as long, by the least of five plays of each. The program is the built one, which is proved first,
+# unless one is named. It needs python3.
 #
 #     bench/go.sh [PROGRAM]
 set -eu
@@ -51,8 +51,16 @@ allow Plant Plant.Tank *
 OTHERS = 2
 
 
-def seconds(turns, count, lines):
-    """Plays so many requests, by one `go` a line or by one line, and returns the processor's time in seconds."""
+def seconds(turns, count, lines, plays=1):
+    """Plays so many requests so often, by one `go` a line or by one line, and returns the least processor's time in seconds."""
+    took = min(played(turns, count, lines) for _ in range(plays))
+    by = "as many lines" if lines else "one line"
+    print(f"{count} requests by {by}, {turns} turns before each call: {took:.3f} s", flush=True)
+    return took
+
+
+def played(turns, count, lines):
+    """The processor's time of one play, in seconds."""
     steps = "Plant.Filler go\n" * count if lines else f"Plant.Filler go {count}\n"
     with tempfile.TemporaryFile() as script:
         script.write((UNIT % turns + steps).encode())
@@ -61,18 +69,15 @@ def seconds(turns, count, lines):
         journal = child.stdout.read()
         _, status, used = os.wait4(child.pid, 0)
     entries = journal.count(b" -> ")
-    took = used.ru_utime + used.ru_stime
-    by = "as many lines" if lines else "one line"
-    print(f"{count} requests by {by}, {turns} turns before each call: {took:.2f} s, {entries} entries", flush=True)
     if status != 0 or entries != count + OTHERS:
         sys.exit(f"bench/go.sh: status {status}, {entries} of {count + OTHERS} entries")
-    return took
+    return used.ru_utime + used.ru_stime
 
 
 for lines in (False, True):
     for count in (1, 1000, 4000):
         seconds(0, count, lines)
-    few, many = seconds(1000, 400, lines), seconds(1000, 4000, lines)
+    few, many = seconds(1000, 400, lines, 5), seconds(1000, 4000, lines, 5)
     print(f"ten times as many take {many / few:.1f} times as long")
     if many > 12 * few:
         sys.exit("bench/go.sh: that is more than 12 times")
