@@ -1,2 +1,3 @@
 pub mod Behind
-pub mod HeardMore
+pub mod Following
+pub mod Keeping

@@ -1,4 +1,5 @@
 pub mod Answers
 pub mod Runs
+pub mod Kept
 pub mod Texts
 pub mod Goes

@@ -1,5 +1,5 @@
 -- Machines that run the texts of actors, kept from one `go` to the next (own).
-use Rattle.std.specs.Prelude.{◌≡◌, ◌≤◌, ℕ, if◌then◌else◌, List, [], ◌∷◌, ◌++◌, All, length, reverse, take, Option, get_or}
+use Rattle.std.specs.Prelude.{◌≡◌, ◌≤◌, ◌<◌, ◌-◌, ℕ, Bool, true, false, if◌then◌else◌, List, [], ◌∷◌, ◌++◌, length, reverse, take, Option}
 use Rattle.rv_event.specs.declared.entry.Answer.{Answer}
 use Rattle.rv_event.specs.declared.entry.Request.{Request}
 use Rattle.rv_code.specs.Bodies.{UnitBodies}
@@ -10,7 +10,6 @@ use Rattle.rv_flat.specs.FlatUnits.{flat_view}
 use Rattle.rv_go.specs.declared.run.Run.{Run}
 use Rattle.rv_go.specs.declared.run.Text.{Text}
 use Rattle.rv_go.specs.declared.run.Text.TheVariants as texts
-use Rattle.rv_go.specs.declared.running.Running.{Running}
 use Rattle.rv_go.specs.declared.texts.Heard.{Heard}
 use Rattle.rv_go.specs.Answers.{answers_to}
 use Rattle.rv_machine.specs.declared.machine.Machine.{Machine}
@@ -29,24 +28,41 @@ pub record IsBehind (u : FlatUnit) (asks : List Answer → Option Request) (give
 abbrev pub given_by : Heard → List Answer → List Answer
 given_by h before = if h.starts then h.answer ∷ [] else before ++ h.answer ∷ []
 
--- the answers that an actor's text goes on by, of those that were heard, the oldest first
+-- an actor's answers since its text began, of those that were heard, the oldest first
+abbrev pub heard_by : ℕ → List Heard → List Answer
+heard_by actor heard = answers_to actor (reverse heard)
+
+-- those by which its text goes on
 abbrev pub settled : ℕ → List Heard → List Answer
-settled actor heard = settling (answers_to actor (reverse heard))
+settled actor heard = settling (heard_by actor heard)
 
--- a machine stands where its text is behind as many of the answers that were heard as it has looked at
-pub record IsRun (u : FlatUnit) (budget : ℕ) (heard : List Heard) (run : Run) : Type 0 where
-  pub within : run.heard ≤ length heard
+-- a machine stands where its text is behind these answers and as many of those that are kept as it has looked at
+pub record IsRun (u : FlatUnit) (budget : ℕ) (before kept : List Answer) (run : Run) : Type 0 where
+  pub within : run.looked ≤ length kept
   pub fits : Fits u run.machine
-  pub behind : IsBehind u (asked_by (flat_view u) budget run.text) (settled run.actor (take run.heard heard)) run.machine
+  pub behind : IsBehind u (asked_by (flat_view u) budget run.text) (settling (before ++ take run.looked kept)) run.machine
 
-abbrev pub AreRuns : FlatUnit → ℕ → List Heard → List Run → Type 0
-AreRuns u budget heard runs = All (IsRun u budget heard) runs
+abbrev pub is_of_task : Text → Bool
+is_of_task (texts.Task actor) = true
+is_of_task (texts.Handler object operation) = false
 
--- at a place stands a machine that runs this text of this actor
-abbrev pub IsOf : ℕ → Text → List Run → ℕ → Type 0
-IsOf actor text runs place = (default : Run) → ((get_or runs place default).actor ≡ actor) × ((get_or runs place default).text ≡ text)
+-- the text is that of the task that an actor is: tasks are the actors from 11 on
+pub record IsTaskOf (actor : ℕ) (text : Text) : Type 0 where
+  pub own : text ≡ texts.Task actor
+  pub number : 11 ≤ actor
 
--- the machines run the bodies that are loaded: over their table each text asks what it asks by these
-pub record IsKept (bodies : UnitBodies) (budget : ℕ) (heard : List Heard) (r : Running) : Type 0 where
-  pub same : (text : Text) (given : List Answer) → asked_by (flat_view r.table) budget text given ≡ asked_by bodies budget text given
-  pub runs : AreRuns r.table budget heard r.runs.items
+-- the text may be an actor's: that of a handler is a line's
+abbrev pub IsText : ℕ → Text → Type 0
+IsText actor (texts.Task task) = (task ≡ actor) × (11 ≤ actor)
+IsText actor (texts.Handler object operation) = actor < 11
+
+-- the answers that are forgotten, where of all answers these are kept
+abbrev pub forgotten : (all kept : List Answer) → List Answer
+forgotten all kept = take (length all - length kept) all
+
+-- a machine goes on by all answers of an actor: by those that are forgotten, which only a task's text goes on without, and by those
+-- that are kept
+pub record Follows (u : FlatUnit) (budget : ℕ) (all : List Answer) (actor : ℕ) (kept : List Answer) (run : Run) : Type 0 where
+  pub whole : forgotten all kept ++ kept ≡ all
+  pub own : length kept < length all → IsTaskOf actor run.text
+  pub is_run : IsRun u budget (forgotten all kept) kept run

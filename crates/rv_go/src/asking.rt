@@ -1,13 +1,15 @@
 //! What `go` asks.
 
-ghost use Rattle.std.specs.Prelude.{◌≡◌, ℕ, IfOk, List, None, option_map};
-ghost use Rattle.std.specs.Option.{ForSome};
+ghost use Rattle.std.specs.Prelude.{◌≡◌, ◌<◌, ℕ, IfOk, List, OnErr, Some, option_map};
 ghost use Rattle.rv_exec.specs.Bodies.{bodies_view};
 ghost use Rattle.rv_go.specs.Texts.{texts_view};
 ghost use Rattle.rv_go.specs.declared.texts.Heard.{Heard};
 ghost use Rattle.rv_go.specs.Goes.{task_asks, handler_asks, line_asks, asks};
-ghost use Rattle.rv_go.specs.Runs.{asked_by, settled, IsKept};
+ghost use Rattle.rv_go.specs.Kept.{IsKept};
+ghost use Rattle.rv_go.specs.Runs.{asked_by, settled, IsText};
 
+use crate::listening::Listener;
+use crate::places::ask;
 use crate::run::Text;
 use crate::running::Running;
 use crate::texts::Texts;
@@ -18,20 +20,22 @@ use rv_shape::actor::Actor;
 use rv_shape::catalogue::Catalogue;
 use std::alloc::{AllocError, Global};
 
-// The machines that run texts are taken out; where there are none yet, they are made. Err where memory was refused.
-#[tactic(auto, using(crate::proofs::HeardMore::none_kept))]
+// The table of the bodies is taken out; where there is none yet, it is made. Err where memory was refused.
+#[tactic(auto, using(crate::proofs::Keeping::table_kept, crate::proofs::Keeping::table_there))]
 fn taken(
     alloc: Global,
     running: &mut Option<Running>,
     bodies: &Bodies,
 ) -> Result<Running, AllocError>
-    ensures kept { (budget : ℕ) (heard : List Heard) → ForSome running.old (IsKept (bodies_view bodies.now) budget heard) → IfOk result (IsKept (bodies_view bodies.now) budget heard) }
-    ensures none { running.new ≡ None }
+    ensures kept { (budget awaited : ℕ) (heard : List Heard) (listeners : List Listener)
+        → IsKept (bodies_view bodies.now) budget awaited heard running.old listeners
+        → IfOk result (λ r. IsKept (bodies_view bodies.now) budget awaited heard (Some r) listeners) }
+    ensures err { OnErr result (running.new ≡ running.old) }
 {
-    if let Some(running) = running.take() {
-        return Ok(running);
+    match running.take() {
+        Some(there) => Ok(there),
+        None => Running::new(alloc, bodies),
     }
-    Running::new(alloc, bodies)
 }
 
 impl Texts {
@@ -42,11 +46,21 @@ impl Texts {
         actor: usize,
         text: Text,
     ) -> Result<Option<Request>, AllocError>
+        requires { IsText actor text }
         ensures asked { IfOk result (λ asked. asked ≡ asked_by (bodies_view self.old.bodies) self.old.budget text (settled actor self.old.heard.items)) }
         ensures same { texts_view self.new ≡ texts_view self.old }
     {
-        let mut running = taken(alloc, &mut self.running, &self.bodies)?;
-        let asked = running.asks(alloc, self.budget, self.heard.as_slice(), actor, text);
+        let running = taken(alloc, &mut self.running, &self.bodies)?;
+        let asked = ask(
+            alloc,
+            &mut self.listeners,
+            &running,
+            self.budget,
+            &self.heard,
+            actor,
+            text,
+            self.awaited,
+        );
         self.running = Some(running);
         asked
     }
@@ -69,6 +83,7 @@ impl Texts {
         actor: usize,
         handler: Option<(usize, usize)>,
     ) -> Result<Option<Request>, AllocError>
+        requires { actor < 11 }
         ensures asked { IfOk result (λ asked. asked ≡ handler_asks (texts_view self.old) actor
             (option_map (λ p. record { object = p.0; operation = p.1 }) handler)) }
         ensures same { texts_view self.new ≡ texts_view self.old }
@@ -91,6 +106,7 @@ impl Texts {
         line: usize,
         mode: Mode,
     ) -> Result<Option<Request>, AllocError>
+        requires { actor < 11 }
         ensures asked { IfOk result (λ asked. asked ≡ line_asks (texts_view self.old) catalogue.now actor line mode) }
         ensures same { texts_view self.new ≡ texts_view self.old }
     {
@@ -102,7 +118,7 @@ impl Texts {
 
     /// What `go` asks for an actor, if there is something: a resume where the actor waits, a settle where its end left
     /// callers waiting, a fire for an idle line, else what its text asks next. A machine runs the text from where it stood at the
-    /// last `go`. Err where memory was refused, as by the first `go` behind a load.
+    /// last `go`. Err where memory was refused, as by the first `go` behind a load, or of an actor.
     pub fn asks(
         &mut self,
         alloc: Global,

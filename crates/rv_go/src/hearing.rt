@@ -1,15 +1,17 @@
 //! What actors are answered, and what their texts go on by.
 
-ghost use Rattle.std.specs.Prelude.{◌≡◌, [], ◌∷◌, ◌++◌, OnOk, OnErr};
+ghost use Rattle.std.specs.Prelude.{◌≡◌, OnOk};
 ghost use Rattle.rv_code.specs.BodyView.{unit_view};
 ghost use Rattle.rv_exec.specs.Bodies.{no_bodies};
 ghost use Rattle.rv_go.specs.Texts.{texts_view, no_texts, with_bodies, is_started, is_fire, is_heard, is_settle, hears};
 
+use crate::places::{hear, stop};
 use crate::texts::{Heard, Texts};
 use rv_code::UnitBodies;
 use rv_event::entry::{Answer, Next, Request, Rule};
 use rv_exec::bodies::Bodies;
 use rv_exec::outward::stands;
+use rv_ring::past::Past;
 use rv_value::Scalars;
 use std::alloc::{AllocError, Global};
 
@@ -60,43 +62,47 @@ pub fn no_bodies(alloc: Global) -> UnitBodies
     UnitBodies::none(alloc)
 }
 
-// Adds an item.
-fn add<T: Drop>(items: &mut Vec<T>, item: T) -> Result<(), AllocError>
-    ensures ok { OnOk result (items.new.items ≡ items.old.items ++ item ∷ []) }
-    ensures err { OnErr result (items.new.items ≡ items.old.items) }
-{
-    match items.push(item) {
-        Ok(()) => Ok(()),
-        Err(_) => Err(AllocError),
-    }
-}
-
 impl Texts {
-    /// No texts, before the first load; a task's own body may make so many requests, 1 .. 1,000,000.
-    pub fn new(alloc: Global, budget: u32) -> Texts
+    /// No texts, before the first load; a task's own body may make so many requests, 1 .. 1,000,000. At most `awaited` units are
+    /// loaded: behind the last of them a task's text goes on by each answer, and none is kept.
+    pub fn new(alloc: Global, budget: u32, awaited: usize) -> Texts
         ensures { texts_view result ≡ no_texts budget }
     {
         Texts {
             bodies: Bodies::new(alloc),
-            heard: Vec::new(alloc),
+            heard: Past::new(),
             budget,
+            awaited,
             running: None,
+            listeners: Vec::new(alloc),
         }
     }
 
-    /// Adds the bodies of the next unit that is loaded.
+    /// Adds the bodies of the next unit that is loaded. Err where memory was refused, or where no unit was awaited any more.
     pub fn load(&mut self, bodies: UnitBodies) -> Result<(), AllocError>
         ensures { OnOk result (texts_view self.new ≡ with_bodies (unit_view bodies) (texts_view self.old)) }
     {
+        if self.awaited == 0 {
+            return Err(AllocError);
+        }
+        stop(&mut self.listeners);
         self.running = None;
+        self.awaited -= 1;
         self.bodies.add(bodies)
+    }
+
+    /// One of the units that were awaited isn't loaded.
+    pub fn pass_over(&mut self)
+        ensures { texts_view self.new ≡ texts_view self.old }
+    {
+        self.awaited = self.awaited.saturating_sub(1);
     }
 
     /// Keeps the answer to a request of an actor, where its text goes on by it: `goes` says whether the request was a
     /// `go`.
-    #[tactic(auto, using(crate::proofs::HeardMore::kept_added))]
     pub fn hear(
         &mut self,
+        alloc: Global,
         actor: usize,
         goes: bool,
         request: &Request,
@@ -118,6 +124,8 @@ impl Texts {
             starts,
             answer,
         };
-        add(&mut self.heard, heard)
+        hear(alloc, &mut self.listeners, &heard)?;
+        self.heard = self.heard.with(&heard);
+        Ok(())
     }
 }

@@ -4,7 +4,8 @@
 
 mod asking;
 pub mod hearing;
-mod places;
+pub mod listening;
+pub mod places;
 pub mod run;
 pub mod running;
 pub mod texts;

@@ -1,16 +1,14 @@
-//! A machine that runs an actor's text, and goes on by the answers that the actor has heard.
+//! A machine that runs an actor's text, and goes on by the actor's answers.
 
-ghost use Rattle.std.specs.Prelude.{◌≡◌, ◌∷◌, ◌++◌, [], IfOk, IsTrue, OnOk, OnErr, List, Option, length, get_or, ◌<◌, ◌+◌};
+ghost use Rattle.std.specs.Prelude.{◌≡◌, ◌∷◌, ◌++◌, [], IfOk, IsTrue, IsFalse, not, ◌&&◌, ℕ, List, Option, length, get_or, ◌<◌, ◌≤◌, ◌+◌};
 ghost use Rattle.rv_event.specs.declared.entry.Answer.{Answer};
 ghost use Rattle.rv_event.specs.declared.entry.Request.{Request};
-ghost use Rattle.rv_exec.specs.Asking.{stands};
 ghost use Rattle.rv_exec.specs.Next.{settling};
 ghost use Rattle.rv_flat.specs.FlatUnits.{flat_view};
-ghost use Rattle.rv_go.specs.Runs.{asked_by, given_by, settled, IsBehind, IsRun};
+ghost use Rattle.rv_go.specs.Runs.{asked_by, is_of_task, IsBehind, IsRun};
 ghost use Rattle.rv_machine.specs.Machines.{Fits};
 ghost use Rattle.rv_machine.specs.Needs.{IsNeed};
 
-use crate::texts::Heard;
 use rv_event::entry::{Answer, Request};
 use rv_exec::outward::stands;
 use rv_flat::unit::FlatUnit;
@@ -31,18 +29,17 @@ pub enum Text {
 /// A machine that runs an actor's text, kept from one `go` to the next.
 #[derive(Drop)]
 pub struct Run {
-    /// The number of the actor.
-    pub actor: usize,
     pub text: Text,
-    /// How many of the answers that were heard it has looked at.
-    pub heard: usize,
+    /// How many of the answers that are kept it has looked at.
+    pub looked: usize,
     pub machine: Machine,
 }
 
 impl Text {
     /// Whether both are the same.
     pub fn is(self, other: Text) -> bool
-        ensures { IsTrue result → self ≡ other }
+        ensures yes { IsTrue result → self ≡ other }
+        ensures no { IsFalse result → self ≡ other → ⊥ }
     {
         match (self, other) {
             (Text::Task(one), Text::Task(actor)) => one == actor,
@@ -50,6 +47,16 @@ impl Text {
                 one == object && first == operation
             }
             _ => false,
+        }
+    }
+
+    /// Whether it goes on without the answers that it went on by, unless all are kept: only that of a task's own body does.
+    pub fn forgets(self, keeps: bool) -> bool
+        ensures { result ≡ (is_of_task self && not keeps) }
+    {
+        match self {
+            Text::Task(_) => !keeps,
+            Text::Handler(_, _) => false,
         }
     }
 
@@ -113,51 +120,6 @@ fn settle(machine: &mut Machine, table: &FlatUnit, answer: Answer)
     go_on(machine, table, answer);
 }
 
-// A machine begins anew, and goes on by this answer. Err where memory was refused; it stays as it was then.
-fn begin_anew(
-    text: Text,
-    machine: &mut Machine,
-    alloc: Global,
-    table: &FlatUnit,
-    need: Need,
-    budget: u32,
-    answer: Answer,
-) -> Result<(), AllocError>
-    requires { IsNeed table.now need }
-    ensures fits { OnOk result (Fits table.now machine.new) }
-    ensures behind { OnOk result (IsBehind table.now (asked_by (flat_view table.now) budget text) (settling (answer ∷ [])) machine.new) }
-    ensures err { OnErr result (machine.new ≡ machine.old) }
-{
-    let mut begun = text.begin(alloc, table, need, budget)?;
-    settle(&mut begun, table, answer);
-    *machine = begun;
-    Ok(())
-}
-
-// A machine goes on by what its actor has heard: where that starts the text, it begins anew. Err where memory was refused; the
-// machine stays as it was then.
-fn follow(
-    text: Text,
-    machine: &mut Machine,
-    alloc: Global,
-    table: &FlatUnit,
-    need: Need,
-    budget: u32,
-    heard: &Heard,
-) -> Result<(), AllocError>
-    requires need { IsNeed table.now need }
-    requires fits { Fits table.now machine.old }
-    ensures fits { OnOk result (Fits table.now machine.new) }
-    ensures behind { OnOk result ((given : List Answer) → IsBehind table.now (asked_by (flat_view table.now) budget text) (settling given) machine.old → IsBehind table.now (asked_by (flat_view table.now) budget text) (settling (given_by heard.now given)) machine.new) }
-    ensures err { OnErr result (machine.new ≡ machine.old) }
-{
-    if heard.starts {
-        return begin_anew(text, machine, alloc, table, need, budget, heard.answer);
-    }
-    settle(machine, table, heard.answer);
-    Ok(())
-}
-
 impl Run {
     /// A machine that has looked at nothing yet. Err where memory was refused.
     pub fn new(
@@ -165,98 +127,60 @@ impl Run {
         table: &FlatUnit,
         need: Need,
         budget: u32,
-        actor: usize,
         text: Text,
     ) -> Result<Run, AllocError>
         requires { IsNeed table.now need }
-        ensures actor { IfOk result (λ run. run.actor ≡ actor) }
         ensures text { IfOk result (λ run. run.text ≡ text) }
-        ensures run { IfOk result (λ run. (heard : List Heard) → IsRun table.now budget heard run) }
+        ensures run { IfOk result (λ run. (kept : List Answer) → IsRun table.now budget [] kept run) }
     {
         let machine = text.begin(alloc, table, need, budget)?;
         Ok(Run {
-            actor,
             text,
-            heard: 0,
+            looked: 0,
             machine,
         })
     }
 
-    // Looks at the next of the answers that were heard. Err where memory was refused; it stays as it was then.
-    fn look(
-        &mut self,
-        alloc: Global,
-        table: &FlatUnit,
-        need: Need,
-        budget: u32,
-        item: &Heard,
-    ) -> Result<(), AllocError>
-        requires need { IsNeed table.now need }
+    // Looks at the next of the answers that are kept.
+    fn look(&mut self, table: &FlatUnit, answer: &Answer)
         requires fits { Fits table.now self.old.machine }
-        requires before { self.old.heard < 18446744073709551615 }
-        ensures run { OnOk result ((heard : List Heard) → self.old.heard < length heard → item.now ≡ get_or heard self.old.heard item.now → IsRun table.now budget heard self.old → IsRun table.now budget heard self.new) }
-        ensures next { OnOk result (self.new.heard ≡ self.old.heard + 1) }
-        ensures err { OnErr result (self.new ≡ self.old) }
-        ensures actor { self.new.actor ≡ self.old.actor }
+        requires before { self.old.looked < 18446744073709551615 }
+        ensures run { (budget : ℕ) (before kept : List Answer) → self.old.looked < length kept → answer.now ≡ get_or kept self.old.looked answer.now
+            → IsRun table.now budget before kept self.old → IsRun table.now budget before kept self.new }
+        ensures fits { Fits table.now self.new.machine }
+        ensures next { self.new.looked ≡ self.old.looked + 1 }
         ensures text { self.new.text ≡ self.old.text }
     {
-        if item.actor != self.actor {
-            self.heard += 1;
-            return Ok(());
-        }
-        follow(
-            self.text,
-            &mut self.machine,
-            alloc,
-            table,
-            need,
-            budget,
-            item,
-        )?;
-        self.heard += 1;
-        Ok(())
+        settle(&mut self.machine, table, *answer);
+        self.looked += 1;
     }
 
-    // Looks at all that was heard since.
-    fn catch_up(
-        &mut self,
-        alloc: Global,
-        table: &FlatUnit,
-        need: Need,
-        budget: u32,
-        heard: &[Heard],
-    ) -> Result<(), AllocError>
-        requires need { IsNeed table.now need }
-        requires run { IsRun table.now budget heard.now self.old }
-        ensures run { IsRun table.now budget heard.now self.new }
-        ensures all { OnOk result (self.new.heard ≡ length heard.now) }
-        ensures actor { self.new.actor ≡ self.old.actor }
+    // Looks at all answers that are kept.
+    fn catch_up(&mut self, table: &FlatUnit, answers: &[Answer])
+        requires fits { Fits table.now self.old.machine }
+        requires within { self.old.looked ≤ length answers.now }
+        ensures run { (budget : ℕ) (before : List Answer) → IsRun table.now budget before answers.now self.old → IsRun table.now budget before answers.now self.new }
+        ensures fits { Fits table.now self.new.machine }
+        ensures all { self.new.looked ≡ length answers.now }
         ensures text { self.new.text ≡ self.old.text }
     {
-        'heard: while self.heard < heard.len() {
-            let item = &heard[self.heard];
-            self.look(alloc, table, need, budget, item)?;
+        'kept: while self.looked < answers.len() {
+            let answer = &answers[self.looked];
+            self.look(table, answer);
         }
-        Ok(())
     }
 
-    /// What the text asks next, behind all that its actor has heard. Err where memory was refused.
-    pub fn asks(
-        &mut self,
-        alloc: Global,
-        table: &FlatUnit,
-        need: Need,
-        budget: u32,
-        heard: &[Heard],
-    ) -> Result<Option<Request>, AllocError>
-        requires need { IsNeed table.now need }
-        requires run { IsRun table.now budget heard.now self.old }
-        ensures run { IsRun table.now budget heard.now self.new }
-        ensures asked { IfOk result (λ asked. asked ≡ asked_by (flat_view table.now) budget self.old.text (settled self.old.actor heard.now)) }
-        ensures actor { self.new.actor ≡ self.old.actor }
+    /// What the text asks next, behind all answers that are kept.
+    pub fn asks(&mut self, table: &FlatUnit, answers: &[Answer]) -> Option<Request>
+        requires fits { Fits table.now self.old.machine }
+        requires within { self.old.looked ≤ length answers.now }
+        ensures run { (budget : ℕ) (before : List Answer) → IsRun table.now budget before answers.now self.old → IsRun table.now budget before answers.now self.new }
+        ensures asked { (budget : ℕ) (before : List Answer) → IsRun table.now budget before answers.now self.old
+            → result ≡ asked_by (flat_view table.now) budget self.old.text (settling (before ++ answers.now)) }
+        ensures all { self.new.looked ≡ length answers.now }
         ensures text { self.new.text ≡ self.old.text }
     {
-        self.catch_up(alloc, table, need, budget, heard)?;
-        Ok(next_of(&mut self.machine, table))
+        self.catch_up(table, answers);
+        next_of(&mut self.machine, table)
     }
 }

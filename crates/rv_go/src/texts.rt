@@ -1,12 +1,13 @@
 //! The texts of actors: the bodies of the loaded units, and what actors were answered since their texts began.
 
-ghost use Rattle.std.specs.Option.{ForSome};
 ghost use Rattle.rv_exec.specs.Bodies.{bodies_view};
-ghost use Rattle.rv_go.specs.Runs.{IsKept};
+ghost use Rattle.rv_go.specs.Kept.{IsKept};
 
+use crate::listening::Listener;
 use crate::running::Running;
 use rv_event::entry::Answer;
 use rv_exec::bodies::Bodies;
+use rv_ring::past::Past;
 
 /// An answer that an actor's text goes on by.
 #[derive(Clone, Copy, Drop)]
@@ -23,11 +24,15 @@ pub struct Heard {
 #[derive(Drop)]
 pub struct Texts {
     pub bodies: Bodies,
-    /// The answers, the oldest first.
-    pub heard: Vec<Heard>,
+    /// The answers, the oldest first, for proofs alone.
+    pub heard: Past<Heard>,
     /// How many requests a task's own body may make.
     pub budget: u32,
-    /// The machines that run texts, from the first `go` behind a load on.
+    /// How many units may still be loaded. While there are some all answers are kept, since behind a load texts run anew.
+    pub awaited: usize,
+    /// The bodies over one table, from the first `go` behind a load on.
     pub running: Option<Running>,
-    ghost kept: { ForSome running (λ r. IsKept (bodies_view bodies) budget heard.items r) },
+    /// What actors go on by, in the order of their numbers.
+    pub listeners: Vec<Listener>,
+    ghost kept: { IsKept (bodies_view bodies) budget awaited heard.items running listeners.items },
 }

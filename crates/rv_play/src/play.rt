@@ -183,6 +183,23 @@ fn limits_of(alloc: Global, settings: &Option<Section<'_>>) -> Result<Limits, Fa
     })
 }
 
+// How many sections of a script bring a unit.
+fn units_in(text: &str) -> usize {
+    let mut units: usize = 0;
+    if let Ok(script) = open(text) {
+        let mut parts = Parts::of(script.sections);
+        'each: while let Some(part) = parts.next_part() {
+            match part.opening {
+                Some(Opening::UnitText) | Some(Opening::Shape) => {
+                    units = units.saturating_add(1);
+                }
+                _ => {}
+            }
+        }
+    }
+    units
+}
+
 // Carries out a text from the beginning.
 fn play_text<W: Write>(
     alloc: Global,
@@ -198,7 +215,7 @@ fn play_text<W: Write>(
         Err(line) => return Err(refused(line, What::BadSection)),
     };
     let limits = limits_of(alloc, &script.settings)?;
-    match Player::new(alloc, limits, all) {
+    match Player::new(alloc, limits, units_in(text), all) {
         Ok(mut player) => {
             let done = carry_out_all(alloc, &mut player, writer, Parts::of(script.sections));
             *counts = player.counts;

@@ -1,8 +1,8 @@
-use Rattle.std.proofs.Common.{◌≡◌, arith}
-use Rattle.rv_go.proofs.HeardMore.{run_follows, same_actor}
+use Rattle.rv_flat.specs.FlatUnits.{flat_view}
+use Rattle.rv_go.specs.Runs.{asked_by}
+use Rattle.rv_go.proofs.Following.{looks_on}
 use Rattle.rv_go.proofs.run.Run.look.Goals as goal
 
 pub returns-clause-run : goal.returns-clause-run
-returns-clause-run c = λ heard lt at is.
-    let same : c.args.item.now.actor ≡ c.args.self.now.actor = omega (arith, c.if-item-self.false) in
-    run_follows c.args.table.now c.args.budget heard c.args.self.now c.args.item.now c.follow.new.machine lt at (same_actor _ _ same) c.in_ok-follow.ensures.fits c.in_ok-follow.ensures.behind is
+returns-clause-run c = λ budget before kept lt at is.
+    looks_on c.args.table.now budget before kept c.args.self.now c.args.answer.now c.settle.new.machine lt at c.settle.ensures.fits (c.settle.ensures.behind (asked_by (flat_view c.args.table.now) budget c.args.self.now.text)) is

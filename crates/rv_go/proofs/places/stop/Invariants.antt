@@ -1,0 +1,15 @@
+use Rattle.std.proofs.Common.{◌<◌, ◌-◌, ℕ, List, length}
+use Rattle.std.specs.Prelude.{Option}
+use Rattle.rv_go.specs.declared.running.Running.{Running}
+use Rattle.rv_go.specs.declared.texts.Heard.{Heard}
+use Rattle.rv_go.specs.Kept.{AreKept}
+use Rattle.rv_go.proofs.Keeping.{AreStopped}
+use Rattle.rv_go.proofs.places.stop.Given as goal
+
+abbrev pub invariant-places : goal.invariant-places
+invariant-places l =
+    (budget awaited : ℕ) (heard : List Heard) (running : Option Running) → 0 < awaited
+    → AreKept budget awaited heard running l.fn.listeners.items → AreStopped heard l.place l.listeners.items
+
+abbrev pub decreases-places : goal.decreases-places
+decreases-places l = length l.listeners.items - l.place

@@ -1,0 +1,18 @@
+use Rattle.rv_exec.specs.Bodies.{bodies_view}
+use Rattle.rv_go.proofs.Keeping.{kept_by, kept_more}
+use Rattle.rv_go.proofs.texts.Texts.hear.Goals as goal
+
+pub invariant_of-self : goal.invariant_of-self
+invariant_of-self c =
+    let old = c.args.self.now in
+    record {
+      kept = kept_by (bodies_view old.bodies) old.budget old.awaited old.heard.items old.heard.items old.running old.listeners.items c.hear.new.listeners.items
+          (c.in_err-hear.ensures.err old.budget old.awaited old.heard.items old.running old.kept.kept) old.kept;
+    }
+
+pub invariant_of-self-2 : goal.invariant_of-self-2
+invariant_of-self-2 c =
+    let old = c.args.self.now in
+    record {
+      kept = kept_more (bodies_view old.bodies) old.budget old.awaited old.heard.items c.with-self.result.items _ old.running old.listeners.items c.hear.new.listeners.items c.with-self.ensures c.in_ok-hear.ensures.ok old.kept;
+    }
