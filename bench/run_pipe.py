@@ -241,14 +241,25 @@ def deepest_of_all(program):
 
 def few_threads(program, script):
     """A run with so little memory that some of its actors have no thread, and those actors. How little that is depends on the
-    machine: besides the stack of the program itself a thread takes less than a MiB."""
-    for most in range(512 << 20, 700 << 20, 256 << 10):
-        def lessened(most=most):
-            resource.setrlimit(resource.RLIMIT_AS, (most, most))
-        tried = subprocess.run([program, "run"], input=f"{script}mark\nquit\n".encode(), capture_output=True, preexec_fn=lessened, check=False)
-        if not tried.stdout.startswith(b"no thread "):
+    machine, and on the stack of the program itself: the least is looked for with which all have one. Besides a thread takes less than a MiB."""
+    def lessened(most):
+        return lambda: resource.setrlimit(resource.RLIMIT_AS, (most, most))
+
+    def tried(most):
+        return subprocess.run([program, "run"], input=f"{script}mark\nquit\n".encode(), capture_output=True, preexec_fn=lessened(most), check=False)
+
+    little, enough, step = 0, 2048 << 20, 256 << 10
+    while enough - little > step:
+        half = (little + enough) // 2
+        done = tried(half)
+        if done.returncode == 0 and done.stdout.startswith(b"bad command\n"):
+            enough = half
+        else:
+            little = half
+    for most in range(enough + 8 * step, enough - 64 * step, -step):
+        if not tried(most).stdout.startswith(b"no thread "):
             continue
-        run = Run(program, script, preexec_fn=lessened)
+        run = Run(program, script, preexec_fn=lessened(most))
         missing, line = [], run.ask("mark")
         while line.startswith("no thread "):
             missing.append(line.removeprefix("no thread "))
@@ -256,12 +267,15 @@ def few_threads(program, script):
         if missing:
             return run, missing, line
         run.end()
-    sys.exit("no_thread: no run had some threads, and not all")
+    expect("a run with some threads, and not all", None, "one below the least memory with which all have one")
+    return None, [], ""
 
 
 def no_thread(program):
     """Where the memory of a second stack isn't to be had, its actor has no thread, and the run goes on."""
     run, missing, line = few_threads(program, unit(PLANT) + unit(looper("Nav")) + unit(looper("Guest")) + "@list\nallow * * *\n@run\n")
+    if run is None:
+        return
     expect_that("actors without a thread", missing and set(missing) <= {"Int_4", "Nav.Pilot", "Guest.Pilot"}, missing)
     expect("the command behind", line, "bad command")
     expect("tick", run.ask("tick 1"), "accepted 0")
