@@ -5,11 +5,11 @@ is wanted.
     bench/actors_memory.py [PROGRAM]    the program is crates/ravenhost/out/ravenhost where none is named
 
 A run of 74 actors, which are 64 tasks and ten lines, beside one without an actor: the address space (VmSize, and at most VmPeak) is to be at
-most 1 GiB more. All tasks have called an entry's body with statements, each line was raised once, and all actors are alive when it is looked at. The
+most 1 GiB more. All tasks have called a body of some statements, each line was raised once, and all actors are alive when it is looked at. The
 same with one actor, for what an actor takes.
 
 A run of 16 tasks whose texts are among the deepest that may be written (`deepest_texts.py`): each calls through its 16 objects to the
-deepest body and back, then waits, so that all have touched their stacks. What is resident (VmRSS) is to be at most 256 MiB, and what the
+deepest body and back, then waits, so that all have touched their stacks. What is resident (VmHWM) is to be at most 256 MiB, and what the
 same texts take whose tasks only wait is told beside. Needs /proc.
 """
 import os
