@@ -16,6 +16,8 @@ const BARRIER: &str = "a barrier is open, closed, or the number of a scalar of r
 
 const HANDLED: &str = "a line of a handler is one of 0 .. 9";
 
+const OUTSIDE: &str = "{0} stands directly below a protected object only";
+
 const FIRST: &str = "the first line of a shape is unit and its name";
 
 // What a line is, by its first word.
@@ -71,19 +73,40 @@ fn no_form<'a>(line: &Line<'a>) -> Cause<'a> {
 }
 
 // What is said of a first line that isn't that of a unit.
-fn no_unit<'a>(line: Option<&Line<'a>>) -> Cause<'a> {
-    match line {
-        Some(line) if line.count() > 0 && !line.word(0).starts_with("#") => { line.cause(0, FIRST) }
-        Some(line) => no_form(line),
-        None => Cause::plain(0, FIRST),
+fn no_unit<'a>(lines: &[Line<'a>]) -> Cause<'a> {
+    let Some(line) = lines.get(0) else {
+        return Cause::plain(0, FIRST);
+    };
+    if line.count() > 0 && !line.word(0).starts_with("#") {
+        return line.cause(0, FIRST);
     }
+    no_form(line)
 }
 
-// What is said of a word of a line.
-fn told<'a>(lines: &[Line<'a>], number: usize, word: usize, said: &'static str) -> Cause<'a> {
-    match lines.get(number) {
-        Some(line) => line.cause(word, said),
-        None => Cause::plain(0, said),
+// What is said of the line of a number that is none of a shape's.
+fn of_form<'a>(lines: &[Line<'a>], number: usize) -> Cause<'a> {
+    let Some(line) = lines.get(number) else {
+        return Cause::plain(0, FIRST);
+    };
+    no_form(line)
+}
+
+// What is said of a word of the line of a number.
+fn of_word<'a>(lines: &[Line<'a>], number: usize, word: usize, said: &'static str) -> Cause<'a> {
+    let Some(line) = lines.get(number) else {
+        return Cause::plain(0, said);
+    };
+    line.cause(word, said)
+}
+
+// What is said of a text by a reason.
+fn told<'a>(lines: &[Line<'a>], reason: ShapeReason) -> Cause<'a> {
+    match reason {
+        ShapeReason::NoUnit => no_unit(lines),
+        ShapeReason::NoForm(number) => of_form(lines, number),
+        ShapeReason::Outside(number) => of_word(lines, number, 0, OUTSIDE),
+        ShapeReason::NoBarrier(number) => of_word(lines, number, 2, BARRIER),
+        ShapeReason::NoInterrupt(number) => of_word(lines, number, 2, HANDLED),
     }
 }
 
@@ -93,20 +116,8 @@ pub(crate) fn bad_text<'a>(
     text: &str,
     lines: &[Line<'a>],
 ) -> Result<Cause<'a>, AllocError> {
-    let cause = match shape_reason(alloc, text)? {
-        Some(ShapeReason::NoForm(number)) => match lines.get(number) {
-            Some(line) => no_form(line),
-            None => Cause::plain(0, FIRST),
-        },
-        Some(ShapeReason::Outside(number)) => {
-            let said = "{0} stands directly below a protected object only";
-            told(lines, number, 0, said)
-        }
-        Some(ShapeReason::NoBarrier(number)) => told(lines, number, 2, BARRIER),
-        Some(ShapeReason::NoInterrupt(number)) => told(lines, number, 2, HANDLED),
-        Some(ShapeReason::NoUnit) | None => no_unit(lines.get(0)),
-    };
-    Ok(cause)
+    let reason = shape_reason(alloc, text)?;
+    Ok(told(lines, reason.unwrap_or(ShapeReason::NoUnit)))
 }
 
 /// That a unit may not have its name.
