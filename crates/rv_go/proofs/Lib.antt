@@ -1,3 +1,4 @@
 pub mod Behind
 pub mod Following
 pub mod Keeping
+mod More

@@ -1,15 +1,15 @@
 //! What actors are answered, and what their texts go on by.
 
-ghost use Rattle.std.specs.Prelude.{◌≡◌, OnOk};
+ghost use Rattle.std.specs.Prelude.{◌≡◌, ◌<◌, IfOk, OnErr, OnOk};
 ghost use Rattle.rv_code.specs.BodyView.{unit_view};
-ghost use Rattle.rv_exec.specs.Bodies.{no_bodies};
+ghost use Rattle.rv_exec.specs.Bodies.{bodies_view, no_bodies, with_unit};
 ghost use Rattle.rv_go.specs.Texts.{texts_view, no_texts, with_bodies, is_started, is_fire, is_heard, is_settle, hears};
 
 use crate::places::{hear, stop};
 use crate::texts::{Heard, Texts};
 use rv_code::UnitBodies;
 use rv_event::entry::{Answer, Next, Request, Rule};
-use rv_exec::bodies::Bodies;
+use rv_exec::bodies::{Bodies, SharedUnit};
 use rv_exec::outward::stands;
 use rv_ring::past::Past;
 use rv_value::Scalars;
@@ -55,6 +55,10 @@ fn is_heard(goes: bool, request: &Request, answer: &Answer) -> bool
     goes && !is_settle(request) && !stands(answer)
 }
 
+/// As many units as there may ever be are awaited, for a host whose units may be loaded at any time. So all answers since an actor's
+/// text began are kept, and a task's text takes more memory with each: at most as many as a task's own body may make requests.
+pub const ANY_NUMBER: usize = 18_446_744_073_709_551_615;
+
 /// No bodies.
 pub fn no_bodies(alloc: Global) -> UnitBodies
     ensures { unit_view result ≡ no_bodies }
@@ -98,8 +102,34 @@ impl Texts {
         self.awaited = self.awaited.saturating_sub(1);
     }
 
+    /// The bodies, and those of the next unit, for `go_on_with`. Err where memory was refused, or where no unit was awaited any
+    /// more.
+    #[tactic(auto, using(crate::proofs::More::one_more))]
+    pub fn ready(&self, alloc: Global, bodies: UnitBodies) -> Result<Bodies, AllocError>
+        ensures more { IfOk result (λ more. bodies_view more ≡ with_unit (unit_view bodies) (bodies_view self.now.bodies)) }
+        ensures awaited { IfOk result (λ more. 0 < self.now.awaited) }
+    {
+        if self.awaited == 0 {
+            return Err(AllocError);
+        }
+        let unit = SharedUnit::new(alloc, bodies)?;
+        self.bodies.with(unit)
+    }
+
+    /// These are the bodies from now on, as a unit that was awaited is loaded; it takes no memory. Texts begin anew over them, and go
+    /// on by what was heard.
+    pub fn go_on_with(&mut self, more: Bodies)
+        requires { 0 < self.old.awaited }
+        ensures { texts_view self.new ≡ record (texts_view self.old) { bodies = bodies_view more } }
+    {
+        stop(&mut self.listeners);
+        self.running = None;
+        self.awaited -= 1;
+        self.bodies = more;
+    }
+
     /// Keeps the answer to a request of an actor, where its text goes on by it: `goes` says whether the request was a
-    /// `go`.
+    /// `go`. Where memory was refused nothing is kept.
     pub fn hear(
         &mut self,
         alloc: Global,
@@ -108,7 +138,8 @@ impl Texts {
         request: &Request,
         answer: &Answer,
     ) -> Result<(), AllocError>
-        ensures { OnOk result (texts_view self.new ≡ hears (texts_view self.old) actor goes request.now answer.now) }
+        ensures ok { OnOk result (texts_view self.new ≡ hears (texts_view self.old) actor goes request.now answer.now) }
+        ensures err { OnErr result (texts_view self.new ≡ texts_view self.old) }
     {
         // The check is told of these types only where they are named.
         let _scalars: Option<Scalars> = None;

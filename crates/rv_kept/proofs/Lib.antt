@@ -1,2 +1,1 @@
-mod More
 mod Asked

@@ -5,6 +5,7 @@ ghost use Rattle.rv_go.specs.Texts.{no_texts, texts_view};
 ghost use Rattle.rv_history.specs.Legal as legal;
 ghost use Rattle.rv_history.specs.Limits.{limits_with};
 
+use rv_go::hearing::ANY_NUMBER;
 use rv_go::texts::Texts;
 use rv_host::host::{Host, NewFault};
 use std::alloc::Global;
@@ -33,7 +34,7 @@ impl Kept {
         ensures texts { IfOk result (λ k. texts_view k.texts ≡ no_texts budget) }
     {
         let host = Host::with_limit(alloc, capacity, limit)?;
-        let texts = Texts::new(alloc, budget);
+        let texts = Texts::new(alloc, budget, ANY_NUMBER);
         Ok(Kept { host, texts })
     }
 }

@@ -3,7 +3,6 @@
 #![tactic(auto)]
 
 mod going;
-mod heard;
 mod kept;
 mod loading;
 
