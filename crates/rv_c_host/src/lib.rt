@@ -15,7 +15,9 @@ mod telling;
 mod told;
 
 pub use asking::{call, command, delay_until, end, fire, go, plain};
-pub use carrying::{append_line, load_shape, perform, remove_line, replace_line, set_list, words_of};
+pub use carrying::{
+    append_line, load_shape, perform, remove_line, replace_line, set_list, words_of,
+};
 pub use finding::{find_actor, find_target};
 pub use laws::below_zero_nothing_changes;
 pub use making::{create, free};
