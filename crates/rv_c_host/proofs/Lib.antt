@@ -1,2 +1,1 @@
 mod Unrecorded
-mod Coming

@@ -1,49 +1,35 @@
 //! Reading the texts that a caller gives.
 
-ghost use Rattle.std.specs.Prelude.{◌≡◌, ℕ, List, Some};
+ghost use Rattle.std.specs.Prelude.{◌≡◌, ℕ};
 ghost use Rattle.rv_access.specs.declared.change.Change.TheVariants as Changes;
-ghost use Rattle.rv_shape.specs.ShapeText.{shape_of};
 ghost use Rattle.rv_c_host.specs.Carried.{ReadsLine, ReadsList, ReadsShape};
 
 use rv_access::{Change, ListFault, read_line, read_list};
-use rv_code::Unit;
+use rv_history::command::Command;
 use rv_shape::fault::ShapeFault;
 use rv_shape::reading::read_shape;
-use rv_shape::shape::UnitShape;
 use std::alloc::{AllocError, Global};
 
 /// What a text is read as.
 #[derive(Drop)]
 pub enum Read {
-    /// A unit to load.
-    Bring(Unit),
-    /// A change of the list.
-    Do(Change),
+    /// A command.
+    Do(Command),
     /// None, by these words; by no words where there was no memory for them.
     Bad(String),
     /// Memory was refused.
     Memory,
 }
 
-/// Words that there was memory for; else none.
-pub fn words_or_none(alloc: Global, told: Result<String, AllocError>) -> String {
+// Words that there was memory for; else none.
+fn words_or_none(alloc: Global, told: Result<String, AllocError>) -> String {
     match told {
         Ok(told) => told,
         Err(_) => String::new(alloc),
     }
 }
 
-// The unit that is a shape alone.
-fn alone(alloc: Global, shape: UnitShape) -> Read
-    ensures { (text : List ℕ) → shape_of text ≡ Some shape → ReadsShape text result }
-{
-    match Unit::of_shape(alloc, shape) {
-        Ok(unit) => Read::Bring(unit),
-        Err(_) => Read::Memory,
-    }
-}
-
-/// Reads a text as the unit that is the shape of it alone.
+/// Reads a text as the load of the shape that it is.
 pub fn shape_read(alloc: Global, text: &[u8]) -> Read
     ensures { ReadsShape text.now result }
 {
@@ -51,7 +37,7 @@ pub fn shape_read(alloc: Global, text: &[u8]) -> Read
         return Read::Bad(words_or_none(alloc, String::from_str(alloc, "NotText")));
     };
     match read_shape(alloc, text) {
-        Ok(shape) => alone(alloc, shape),
+        Ok(shape) => Read::Do(Command::Load(shape)),
         Err(ShapeFault::NoMemory) => Read::Memory,
         Err(fault) => Read::Bad(words_or_none(alloc, format!(in alloc; "shape {fault}"))),
     }
@@ -65,7 +51,7 @@ pub fn list_read(alloc: Global, text: &[u8]) -> Read
         return Read::Bad(words_or_none(alloc, String::from_str(alloc, "NotText")));
     };
     match read_list(alloc, text) {
-        Ok(list) => Read::Do(Change::Whole(list)),
+        Ok(list) => Read::Do(Command::Change(Change::Whole(list))),
         Err(ListFault::NoMemory) => Read::Memory,
         Err(fault) => Read::Bad(words_or_none(alloc, format!(in alloc; "list {fault}"))),
     }
@@ -79,7 +65,7 @@ pub fn append_read(alloc: Global, text: &[u8]) -> Read
         return Read::Bad(words_or_none(alloc, String::from_str(alloc, "NotText")));
     };
     match read_line(alloc, text) {
-        Ok(line) => Read::Do(Change::Append(line)),
+        Ok(line) => Read::Do(Command::Change(Change::Append(line))),
         Err(ListFault::NoMemory) => Read::Memory,
         Err(fault) => Read::Bad(words_or_none(alloc, format!(in alloc; "list {fault}"))),
     }
@@ -93,7 +79,7 @@ pub fn replace_read(alloc: Global, number: usize, text: &[u8]) -> Read
         return Read::Bad(words_or_none(alloc, String::from_str(alloc, "NotText")));
     };
     match read_line(alloc, text) {
-        Ok(line) => Read::Do(Change::Replace(number, line)),
+        Ok(line) => Read::Do(Command::Change(Change::Replace(number, line))),
         Err(ListFault::NoMemory) => Read::Memory,
         Err(fault) => Read::Bad(words_or_none(alloc, format!(in alloc; "list {fault}"))),
     }
