@@ -7,8 +7,7 @@ use crate::line::{Line, lines_of};
 use crate::lists::cause_of_list;
 use crate::loaded::Loaded;
 use crate::parts::{
-    catalogue_before, declared_by, known_before, load_at, opening_before, part_at, shapes_before,
-    texts_before,
+    catalogue_before, declared_by, known_before, load_at, opening_before, part_at, texts_before,
 };
 use crate::sections::bad_section;
 use crate::settings::cause_of_settings;
@@ -165,8 +164,7 @@ fn name_taken<'a>(
     lines: &[Line<'a>],
 ) -> Result<Cause<'a>, AllocError> {
     let texts = texts_before(alloc, script, line)?;
-    let before = shapes_before(alloc, script, line)?;
-    let known = known_before(alloc, texts.as_slice(), before.as_slice())?;
+    let known = known_before(alloc, script, line, texts.as_slice())?;
     Ok(shapes::name_taken(lines, &known))
 }
 

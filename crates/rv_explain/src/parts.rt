@@ -141,24 +141,20 @@ pub(crate) fn texts_before<'a>(
     Ok(texts)
 }
 
-/// The shapes before a line.
-pub(crate) fn shapes_before(
+// Adds what the shapes before a line declare.
+fn add_shapes<'a>(
     alloc: Global,
-    script: &str,
+    script: &'a str,
     line: usize,
-) -> Result<Vec<UnitShape>, AllocError> {
-    let mut shapes = Vec::new(alloc);
+    known: &mut Known<'a>,
+) -> Result<(), AllocError> {
     let mut parts = parts_of(script);
     'each: while let Some(part) = parts.next_part() {
         if part.line < line && part.opening == Some(Opening::Shape) {
-            match shape_of(alloc, part.line, part.text) {
-                Ok(shape) => shapes.push(shape)?,
-                Err(Failure::Memory) => return Err(AllocError),
-                Err(_) => {}
-            }
+            add_shape(alloc, known, part.text)?;
         }
     }
-    Ok(shapes)
+    Ok(())
 }
 
 /// What the unit texts of these words declare.
@@ -173,16 +169,15 @@ pub(crate) fn declared_by<'a>(
     Ok(known)
 }
 
-/// What the parts before a line declare, whose unit texts have these words, and whose shapes are these.
+/// What the parts before a line declare, whose unit texts have these words.
 pub(crate) fn known_before<'a>(
     alloc: Global,
+    script: &'a str,
+    line: usize,
     texts: &[Tokens<'a>],
-    shapes: &'a [UnitShape],
 ) -> Result<Known<'a>, AllocError> {
     let mut known = declared_by(alloc, texts)?;
-    for shape in shapes {
-        add_shape(&mut known, shape)?;
-    }
+    add_shapes(alloc, script, line, &mut known)?;
     Ok(known)
 }
 

@@ -5,7 +5,7 @@ use crate::attached::attached_in;
 use crate::ceilings::ceiling_too_low;
 use crate::explanation::{Explanation, of_part};
 use crate::grammar::Stop;
-use crate::parts::{catalogue_before, known_before, shapes_before, texts_before};
+use crate::parts::{catalogue_before, known_before, texts_before};
 use crate::places::place_of;
 use crate::taken::line_taken;
 use crate::wanted::wanted_types;
@@ -356,24 +356,6 @@ fn of_known<'a, 't>(
     }
 }
 
-// What is said of a fault of the text of a part, which has these words, over what the parts before it declare.
-fn of_tokens<'a, 't>(
-    alloc: Global,
-    script: &'a str,
-    part: &Part<'a>,
-    text: &'t str,
-    own: &[Token<'t>],
-    fault: UnitFault,
-) -> Result<Explanation<'a>, AllocError> {
-    let texts = texts_before(alloc, script, part.line)?;
-    let shapes = shapes_before(alloc, script, part.line)?;
-    let mut known = known_before(alloc, texts.as_slice(), shapes.as_slice())?;
-    if knows_itself(fault) {
-        known.add_text(own, true)?;
-    }
-    of_known(alloc, script, part, text, own, &known, fault)
-}
-
 /// What is said of a fault of the unit text of a part.
 pub(crate) fn of_unit<'a>(
     alloc: Global,
@@ -386,5 +368,18 @@ pub(crate) fn of_unit<'a>(
         let cause = without_words(alloc, text.as_str(), fault);
         return of_part(alloc, part, &cause, &Known::new(alloc));
     };
-    of_tokens(alloc, script, part, text.as_str(), own.as_slice(), fault)
+    let texts = texts_before(alloc, script, part.line)?;
+    let mut known = known_before(alloc, script, part.line, texts.as_slice())?;
+    if knows_itself(fault) {
+        known.add_text(own.as_slice(), true)?;
+    }
+    of_known(
+        alloc,
+        script,
+        part,
+        text.as_str(),
+        own.as_slice(),
+        &known,
+        fault,
+    )
 }

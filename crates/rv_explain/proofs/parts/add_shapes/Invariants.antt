@@ -1,5 +1,5 @@
 use Rattle.std.proofs.Common.{length}
-use Rattle.rv_explain.proofs.parts.shapes_before.Given as goal
+use Rattle.rv_explain.proofs.parts.add_shapes.Given as goal
 
 abbrev pub invariant-each : goal.invariant-each
 invariant-each l = Unit {0}
