@@ -14,10 +14,12 @@ use crate::work::Work;
 use crossbeam_channel::{Sender, unbounded};
 use rv_crew::hiring::HireFault;
 use rv_crew::notice::Notice;
+use rv_pipes::{Ender, Pipes};
 use rv_port::budget::Budget;
 use rv_port::fault::PortFault;
 use rv_port::port::Port;
 use rv_shape::actor::FIRST_TASK;
+use rv_shape::catalogue::Catalogue;
 use std::io;
 use std::io::Write;
 
@@ -99,6 +101,32 @@ fn take_outsider(session: &mut Session, actor: usize) -> Option<Outsider>
     }
 }
 
+// A thread that serves another process, with these names.
+#[tactic(auto, using(crate::proofs::Starting::some_work, crate::proofs::Starting::this_work))]
+fn hire_server<H: Hires>(
+    hires: &H,
+    session: &mut Session,
+    pipes: Pipes,
+    ender: Ender,
+    names: Catalogue,
+    port: Port,
+) -> Result<(), HireFault>
+    requires { port.turn ≡ session.old.staff.control.turn }
+    ensures { (work : Work) × (session.new.staff ≡ record session.old.staff { crew = hired session.old.staff.crew port work result }) }
+{
+    if session.enders.reserve(1).is_err() {
+        return session.staff.give_up(port);
+    }
+    let work = Work::Lines(session.alloc, pipes, names);
+    match session.staff.hire(hires, port, work) {
+        Ok(()) => {
+            session.enders.push_reserved(ender);
+            Ok(())
+        }
+        Err(fault) => Err(fault),
+    }
+}
+
 // A thread for a task that belongs to another process, with the names of what is loaded by now.
 #[tactic(auto, using(crate::proofs::Starting::some_work, crate::proofs::Starting::this_work))]
 fn hire_outsider<H: Hires>(
@@ -110,9 +138,6 @@ fn hire_outsider<H: Hires>(
     requires { port.turn ≡ session.old.staff.control.turn }
     ensures { (work : Work) × (session.new.staff ≡ record session.old.staff { crew = hired session.old.staff.crew port work result }) }
 {
-    if session.enders.reserve(1).is_err() {
-        return session.staff.give_up(port);
-    }
     let Ok(names) = session.staff.catalogue().copy(session.alloc) else {
         return session.staff.give_up(port);
     };
@@ -121,14 +146,7 @@ fn hire_outsider<H: Hires>(
         pipes,
         ender,
     } = outsider;
-    let work = Work::Lines(session.alloc, pipes, names);
-    match session.staff.hire(hires, port, work) {
-        Ok(()) => {
-            session.enders.push_reserved(ender);
-            Ok(())
-        }
-        Err(fault) => Err(fault),
-    }
+    hire_server(hires, session, pipes, ender, names, port)
 }
 
 // A thread for a task on its port: it serves the process that the task belongs to, or else does the task's own work.

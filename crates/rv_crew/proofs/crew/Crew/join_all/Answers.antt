@@ -1,4 +1,4 @@
-use Rattle.std.proofs.Common.{rules, ◌≡◌, ◌∙◌, ◌++◌, [], map, reverse, List, ap, sym, subst}
+use Rattle.std.proofs.Common.{rules, ◌≡◌, ◌∙◌, ◌++◌, [], map, reverse, List, ap, subst}
 use Rattle.std.proofs.lemmas.List.{reverse-reverse}
 use Rattle.rv_port.specs.Ports.{Porting}
 use Rattle.rv_crew.specs.Crews.{Joins, owed, owed_for, with_joined}
@@ -11,10 +11,10 @@ returns-clause-ok g c =
     let back : reverse c.turned.result.items ≡ c.self.inside.running.items = ap reverse c.turned.ensures ∙ (reverse-reverse c.replace-waiting.result.items ∙ search rules) in
     let out : map owed (reverse c.turned.result.items) ≡ map owed c.self.inside.running.items = ap (λ (l : List (Running g.row.D.Denot)). map owed l) back in
     let joins : Joins g.D.Duty.does c.self.inside.joined.items (map owed c.self.inside.running.items) c.join_each.new.joined.items =
-          subst (λ (l : List (Owed g.row.D.Denot)). Joins g.D.Duty.does c.self.inside.joined.items l c.join_each.new.joined.items) out
-          (subst (λ (l : List Porting). Joins g.D.Duty.does l (map owed (reverse c.turned.result.items)) c.join_each.new.joined.items) c.reserve.ensures.items c.join_each.ensures.joins) in
+    subst (λ (l : List (Owed g.row.D.Denot)). Joins g.D.Duty.does c.self.inside.joined.items l c.join_each.new.joined.items) out
+    (subst (λ (l : List Porting). Joins g.D.Duty.does l (map owed (reverse c.turned.result.items)) c.join_each.new.joined.items) c.reserve.ensures.items c.join_each.ensures.joins) in
     let paid : map owed_for c.join_each.new.paid.items ≡ map owed_for c.self.inside.paid.items ++ map owed c.self.inside.running.items =
-          c.join_each.ensures.paid ∙ ap (λ (l : List (Owed g.row.D.Denot)). map owed_for c.reserve-2.new.self.items ++ l) out ∙ search rules in
+    c.join_each.ensures.paid ∙ ap (λ (l : List (Owed g.row.D.Denot)). map owed_for c.reserve-2.new.self.items ++ l) out ∙ search rules in
     let none : c.replace-waiting.new.dest.items ≡ [] = search rules in
     let crew : Team g.row.D.Denot = record {
       running = map owed c.self.inside.running.items;

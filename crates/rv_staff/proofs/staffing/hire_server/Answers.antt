@@ -4,7 +4,7 @@ use Rattle.rv_crew.specs.declared.hiring.HireFault.{HireFault}
 use Rattle.rv_crew.specs.Hiring.{hired}
 use Rattle.rv_staff.specs.Staffs.{Staffed}
 use Rattle.rv_staff.specs.declared.work.Work.{Work}
-use Rattle.rv_staff.proofs.staffing.hire_outsider.Goals as goal
+use Rattle.rv_staff.proofs.staffing.hire_server.Goals as goal
 
 pub returns-in-Err : goal.returns-in-Err
 returns-in-Err g c =
