@@ -2,6 +2,7 @@
 use Rattle.std.proofs.Common.{◌≡◌, ℕ, List, Bool, true, false, Ok, Err, inl, inr, refl, subst, sym}
 use Rattle.std.specs.Prelude.{Option, Result}
 use Rattle.rv_feed.specs.declared.piece.Piece.{Piece}
+use Rattle.rv_follow.specs.declared.following.Found.{Found}
 use Rattle.rv_input.specs.Coming.{Reading}
 use Rattle.rv_keep.specs.Keeping.{Known}
 use Rattle.rv_port.specs.Traces.{Passing}
@@ -24,7 +25,8 @@ begins_by lasting first begun is chores crew =
     subst (λ (l : Bool). BeginsAs l first begun) (sym is) (subst (λ (l : Bool). ChoresIn l first.control begun.control) is chores, crew)
 
 -- what a failure leaves
-pub fails_on : {X Y : Type 0} (opened now : Known) (v : Passing) (next : ℕ) (failure : KeptFailure) → Stands {X = X} opened now v next (Err failure) → Stands {X = Y} opened now v next (Err failure)
+pub fails_on : (opened now : Known) (v : Passing) (next : ℕ) (failure : KeptFailure) → Stands {X = Found} opened now v next (Err failure)
+    → Stands {X = Unit {0}} opened now v next (Err failure)
 fails_on opened now v next (Run failure) stands = stands
 fails_on opened now v next (File error) stands = stands
 

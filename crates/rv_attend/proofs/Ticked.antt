@@ -80,8 +80,8 @@ once_none v old new now ticks is second none = inl (none_left (missed old now) t
 
 pub once_asked : (v w : Passing) (old new : Pacing) (now ticks : ℕ) (had : Bool) → ticks ≡ min 1_000_000 (missed old now) → new ≡ record old { asked = old.asked + ticks }
     → AsksRoom ticks had v w → had ≡ true → TicksOnce v w old new now
-once_asked v w old new now ticks had is second asks yes = inr (inl (
-  subst (λ (n : ℕ). AsksOf n v w) is (subst (λ (b : Bool). AsksRoom ticks b v w) yes asks),
+once_asked v w old new now ticks had is second asks some = inr (inl (
+  subst (λ (n : ℕ). AsksOf n v w) is (subst (λ (b : Bool). AsksRoom ticks b v w) some asks),
   second ∙ ap (λ (n : ℕ). record old { asked = old.asked + n }) is,
 ))
 
@@ -91,7 +91,7 @@ given_back old mid new ticks first second =
 
 pub once_full : (v w : Passing) (old mid new : Pacing) (now ticks : ℕ) (had : Bool) → ticks ≡ min 1_000_000 (missed old now) → mid ≡ record old { asked = old.asked + ticks }
     → new ≡ record mid { asked = mid.asked - ticks } → AsksRoom ticks had v w → had ≡ false → TicksOnce v w old new now
-once_full v w old mid new now ticks had is first second asks no = inr (inr (
-  subst (λ (n : ℕ). AsksRoom n false v w) is (subst (λ (b : Bool). AsksRoom ticks b v w) no asks),
+once_full v w old mid new now ticks had is first second asks none = inr (inr (
+  subst (λ (n : ℕ). AsksRoom n false v w) is (subst (λ (b : Bool). AsksRoom ticks b v w) none asks),
   given_back old mid new ticks first second,
 ))
