@@ -1,8 +1,8 @@
 -- Threads that are parted: some stay, the others are given up.
-use Rattle.std.proofs.Common.{◌≡◌, ℕ, List, [], ◌∷◌, ◌++◌, map, inl, inr, refl, sym, ap, subst, ◌∙◌, append-nil}
+use Rattle.std.proofs.Common.{◌≡◌, ℕ, List, [], ◌∷◌, ◌++◌, map, length, inl, inr, refl, sym, ap, subst, ◌∙◌, append-nil}
 use Rattle.std.proofs.lemmas.List.{map-append, append_assoc}
-use Rattle.rv_crew.specs.Teams.{Owed}
-use Rattle.rv_crew.specs.Abandoning.{Parts, PartsInto, actors_out}
+use Rattle.rv_crew.specs.Teams.{Owed, Team}
+use Rattle.rv_crew.specs.Abandoning.{Abandons, Parts, PartsInto, actors_out}
 
 -- one thread more that stays
 stays_one : {D : Type 0} (threads : List (Owed D)) (last : Owed D) (stay gone : List (Owed D)) → Parts threads stay gone → Parts (threads ++ last ∷ []) (stay ++ last ∷ []) gone
