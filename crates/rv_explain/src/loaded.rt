@@ -154,7 +154,8 @@ impl<'c, 'k, 'a> Loaded<'c, 'k, 'a> {
             return Ok(None);
         };
         let shape = match self.catalogue.find_unit(unit) {
-            Some(number) => self.catalogue.shapes().get(number),
+            // (units are numbered from 1)
+            Some(number) => self.catalogue.shapes().get(number.saturating_sub(1)),
             None => None,
         };
         let Some(shape) = shape else {
