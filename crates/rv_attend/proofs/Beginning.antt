@@ -1,6 +1,6 @@
 -- How a run begins.
-use Rattle.std.proofs.Common.{◌≡◌, ℕ, List, Bool, true, false, Ok, Err, inl, inr, refl, subst, sym}
-use Rattle.std.specs.Prelude.{Option, Result}
+use Rattle.std.proofs.Common.{◌≡◌, ℕ, List, Bool, true, false, Err, inl, inr, refl, subst, sym}
+use Rattle.std.specs.Prelude.{Option}
 use Rattle.rv_feed.specs.declared.piece.Piece.{Piece}
 use Rattle.rv_follow.specs.declared.following.Found.{Found}
 use Rattle.rv_input.specs.Coming.{Reading}
@@ -12,8 +12,8 @@ use Rattle.rv_run.specs.declared.outputs.KeptFailure.{KeptFailure}
 use Rattle.rv_run.specs.declared.outputs.KeptFailure.TheVariants.{Run, File}
 use Rattle.rv_staff.specs.Staffs.{Staffed}
 use Rattle.rv_attend.specs.Chores.{ChoresIn}
-use Rattle.rv_attend.specs.Going.{Terms, terms}
-use Rattle.rv_attend.specs.KeepingRuns.{Around, AttendsAs, BeginsAs, FailsFirst, KeepsFrom, KeepsJournal, Stands, TakesSections}
+use Rattle.rv_attend.specs.Going.{terms}
+use Rattle.rv_attend.specs.KeepingRuns.{Around, AttendsAs, BeginsAs, FailsFirst, KeepsJournal, Stands, TakesSections}
 use Rattle.rv_attend.specs.declared.attention.Attention.{Attention}
 use Rattle.rv_attend.proofs.Ended.{runs_kept}
 

@@ -25,7 +25,7 @@ use Rattle.rv_turn.specs.declared.pass.Worn.{Worn as Spent}
 use Rattle.rv_attend.specs.Chores.{Chores, ChoresIn, ChoresOn, IsAsked, IsChore}
 use Rattle.rv_attend.specs.Going.{Terms}
 use Rattle.rv_attend.specs.Rooming.{DeniesUnit, DoesDue}
-use Rattle.rv_attend.specs.Ticking.{AsksInAll, AsksOf, AsksRoom, Ticks, TicksOnce}
+use Rattle.rv_attend.specs.Ticking.{AsksInAll, AsksOf, Ticks, TicksOnce}
 use Rattle.rv_attend.proofs.Growing.{acted_later, later_on, same_later}
 use Rattle.rv_view.specs.Views.{Shown}
 use Rattle.rv_tally.specs.declared.guard.Due.{Due}

@@ -1,5 +1,5 @@
 -- The least capacity of a run that lasts. (own)
-use Rattle.std.specs.Prelude.{ℕ, zero, suc, ◌+◌, ◌*◌, min, max, Bool, true, false, if◌then◌else◌, nat_le, List, length, Option, Some, None, is_some}
+use Rattle.std.specs.Prelude.{ℕ, zero, suc, ◌+◌, ◌*◌, min, max, Bool, true, false, if◌then◌else◌, List, length, Option, Some, None, is_some}
 use Rattle.rv_shape.specs.Catalogue.{UnitObject, all_objects, all_tasks, handler, place}
 use Rattle.rv_shape.specs.Shape.{Shape}
 use Rattle.rv_shape.specs.declared.object.Object.{Object}
