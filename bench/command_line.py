@@ -184,6 +184,9 @@ def misuses(asked: Asked) -> None:
     is_told("'--torn' needs '--journal <FILE>'", "audit", "--torn")
     is_told("'--sync <HOW>' needs '--journal <FILE>'", "run", "--sync", "each")
     is_told("'--sync <HOW>' needs '--journal <FILE>'", "run", "--sync", "x")
+    is_told("'--lasting' needs '--journal <FILE>'", "run", "--lasting")
+    is_told("'--lasting' goes without '--halt-below <N>'", "run", "--lasting", "--journal", "kept", "--halt-below", "9")
+    is_told("'--lasting' goes without '--quota <N>'", "run", "--journal", "kept", "--quota", "9", "--lasting")
     # (the first of several)
     wrong = {"--sync": "x", "--tick": "0", "--halt-below": "0", "--quota": "0", "--grace": "0", "--notes": "x", "--color": "x"}
     left = list(wrong)

@@ -13,6 +13,7 @@ import pty
 import re
 import resource
 import select
+import shutil
 import signal
 import struct
 import subprocess
@@ -532,6 +533,94 @@ def halt_below(program):
         entries = re.fullmatch(r"entries (\d+)\n", out)
         expect_that(f"the end by --halt-below with {words}", entries and int(entries[1]) > 2096 and re.fullmatch(due, err)
                     and status == 0, (out, err, status))
+
+
+def lasting(program):
+    """With --lasting a journal goes on past its capacity, no text ends by Full, and FILE has all of it; without the flag the text ends."""
+    sections = "@host.toml\ncapacity = %d\nbudget = 1000000\n" + unit(PLANT) + unit(free("Bad")) + "@list\nallow * * *\n"
+    with tempfile.TemporaryDirectory() as folder:
+        for capacity in (64, 4096):
+            file = os.path.join(folder, f"journal{capacity}")
+            run = Run(program, sections % capacity + "@run\n", ("--lasting", "--journal", file, "--tick", "10", "--notes", "always"))
+            until(f"entries past a capacity of {capacity}", lambda: os.path.exists(file) and open(file).read().count("\n") > 20 * capacity)
+            expect("a change of the list in a run that lasts", run.ask("append deny Nobody * *"), "accepted 0")
+            expect("the first page", run.page(1), [])
+            out, err, status = run.end()
+            journal = open(file).read().splitlines()
+            numbered("the file of a run that lasts", journal)
+            expect_that("quit of a run that lasts", out == f"entries {len(journal)}\n" and status == 0, (out, status))
+            expect_that("what ended its text", "ended: halted" in err and "ended: full" not in err, err)
+            given_up = 0
+            for number, line in enumerate(journal, 1):
+                if " operator archive " in line:
+                    upto = int(line.split(" ")[3])
+                    expect_that("what is archived", given_up < upto < number, line)
+                    given_up = upto
+                expect_that("the capacity", number - given_up <= capacity, line)
+            done = subprocess.run([program, "audit", "--explain", "--journal", file], input=(sections % capacity).encode(), stdout=subprocess.PIPE,
+                                  stderr=subprocess.PIPE)
+            expect_that("the audit of a run that lasts", done.stdout.startswith(f"legal {len(journal)} entries\n".encode()) and done.returncode == 0,
+                        (done.stdout[-200:], done.stderr[-200:]))
+        least = least_capacity(program, folder, sections)
+        run = Run(program, sections % least + "@run\n", ("--lasting", "--journal", os.path.join(folder, "least")))
+        out, err, status = run.end()
+        expect_that("the least capacity", out.startswith("entries ") and not err and status == 0, (out, err, status))
+        run = Run(program, sections % 64 + "@run\n", ("--journal", os.path.join(folder, "short"), "--notes", "always"))
+        until("the end of a text by Full", lambda: "halted" not in run.ask("tick 1") and run.ask("tick 1") == "full")
+        out, err, status = run.end()
+        expect_that("what ends a text without the flag", "ended: full" in err and status == 0, (out, err, status))
+        for words, due in (((), "'--lasting' needs '--journal <FILE>'"), (("--journal", "J", "--halt-below", "9"), "'--lasting' goes without '--halt-below <N>'"),
+                           (("--journal", "J", "--quota", "9"), "'--lasting' goes without '--quota <N>'")):
+            done = subprocess.run([program, "run", "--lasting", *words], stdin=subprocess.DEVNULL, stdout=subprocess.PIPE, stderr=subprocess.PIPE, cwd=folder)
+            expect_that(f"--lasting with {words}", due.encode() in done.stderr and done.returncode == 2, (done.stderr, done.returncode))
+        killed_lasting(program, folder, sections % 256)
+        synced_lasting(program, folder, sections % 256)
+
+
+def least_capacity(program, folder, sections):
+    """What a run says that has too little; it starts nothing, and writes nothing."""
+    file = os.path.join(folder, "small")
+    run = Run(program, sections % 16 + "@run\n", ("--lasting", "--journal", file))
+    out, err, status = run.end("")
+    said = re.search(r"ravenhost: --lasting takes a capacity of (\d+) or more for these units, .*; it is 16\n", err)
+    expect_that("a capacity that is too small", said and not out and status == 1 and os.path.getsize(file) == 0, (out, err, status))
+    return int(said[1]) if said else 64
+
+
+def killed_lasting(program, folder, script):
+    """Killed at some moment, FILE has a legal journal without a gap."""
+    for time_to_go in (0.05, 0.1, 0.2, 0.4):
+        file = os.path.join(folder, f"killed{time_to_go}")
+        run = Run(program, script + "@run\n", ("--lasting", "--journal", file))
+        time.sleep(time_to_go)
+        run.process.kill()
+        run.process.communicate()
+        done = subprocess.run([program, "audit", "--torn", "--journal", file], input=script.encode(), stdout=subprocess.PIPE, stderr=subprocess.PIPE)
+        expect_that(f"the audit of a run that was killed after {time_to_go} s", re.fullmatch(rb"legal \d+ entries\n", done.stdout), (done.stdout, done.stderr))
+
+
+def synced_lasting(program, folder, script):
+    """At --sync each a sync returns between the writes of entry N and of `archive N`."""
+    if not shutil.which("strace"):
+        print("no strace: when a file is synced before an archive isn't looked at")
+        return
+    file, trace = os.path.join(folder, "synced"), os.path.join(folder, "trace")
+    run = subprocess.Popen(["strace", "-f", "-s", "1000000", "-o", trace, "-e", "trace=write,fdatasync,fsync", program, "run", "--lasting", "--sync", "each",
+                            "--journal", file], stdin=subprocess.PIPE, stdout=subprocess.PIPE, stderr=subprocess.PIPE)
+    run.stdin.write((script + "@run\n").encode())
+    run.stdin.flush()
+    until("archives of a traced run", lambda: os.path.exists(file) and open(file).read().count(" operator archive ") > 5)
+    run.communicate(b"quit\n", timeout=LIMIT)
+    written = synced = archives = 0
+    for line in open(trace, encoding="utf-8", errors="replace"):
+        if "sync(" in line and "= 0" in line or "sync resumed" in line:
+            synced = written
+        for number, request in re.findall(r"(?:^|\\n|\")(\d+) operator archive (\d+) ", line):
+            archives += 1
+            expect_that("the sync before an archive", int(request) <= synced, (number, request, synced))
+        for number in re.findall(r"(?:\\n|\")(\d+) \S+ [a-z]", line) if " write(" in line else ():
+            written = max(written, int(number))
+    expect_that("archives in the trace", archives > 5, archives)
 
 
 def unread(program):
@@ -1075,7 +1164,7 @@ def main():
     program = os.path.abspath(sys.argv[1]) if sys.argv[1:] else os.path.join(TOP, "crates/ravenhost/out/ravenhost")
     named = sys.argv[2:]
     for part in (commands, row, device, two_devices, deepest, deepest_of_all, live, no_thread, refused, closed, edges, ticks, usage, prompt,
-                 stops, all_flags, quota, halt_below, unread, come, reasons, console, told_at_console, columns, notes_at_commands, explains,
+                 stops, all_flags, quota, halt_below, lasting, unread, come, reasons, console, told_at_console, columns, notes_at_commands, explains,
                  advised, unended_loads, end_status, sections_end):
         if named and part.__name__ not in named:
             continue

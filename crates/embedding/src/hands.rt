@@ -4,6 +4,7 @@ ghost use Rattle.std.specs.Coded.{codes};
 ghost use Rattle.std.specs.Prelude.{◌≡◌};
 ghost use Rattle.rv_behind.specs.contracts.event.Event as e;
 ghost use Rattle.rv_crew.specs.Hiring.{hired};
+ghost use Rattle.rv_crew.specs.contracts.job.NoDuty as n;
 ghost use Rattle.rv_crew.specs.Teams.{IsOfTurn};
 
 use crate::actuator::{Actuator, actuate};
@@ -11,6 +12,7 @@ use crate::panel::{Panel, serve};
 use crate::sensor::{Sensor, sense};
 use rv_crew::crew::Crew;
 use rv_crew::hiring::HireFault;
+use rv_crew::job::NoDuty;
 use rv_port::port::{Finished, Port};
 use std::sync::Wait;
 use std::time::Clock;
@@ -42,23 +44,23 @@ pub fn act<R: Wait + Clock + Input + Print + AllocGlobal>(
 #[derive(Drop)]
 pub struct Hands {
     /// The closure.
-    pub begin: Box<dyn Fn(&mut Crew, Port, Work) -> Result<(), HireFault> + Send>,
+    pub begin: Box<dyn Fn(&mut Crew<NoDuty>, Port, Work) -> Result<(), HireFault> + Send>,
     pub ghost callable: { (crew : _) (port : _) (work : _) → pre begin crew port work },
     pub ghost begins: { (crew : _) (port : _) (work : _) (result : _) (after : _)
-        → post begin crew port work result after → after.now ≡ hired crew.now port result } by { Prim.hlevel (codes, e.the_row.coded) },
+        → post begin crew port work result after → after.now ≡ hired crew.now port (record {}) result } by { Prim.hlevel (codes, e.the_row.coded, n.the_row.coded) },
 }
 
 impl Hands {
     // Calls the closure.
-    fn begin(&self, crew: &mut Crew, port: Port, work: Work) -> Result<(), HireFault>
-        ensures { crew.new ≡ hired crew.old port result }
+    fn begin(&self, crew: &mut Crew<NoDuty>, port: Port, work: Work) -> Result<(), HireFault>
+        ensures { crew.new ≡ hired crew.old port (record {}) result }
     {
         (self.begin)(crew, port, work)
     }
 
     /// Starts a thread that does the work of a port's actor. The crew stays of the port's turn.
     #[tactic(auto, using(rv_crew::proofs::Turns::hired_of_turn))]
-    pub fn start(&self, crew: &mut Crew, port: Port, work: Work)
+    pub fn start(&self, crew: &mut Crew<NoDuty>, port: Port, work: Work)
         requires { IsOfTurn port.turn crew.old }
         ensures { IsOfTurn port.turn crew.new }
     {

@@ -14,15 +14,15 @@ mod sensor;
 use hands::{Hands, Work, act};
 use rv_crew::crew::Crew;
 use rv_crew::hiring::{HireFault, give_up, start};
-use rv_crew::job::Job;
+use rv_crew::job::{Job, NoDuty};
 use rv_port::port::{Finished, Port};
 use std::io;
 use std::snapshot::Snapshot;
 
 // The jobs of threads are boxed here, where the runtime is.
 fn main(rt: HostRuntime) -> io::Result<()> {
-    let begin = move |crew: &mut Crew, port: Port, work: Work| -> Result<(), HireFault>
-        ensures { crew.new ≡ hired crew.old port result }
+    let begin = move |crew: &mut Crew<NoDuty>, port: Port, work: Work| -> Result<(), HireFault>
+        ensures { crew.new ≡ hired crew.old port (record {}) result }
     {
         let given = Snapshot::of(&port);
         let boxed = Box::new(
@@ -32,7 +32,7 @@ fn main(rt: HostRuntime) -> io::Result<()> {
             { act(&rt, port, work) },
         );
         match boxed {
-            Ok(run) => start(&rt, crew, Job { port: given, run }, port),
+            Ok(run) => start(&rt, crew, Job { port: given, run }, NoDuty, port),
             Err(_) => give_up(crew, port),
         }
     };

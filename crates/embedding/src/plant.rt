@@ -9,6 +9,7 @@ use crate::sensor::{Sensor, Wiring};
 use crossbeam_channel::{Receiver, Sender, unbounded};
 use rv_access::read_list;
 use rv_crew::crew::{Closed, Crew};
+use rv_crew::job::NoDuty;
 use rv_crew::laws::joins_keep_the_turn;
 use rv_port::control::Control;
 use rv_port::port::Port;
@@ -117,7 +118,7 @@ fn wired(catalogue: &Catalogue) -> Option<(Wiring, Actuator)> {
 // Starts the threads of both. The sensor tells by the channel that it has ended.
 fn begin(
     hands: &Hands,
-    crew: &mut Crew,
+    crew: &mut Crew<NoDuty>,
     ports: (Port, Port),
     calls: (Wiring, Actuator),
     ended: Sender<u64>,
@@ -146,10 +147,10 @@ pub fn halt<R: Wait>(rt: &R, control: &mut Control)
 }
 
 /// Joins the threads, and closes the host. None where there is no memory.
-pub fn close<R: Threads + Wait>(rt: &R, mut crew: Crew, control: Control) -> Option<Closed>
+pub fn close<R: Threads + Wait>(rt: &R, mut crew: Crew<NoDuty>, control: Control) -> Option<Closed>
     requires { IsOfTurn control.turn crew }
 {
-    joins_keep_the_turn();
+    joins_keep_the_turn::<NoDuty>();
     match crew.join_all(rt) {
         Ok(()) => crew.close(rt, control).ok(),
         Err(_) => None,

@@ -147,6 +147,7 @@ fn attention_of(words: &RunWords<'_>, telling: Telling, terminals: Terminals) ->
         quota: words.quota,
         halt_below: words.halt_below,
         grace: words.grace,
+        lasting: words.lasting,
         tells: telling.tells,
         explains: telling.explains,
         console: if words.console { Some(typing) } else { None },
@@ -211,6 +212,21 @@ where
     }
 }
 
+// Stops where a run that is to last has no file for its journal, or is to end as that fills.
+fn unless_unfit<R: Eprint>(rt: &R, words: &RunWords<'_>) -> Result<(), Stop> {
+    if !words.lasting {
+        return Ok(());
+    }
+    let unfit = match (words.kept, words.halt_below) {
+        (None, _) => "'--lasting' needs '--journal <FILE>'",
+        (_, Some(_)) => "'--lasting' goes without '--halt-below <N>'",
+        _ if words.quota.is_some() => "'--lasting' goes without '--quota <N>'",
+        _ => return Ok(()),
+    };
+    let _ = eprintln!(rt; "error: {unfit}\n\nFor more information, try '--help'.");
+    Err(Stop::Usage)
+}
+
 /// Runs the host of a script, and attends to it; its journal is kept in a file, where one is named, and tasks may belong to other
 /// processes.
 pub fn run_attended<R: Threads + Wait + Files + Clock + Eprint, H: Hires>(
@@ -221,6 +237,7 @@ pub fn run_attended<R: Threads + Wait + Files + Clock + Eprint, H: Hires>(
     actors: &[ActorWords<'_>],
     given: &Given,
 ) -> Result<(), Stop> {
+    unless_unfit(rt, &words)?;
     match words.kept {
         Some(kept) => {
             let file = journal_file(rt, kept.name)?;

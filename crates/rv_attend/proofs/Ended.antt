@@ -12,7 +12,7 @@ use Rattle.rv_staff.specs.Staffs.{Staffed}
 use Rattle.rv_attend.specs.Attending.{come, point}
 use Rattle.rv_attend.specs.Going.{Terms, terms}
 use Rattle.rv_attend.specs.Holding.{Holding, attended, point_of}
-use Rattle.rv_attend.specs.KeepingRuns.{Around, EndsKept, KeepsFrom, LeavesKept, RunsKept, Stands, TakesSections, around}
+use Rattle.rv_attend.specs.KeepingRuns.{BeginsAs, Around, EndsKept, KeepsFrom, LeavesKept, RunsKept, Stands, TakesSections, around}
 use Rattle.rv_attend.specs.declared.attention.Attention.{Attention}
 use Rattle.rv_attend.proofs.Keeping.{leaves_by, leaving_by, whole_closes}
 use Rattle.rv_attend.proofs.Lasted.{goes_last}
@@ -82,9 +82,9 @@ keeps_from holds opened runs m chores written errors result plays unread kept =
 
 -- the settings of a script say how many entries its journal may have
 pub runs_kept : (old new : Around) (asked : Attention) (input rest : Reading) (result : Ended) (bytes slice : List ℕ) (runs : Bool) (heard : List Piece)
-    (told : Option (List Piece)) (first : Staffed) (capacity : ℕ) → slice ≡ bytes → OpensFor asked.quota slice first capacity → TakesSections old.heard heard told input rest bytes runs
-    → KeepsFrom old.file (terms asked capacity) runs (point (come first old.written rest) heard told) new result → RunsKept old new asked input result
-runs_kept old new asked input rest result bytes slice runs heard told first capacity same opened takes keeps =
+    (told : Option (List Piece)) (first begun : Staffed) (capacity : ℕ) → slice ≡ bytes → OpensFor asked.quota slice first capacity → TakesSections old.heard heard told input rest bytes runs
+    → BeginsAs asked.lasting first begun → KeepsFrom old.file (terms asked capacity) runs (point (come begun old.written rest) heard told) new result → RunsKept old new asked input result
+runs_kept old new asked input rest result bytes slice runs heard told first begun capacity same opened takes begins keeps =
     let opens : OpensFor asked.quota bytes first capacity = subst (λ (b : List ℕ). OpensFor asked.quota b first capacity) same opened in
     record {
       bytes = bytes;
@@ -95,5 +95,7 @@ runs_kept old new asked input rest result bytes slice runs heard told first capa
       takes = takes;
       first = first;
       opens = opens.0;
-      keeps = subst (λ (n : ℕ). KeepsFrom old.file (terms asked n) runs (point (come first old.written rest) heard told) new result) opens.1 keeps;
+      begun = begun;
+      begins = begins;
+      keeps = subst (λ (n : ℕ). KeepsFrom old.file (terms asked n) runs (point (come begun old.written rest) heard told) new result) opens.1 keeps;
     }

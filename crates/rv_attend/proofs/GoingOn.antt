@@ -25,7 +25,7 @@ use Rattle.rv_run.specs.declared.outputs.KeptFailure.{KeptFailure}
 use Rattle.rv_tally.specs.Denying.{ends_run}
 use Rattle.rv_tally.specs.Guarding.{is_below}
 use Rattle.rv_attend.specs.Attending.{Grows}
-use Rattle.rv_attend.specs.Chores.{Chores}
+use Rattle.rv_attend.specs.Chores.{ChoresIn}
 use Rattle.rv_attend.specs.Going.{CannotDeny, ClosesAs, CommandComes, FailsToKeep, HaltIsDue, Terms, UnlessStopped, entries_seen, terms}
 use Rattle.rv_attend.specs.Lasting.{GoesFor, Halts, State}
 use Rattle.rv_attend.specs.Rooming.{DeniesUnit, DoesDue}
@@ -36,7 +36,7 @@ use Rattle.rv_attend.specs.declared.room.Then.TheVariants.{End}
 use Rattle.rv_attend.specs.declared.waiting.Heard.{Heard}
 use Rattle.rv_attend.specs.declared.waiting.Heard.TheVariants.{Command}
 use Rattle.rv_attend.proofs.Attended.{grows_same}
-use Rattle.rv_attend.proofs.Chores.{chores_on, no_chores}
+use Rattle.rv_attend.proofs.Chores.{chores_in_on, no_chores_in}
 
 -- The room
 
@@ -50,7 +50,7 @@ cannot_by asked capacity quota place v w answer then' some denies ends is = reco
   quota = quota;
   is_quota = some;
   before = v;
-  chores = no_chores v v refl;
+  chores = no_chores_in asked.lasting v v refl;
   place = place;
   answer = answer;
   denies = denies;
@@ -61,13 +61,13 @@ cannot_by asked capacity quota place v w answer then' some denies ends is = reco
 pub denies_none : (v : Passing) (place : ℕ) → DoesDue (Deny place) v v
 denies_none v place = (Ok OutOfMemory, inr (refl, refl))
 
-pub halt_after : (terms : Terms) (used : ℕ) (v u w : Passing) → Chores v u → HaltIsDue terms used u w → HaltIsDue terms used v w
+pub halt_after : (terms : Terms) (used : ℕ) (v u w : Passing) → ChoresIn terms.asked.lasting v u → HaltIsDue terms used u w → HaltIsDue terms used v w
 halt_after terms used v u w first (inl low) = inl low
 halt_after terms used v u w first (inr cannot) = inr record {
   quota = cannot.quota;
   is_quota = cannot.is_quota;
   before = cannot.before;
-  chores = chores_on v u cannot.before first cannot.chores;
+  chores = chores_in_on terms.asked.lasting v u cannot.before first cannot.chores;
   place = cannot.place;
   answer = cannot.answer;
   denies = cannot.denies;
@@ -128,7 +128,7 @@ comes_by heard heard' old new Nothing found hears told is = by_word (told is)
 
 -- The run goes on, or ends
 
-pub goes_after : (s u t : State) (input : Reading) (heard : List Piece) (told : Option (List Piece)) (goes : Goes) → Chores s.staff.control u.staff.control
+pub goes_after : (s u t : State) (input : Reading) (heard : List Piece) (told : Option (List Piece)) (goes : Goes) → ChoresIn t.terms.asked.lasting s.staff.control u.staff.control
     → GoesFor u t input heard told goes → GoesFor s t input heard told goes
 goes_after s u t input heard told On first comes = comes
 goes_after s u t input heard told Out first (inl due) = inl (halt_after t.terms (t.next - 1) s.staff.control u.staff.control t.staff.control first due)
@@ -171,7 +171,7 @@ leaves_out Why (Ok goes) result out is why = subst (λ (r : Result Goes KeptFail
 leaves_out Why (Err failure) result out is why = subst (λ (r : Result Goes KeptFailure). IfOk r Why) (sym is) tt
 
 -- behind chores that are done once a command has come
-pub caught_up : (s u t : State) (input : Reading) (heard heard' : List Piece) (told : Option (List Piece)) (goes : Goes) → Chores s.staff.control u.staff.control
+pub caught_up : (s u t : State) (input : Reading) (heard heard' : List Piece) (told : Option (List Piece)) (goes : Goes) → ChoresIn t.terms.asked.lasting s.staff.control u.staff.control
     → heard' ≡ heard → CommandComes heard input → (goes ≡ Out → Halts u t) → GoesFor s t input heard' told goes
 caught_up s u t input heard heard' told On first same comes halts = subst (λ (h : List Piece). CommandComes h input) (sym same) comes
 caught_up s u t input heard heard' told Out first same comes halts =

@@ -8,3 +8,5 @@ pub mod Served
 pub mod Ended
 pub mod GoingOn
 pub mod Unread
+pub mod Beginning
+pub mod Owing

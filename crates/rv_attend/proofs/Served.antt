@@ -1,7 +1,7 @@
 -- Without a console the lines of what came are served as commands, each behind what was due.
 use Rattle.std.proofs.Common.{◌≡◌, ◌∙◌, ℕ, arith, zero, suc, Bool, true, false, List, [], Option, Some, None, Ok, Err, inl, inr, refl, sym, ap, subst, le_of_lt}
 use Rattle.std.specs.Prelude.{◌⊎◌, IfNone, IfOk, Result}
-use Rattle.rv_crew.specs.Teams.{Team}
+use Rattle.rv_staff.specs.Staffs.{Workers}
 use Rattle.rv_feed.specs.Hearing.{HearsOn, IsStopped}
 use Rattle.rv_follow.specs.Following.{IsKept}
 use Rattle.rv_follow.proofs.Reading.{kept_later}
@@ -17,7 +17,7 @@ use Rattle.rv_run.specs.Staging.{Comes, Outcome, Stage}
 use Rattle.rv_run.specs.declared.command.Goes.{Goes}
 use Rattle.rv_run.specs.declared.command.Goes.TheVariants.{On, Out}
 use Rattle.rv_run.specs.declared.outputs.KeptFailure.{KeptFailure}
-use Rattle.rv_attend.specs.Attending.{AttendedAll, AttendedBy, AttendedIf, AttendedOne, AttendedUpTo, EndsFor, EndsOut, GoesAttended, Point, ServesBehind, ServesHeard}
+use Rattle.rv_attend.specs.Attending.{AttendedAll, AttendedBy, AttendedIf, AttendedOne, AttendedUpTo, Attends, EndsFor, EndsOut, GoesAttended, Point, ServesBehind, ServesHeard}
 use Rattle.rv_attend.specs.Going.{CommandComes, HaltIsDue, Terms, entries_seen}
 use Rattle.rv_attend.specs.Holding.{Holding, IsPlain, attended, point_of, state_of}
 use Rattle.rv_attend.specs.KeepingRuns.{Stands}
@@ -34,7 +34,7 @@ use Rattle.rv_attend.proofs.Unread.{next_none}
 only_asked : (s t : Stage) → t.staff.crew ≡ s.staff.crew → t.written ≡ s.written → t.input ≡ s.input → t.left ≡ s.left
     → t ≡ record s { staff = record s.staff { control = t.staff.control } }
 only_asked s t crew written input left =
-    ap (λ (c : Team). record t { staff = record t.staff { crew = c } }) crew
+    ap (λ (c : Workers). record t { staff = record t.staff { crew = c } }) crew
     ∙ ap (λ (w : Known). record { staff = record s.staff { control = t.staff.control }; written = w; input = t.input; left = t.left }) written
     ∙ ap (λ (r : Reading). record { staff = record s.staff { control = t.staff.control }; written = s.written; input = r; left = t.left }) input
     ∙ ap (λ (l : Known). record { staff = record s.staff { control = t.staff.control }; written = s.written; input = s.input; left = l }) left
@@ -166,7 +166,7 @@ one holds terms opened m n result is serves =
     let attends = tends.attends (is_plain holds terms opened m is) in
     record {
       between = point_of holds serves.between;
-      attended = attends;
+      attended = subst (λ (t : Terms). Attends t.asked.lasting m.stage serves.between.stage) is.same attends;
       served = if_on holds terms opened m serves.between n serves.tended result (ap (λ (t : Terms). t.asked.console) same ∙ is.plain) same
           (attends.left ∙ is.unread) tends.hears tends.goes (tends.tends.0 opened is.kept) serves.serves;
     }

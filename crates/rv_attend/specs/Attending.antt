@@ -9,7 +9,7 @@ use Rattle.rv_port.specs.Traces.{Passing}
 use Rattle.rv_staff.specs.Giving.{Starts}
 use Rattle.rv_staff.specs.Saying.{Known}
 use Rattle.rv_staff.specs.Staffs.{Staffed}
-use Rattle.rv_attend.specs.Chores.{Chores}
+use Rattle.rv_attend.specs.Chores.{Chores, ChoresIn}
 use Rattle.rv_attend.specs.Going.{CommandComes, HaltIsDue, Terms, entries_seen}
 use Rattle.rv_run.specs.Beside.{Ended, IsOfRun}
 use Rattle.rv_run.specs.Finishing.{Served}
@@ -29,8 +29,8 @@ abbrev pub Grows : Reading → Reading → Type 0
 Grows old new = (more : List ℕ) × (new ≡ record old { ahead = old.ahead ++ more })
 
 -- Between two commands chores are done, no thread comes or goes, more of the input may come, and what was written is handed on.
-pub record Attends (s t : Stage) : Type 0 where
-  pub chores : Chores s.staff.control t.staff.control
+pub record Attends (lasting : Bool) (s t : Stage) : Type 0 where
+  pub chores : ChoresIn lasting s.staff.control t.staff.control
   pub crew : t.staff.crew ≡ s.staff.crew
   pub heard : Grows s.input t.input
   pub written : Keeps s.written t.written
@@ -76,7 +76,7 @@ EndsFor terms first last (Err failure) = Unit {0}
 -- The run is attended, and then either the next command is carried out, or the run doesn't go on.
 pub record AttendedOne (terms : Terms) (first last : Point) (result : Result Goes KeptFailure) : Type 0 where
   pub between : Point
-  pub attended : Attends first.stage between.stage
+  pub attended : Attends terms.asked.lasting first.stage between.stage
   pub served : ServesHeard first between last result ⊎ ((last ≡ between) × EndsFor terms first between result)
 
 -- the first so many commands, behind each of which the run goes on

@@ -16,7 +16,7 @@ use Rattle.rv_run.specs.declared.outputs.KeptFailure.{KeptFailure}
 use Rattle.rv_run.specs.declared.outputs.KeptFailure.TheVariants.{Run, File}
 use Rattle.rv_tally.specs.Denying.{ends_run}
 use Rattle.rv_tally.specs.Guarding.{is_below}
-use Rattle.rv_attend.specs.Chores.{Chores}
+use Rattle.rv_attend.specs.Chores.{ChoresIn}
 use Rattle.rv_attend.specs.Rooming.{DeniesUnit}
 use Rattle.rv_attend.specs.declared.attention.Attention.{Attention}
 
@@ -50,7 +50,7 @@ pub record CannotDeny (terms : Terms) (v w : Passing) : Type 0 where
   pub quota : ℕ
   pub is_quota : terms.asked.quota ≡ Some quota
   pub before : Passing
-  pub chores : Chores v before
+  pub chores : ChoresIn terms.asked.lasting v before
   pub place : ℕ
   pub answer : Answer
   pub denies : DeniesUnit before w place (Ok answer)

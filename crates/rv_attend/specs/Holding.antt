@@ -42,7 +42,7 @@ IsPlain h = h.terms.asked.console ≡ None
 -- until the next command comes
 pub record TendsTo {C : Type 0} (holds : C → Holding) (m n : Moment C) (result : Result Goes KeptFailure) : Type 0 where
   pub tends : Tends (state_of holds m) (state_of holds n) result
-  pub attends : IsPlain (holds m.chores) → Attends m.stage n.stage
+  pub attends : IsPlain (holds m.chores) → Attends (holds m.chores).terms.asked.lasting m.stage n.stage
   pub hears : IfOk result (λ goes. HearsOn (holds m.chores).heard (holds n.chores).heard m.stage.input n.stage.input)
   pub goes : IfOk result (GoesFor (state_of holds m) (state_of holds n) n.stage.input (holds n.chores).heard (holds n.chores).told)
 

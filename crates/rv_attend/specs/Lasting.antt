@@ -6,7 +6,7 @@ use Rattle.rv_follow.specs.Following.{Later}
 use Rattle.rv_input.specs.Coming.{Reading}
 use Rattle.rv_keep.specs.Keeping.{Known}
 use Rattle.rv_staff.specs.Staffs.{Staffed}
-use Rattle.rv_attend.specs.Chores.{Chores}
+use Rattle.rv_attend.specs.Chores.{ChoresIn}
 use Rattle.rv_attend.specs.Going.{CommandComes, HaltIsDue, Terms, terms}
 use Rattle.rv_attend.specs.declared.follower.Follower.{Follower}
 use Rattle.rv_attend.specs.KeepingRuns.{KeepsOn}
@@ -37,7 +37,7 @@ Lasts s t result =
 -- The same, and no more is asked of the host than chores: no thread comes or goes.
 abbrev pub Tends : {X : Type 0} → State → State → Result X KeptFailure → Type 0
 Tends s t result =
-    KeepsOn s.file s.staff.control s.next t.file t.staff.control t.next result × Chores s.staff.control t.staff.control
+    KeepsOn s.file s.staff.control s.next t.file t.staff.control t.next result × ChoresIn s.terms.asked.lasting s.staff.control t.staff.control
     × (t.staff.crew ≡ s.staff.crew) × (t.terms ≡ s.terms)
 
 -- a halt is due, with the entries that were written

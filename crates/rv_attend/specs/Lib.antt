@@ -6,3 +6,4 @@ pub mod Attending
 pub mod KeepingRuns
 pub mod Lasting
 pub mod Holding
+pub mod Least

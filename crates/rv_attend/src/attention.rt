@@ -18,6 +18,8 @@ pub struct Attention {
     pub quota: Option<u32>,
     /// The room of the journal below which the run ends.
     pub halt_below: Option<u32>,
+    /// Whether the run lasts: entries are given up once the file has them, and at Full a port asks again.
+    pub lasting: bool,
     /// How many milliseconds the end of the run waits for threads, where that is bounded.
     pub grace: Option<u32>,
     /// Whether notes are told.

@@ -8,6 +8,7 @@ use crate::attention::{Attention, Typing};
 use crate::follower::Follower;
 use rv_console::{Word, word_of};
 use rv_fault::Failure;
+use rv_follow::Archive;
 use rv_run::command::{Goes, after};
 use rv_run::leaving::wrote;
 use rv_shell::Order;
@@ -56,6 +57,15 @@ fn echo<W: Write>(typing: Typing, line: &str, writer: &mut W) -> io::Result<()> 
     }
 }
 
+// The number of the first entry that wasn't given up.
+fn first_kept(asked: &Attention, archive: &Archive) -> usize {
+    if asked.lasting {
+        archive.given_up.saturating_add(1)
+    } else {
+        1
+    }
+}
+
 // Answers a word of the console.
 #[tactic(auto, using(crate::proofs::Growing::looks_later))]
 fn show<T: Wait, W: Write, F>(
@@ -71,6 +81,8 @@ fn show<T: Wait, W: Write, F>(
     ensures room { follower.new.room ≡ follower.old.room }
     ensures source { follower.new.source ≡ follower.old.source }
 {
+    let first = first_kept(&follower.asked, &follower.archive);
+    follower.console.skip_to(first);
     let tally = &follower.room.tally;
     let shown = session
         .staff

@@ -10,6 +10,7 @@ use crossbeam_channel::Receiver;
 use rv_console::Console;
 use rv_crew::notice::Notice;
 use rv_feed::Listening;
+use rv_follow::Archive;
 use rv_keep::Keeper;
 use rv_pace::Pace;
 use rv_run::serving::MOST_COMMANDS;
@@ -33,6 +34,10 @@ pub struct Follower<'a, T, F> {
     pub grace: Option<Grace>,
     // How many threads were given up at its end.
     pub(crate) abandoned: usize,
+    // What was given up of its journal, where the run lasts.
+    pub(crate) archive: Archive,
+    // How many units there were at the last look.
+    pub(crate) units: usize,
     // The ticks that a real clock makes due, once it is looked at.
     pub(crate) pace: Option<Pace>,
     pub(crate) room: Room,
@@ -69,6 +74,8 @@ impl<'a, T, F> Follower<'a, T, F> {
             outsiders: Vec::new(alloc),
             grace: None,
             abandoned: 0,
+            archive: Archive::new(0),
+            units: 0,
             pace: None,
             room: Room::new(alloc, &asked),
             console: Console::new(alloc, asked.columns),

@@ -3,6 +3,7 @@
 #![tactic(auto)]
 
 mod advising;
+mod archiving;
 mod attention;
 mod beside;
 mod closing;
@@ -12,6 +13,7 @@ mod ending;
 mod explaining;
 mod follower;
 mod kept;
+mod least;
 mod notes;
 mod outsiders;
 mod room;
@@ -22,6 +24,7 @@ mod ticking;
 mod viewing;
 mod waiting;
 
+pub use archiving::LASTING_BUDGET;
 pub use attention::{Attention, Typing};
 pub use follower::Follower;
 pub use kept::run_kept;

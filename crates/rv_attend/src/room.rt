@@ -71,16 +71,17 @@ impl Room {
             quota,
             halt_below,
             tells,
+            lasting,
             ..
         } = *asked;
         Room {
             alloc,
             tally: Tally::new(),
             // The host itself keeps the quota: what would be past it is answered Full.
-            guard: Guard::new(None, halt_below, tells),
+            guard: Guard::new(None, halt_below, tells && !lasting),
             capacity: 0,
             tells,
-            is_watched: quota.is_some() || halt_below.is_some() || tells,
+            is_watched: quota.is_some() || halt_below.is_some() || (tells && !lasting),
             units: 0,
             looked: None,
             has_ended: false,

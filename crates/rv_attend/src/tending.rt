@@ -78,7 +78,7 @@ pub(crate) fn attend<T: Wait + Clock, W: Write, E: Write, F: Write>(
     ensures tends { Tends (standing F.contents session.old.staff follower.old)
         (standing F.contents session.new.staff follower.new) result }
     ensures attends { (left : Known) → follower.old.asked.console ≡ None
-        → Attends (stage session.old.staff (W.contents outputs.old.writer) input.old left) (stage session.new.staff (W.contents outputs.new.writer) input.new left) }
+        → Attends follower.old.asked.lasting (stage session.old.staff (W.contents outputs.old.writer) input.old left) (stage session.new.staff (W.contents outputs.new.writer) input.new left) }
     ensures hears { IfOk result (λ _. HearsOn (heard follower.old.source.feed) (heard follower.new.source.feed) input.old input.new) }
     ensures goes { IfOk result (GoesFor (standing F.contents session.old.staff follower.old)
         (standing F.contents session.new.staff follower.new) input.new (heard follower.new.source.feed) (told follower.new.source.stop)) }

@@ -3,10 +3,12 @@
 ghost use Rattle.std.specs.Prelude.{◌≡◌, ◌≤◌, None, option_map};
 ghost use Rattle.std.specs.Time.{instant_nanos};
 ghost use Rattle.rv_attend.specs.Chores.{Chores};
-ghost use Rattle.rv_attend.specs.Ticking.{AsksOf, Begins, KeepsPace, Ticks};
+ghost use Rattle.rv_attend.specs.Ticking.{AsksOf, AsksRoom, Begins, KeepsPace, KeepsPaceOnce, Ticks, TicksOnce, had_room};
 
+use rv_event::entry::Answer;
 use rv_pace::Pace;
 use rv_staff::Staff;
+use rv_turn::Worn;
 use std::sync::Wait;
 use std::time::{Clock, Duration, Instant};
 
@@ -70,6 +72,60 @@ pub(crate) fn keep_pace<T: Wait>(
     };
     match pace {
         Some(pace) => tick(rt, staff, pace, now),
+        None => *pace = begun(period, now),
+    }
+}
+
+// Whether there was room for what was answered so.
+fn had_room(answer: &Result<Answer, Worn>) -> bool
+    ensures { result ≡ had_room answer.now }
+{
+    !matches!(answer, Ok(Answer::Full))
+}
+
+// Asks so many ticks. Whether there was room for them.
+fn ask_room<T: Wait>(rt: &T, staff: &mut Staff, ticks: u64) -> bool
+    requires { ticks ≤ 1_000_000 }
+    ensures asks { AsksRoom ticks result staff.old.control staff.new.control }
+    ensures crew { staff.new.crew ≡ staff.old.crew }
+{
+    let answer = staff.tick(rt, ticks as i64);
+    had_room(&answer)
+}
+
+// Asks the ticks that are due at a moment, at most 1,000,000. Those that there is no room for now stay due.
+#[tactic(auto, using(crate::proofs::Ticked::once_none, crate::proofs::Ticked::once_asked, crate::proofs::Ticked::once_full))]
+fn tick_once<T: Wait>(rt: &T, staff: &mut Staff, pace: &mut Pace, now: Instant)
+    ensures ticks { TicksOnce staff.old.control staff.new.control pace.old pace.new (instant_nanos now) }
+    ensures crew { staff.new.crew ≡ staff.old.crew }
+{
+    let ticks = pace.step(now);
+    if ticks == 0 {
+        return;
+    }
+    if ask_room(rt, staff, ticks) {
+        return;
+    }
+    pace.give_back(ticks);
+}
+
+/// The same where the run lasts: at a reading at most 1,000,000 ticks are asked, and those that there is no room for now stay due.
+pub(crate) fn keep_pace_lasting<T: Wait>(
+    rt: &T,
+    staff: &mut Staff,
+    period: Option<u64>,
+    reading: Option<Instant>,
+    pace: &mut Option<Pace>,
+)
+    ensures ticks { KeepsPaceOnce staff.old.control staff.new.control period (option_map instant_nanos reading) pace.old pace.new }
+    ensures chores { Chores staff.old.control staff.new.control }
+    ensures crew { staff.new.crew ≡ staff.old.crew }
+{
+    let Some(now) = reading else {
+        return;
+    };
+    match pace {
+        Some(pace) => tick_once(rt, staff, pace, now),
         None => *pace = begun(period, now),
     }
 }

@@ -10,7 +10,7 @@ ghost use Rattle.rv_feed.specs.declared.feed.Came.TheVariants.{Over};
 ghost use Rattle.rv_input.specs.Whole.{HasCommand};
 ghost use Rattle.rv_run.specs.declared.command.Goes.TheVariants.{Out};
 
-use crate::attention::Typing;
+use crate::attention::{Attention, Typing};
 use crate::due::{do_chores, do_round};
 use crate::follower::Follower;
 use crate::ticking::until_tick;
@@ -241,8 +241,13 @@ pub(crate) fn wait_command<T: Wait + Clock, E: Write, F: Write>(
     unreachable!()
 }
 
+// Whether what is due is done once a command has come, too.
+fn is_caught_up(asked: &Attention) -> bool {
+    asked.console.is_some() || asked.lasting
+}
+
 /// Waits until the next command has come, or none comes any more. At a console what is due is done behind that too: so it tells of
-/// entries that came while nobody typed.
+/// entries that came while nobody typed. So it is where the run lasts: so there is room for the command.
 pub(crate) fn wait_caught_up<T: Wait + Clock, E: Write, F: Write>(
     rt: &T,
     session: &mut Session,
@@ -258,7 +263,7 @@ pub(crate) fn wait_caught_up<T: Wait + Clock, E: Write, F: Write>(
         (standing F.contents session.new.staff follower.new) input.new (heard follower.new.source.feed) (told follower.new.source.stop)) }
 {
     match wait_command(rt, session, follower, input, errors) {
-        Ok(Goes::On) if follower.asked.console.is_some() => {
+        Ok(Goes::On) if is_caught_up(&follower.asked) => {
             match do_chores(rt, session, follower, errors) {
                 Ok(round) => Ok(round.goes),
                 Err(failure) => Err(failure),

@@ -1,2 +1,3 @@
 mod Adding
 mod Choosing
+pub mod RunPicked

@@ -1,6 +1,6 @@
 -- The command line (own): `play`, which may be given `--all`, `check`, which may be given `--script`, and `run`, which may be
 -- given `--journal FILE` and, with it, `--sync HOW`, `--halt-below N`, `--quota N`, `--tick MS`, `--stop-by PIPE`, `--console`,
--- `--end-status`, `--sections-end` and, once or more, `--actor TASK=IN,OUT`, all three with `--no-explain` and `--warnings-are-errors`; and `audit`, which
+-- `--end-status`, `--sections-end`, `--lasting` and, once or more, `--actor TASK=IN,OUT`, all three with `--no-explain` and `--warnings-are-errors`; and `audit`, which
 -- may be given `--journal FILE` and, with it, `--torn`. Each may be given `--explain`, `--notes WHEN`, `--color WHEN` and the FILE of
 -- its script.
 -- Beside them `manual`, which may be given the name of one of them. What words come to is what `clap` says of this command.
@@ -104,9 +104,13 @@ many_rule name = record (new_rule name) { long = Some name; action = Some Append
 abbrev pub hurried : App
 hurried = with_rule ending (value_rule (codes "grace"))
 
+-- whose journal may go on without end
+abbrev pub lasting : App
+lasting = with_rule hurried (flag_rule (codes "lasting"))
+
 -- of which tasks may belong to other processes
 abbrev pub acting : App
-acting = with_rule hurried (many_rule (codes "actor"))
+acting = with_rule lasting (many_rule (codes "actor"))
 
 abbrev pub running : App
 running = with_file (with_color (with_notes acting))
@@ -257,8 +261,8 @@ most_entries = 1048576
 
 -- What a run does beside its commands: the file that its journal is kept in, the milliseconds between two ticks, the room of the
 -- journal below which it ends, how many entries each unit may spend, the pipe whose end ends it, whether it has a console,
--- whether its status says that it ended by itself, whether nothing starts without a line `@run`, and the milliseconds that its end
--- waits for threads.
+-- whether its status says that it ended by itself, whether nothing starts without a line `@run`, the milliseconds that its end
+-- waits for threads, and whether its journal goes on without end.
 pub record RunWords : Type 0 where
   pub kept : Option (Text × Sync)
   pub tick : Option ℕ
@@ -269,6 +273,7 @@ pub record RunWords : Type 0 where
   pub tells_end : Bool
   pub wants_run : Bool
   pub grace : Option ℕ
+  pub lasting : Bool
 
 -- the same, of the program's own
 abbrev pub words_of : GivenWords → RunWords
@@ -282,6 +287,7 @@ words_of run = record {
   tells_end = run.tells_end;
   wants_run = run.wants_run;
   grace = run.grace;
+  lasting = run.lasting;
 }
 
 -- by what `run` is given
@@ -293,10 +299,11 @@ IsRun rows run =
     × IsFlag (one_of (codes "console") rows) run.console
     × IsFlag (one_of (codes "end-status") rows) run.tells_end × IsFlag (one_of (codes "sections-end") rows) run.wants_run
     × (number_of longest_period (first_of (codes "grace") rows) ≡ Some run.grace)
+    × IsFlag (one_of (codes "lasting") rows) run.lasting
 
 -- nothing of that
 abbrev pub no_run : RunWords
-no_run = record { kept = None; tick = None; halt_below = None; quota = None; stop = None; console = false; tells_end = false; wants_run = false; grace = None }
+no_run = record { kept = None; tick = None; halt_below = None; quota = None; stop = None; console = false; tells_end = false; wants_run = false; grace = None; lasting = false }
 
 -- nothing of that but how many entries each unit could spend, by what `audit` is given
 abbrev pub IsAllowing : List Row → RunWords → Type 0

@@ -127,6 +127,7 @@ pub fn with_quota(quota: Option<u32>) -> RunWords<'static>
         tells_end: false,
         wants_run: false,
         grace: None,
+        lasting: false,
     }
 }
 
@@ -165,5 +166,6 @@ pub fn run_words<'a>(words: &ArgMatches<'a>) -> Result<RunWords<'a>, Misuse<'a>>
         tells_end: has_flag(words, "end-status"),
         wants_run: has_flag(words, "sections-end"),
         grace,
+        lasting: has_flag(words, "lasting"),
     })
 }

@@ -3,7 +3,7 @@
 ghost use Rattle.std.specs.Prelude.{◌≡◌, false, IfOk};
 ghost use Rattle.clap.specs.Words.{app_of};
 ghost use Rattle.clap.specs.declared.builder.command.Command.TheViews.{out-Command as fields_of};
-ghost use Rattle.rv_choice.specs.Choices.{acting, attending, consoled, ending, guarding, hurried, keeping, running};
+ghost use Rattle.rv_choice.specs.Choices.{acting, attending, consoled, ending, guarding, hurried, keeping, lasting, running};
 
 use crate::args::{
     coloured, explained, file_arg, flag, noted, sync_arg, with_file, with_value, with_values,
@@ -116,6 +116,20 @@ fn hurried_subcommand<'a>(alloc: Global) -> Result<Command<'a>, AllocError>
     )
 }
 
+// The same, whose journal may go on without end.
+fn lasting_subcommand<'a>(alloc: Global) -> Result<Command<'a>, AllocError>
+    ensures app { IfOk result (λ c. app_of c ≡ lasting) }
+    ensures local { IfOk result (λ c. (fields_of c).has_globals ≡ false) }
+{
+    let command = hurried_subcommand(alloc)?;
+    let lasting = flag(
+        alloc,
+        "lasting",
+        "With --journal: give the journal's entries up once the file has them, so that its room comes again, and the run goes on without end",
+    );
+    command.arg(lasting)
+}
+
 // The same, of which tasks may belong to other processes.
 fn acting_subcommand<'a>(alloc: Global) -> Result<Command<'a>, AllocError>
     ensures app { IfOk result (λ c. app_of c ≡ acting) }
@@ -123,7 +137,7 @@ fn acting_subcommand<'a>(alloc: Global) -> Result<Command<'a>, AllocError>
 {
     with_values(
         alloc,
-        hurried_subcommand(alloc)?,
+        lasting_subcommand(alloc)?,
         "actor",
         "TASK=IN,OUT",
         "Give the task, as Plant.Sensor, to a process, which writes requests to the pipe IN, and reads from OUT what they came to; repeatable",

@@ -70,13 +70,15 @@ pub struct RunWords<'a> {
     pub wants_run: bool,
     /// The milliseconds that its end waits for threads, where that is bounded.
     pub grace: Option<u32>,
+    /// Whether its journal goes on without end.
+    pub lasting: bool,
 }
 
 impl RunWords<'_> {
     /// Whether there is anything beside its commands.
     pub fn is_attended(&self) -> bool
         ensures { result ≡ (is_some self.now.kept || is_some self.now.tick || is_some self.now.halt_below || is_some self.now.quota
-            || is_some self.now.stop_by || self.now.console || self.now.tells_end || self.now.wants_run || is_some self.now.grace) }
+            || is_some self.now.stop_by || self.now.console || self.now.tells_end || self.now.wants_run || is_some self.now.grace || self.now.lasting) }
     {
         self.kept.is_some()
             || self.tick.is_some()
@@ -87,6 +89,7 @@ impl RunWords<'_> {
             || self.tells_end
             || self.wants_run
             || self.grace.is_some()
+            || self.lasting
     }
 }
 
@@ -126,4 +129,5 @@ pub const NO_RUN: RunWords<'static> = RunWords {
     tells_end: false,
     wants_run: false,
     grace: None,
+    lasting: false,
 };

@@ -1,6 +1,6 @@
 //! The console's side of a run.
 
-ghost use Rattle.std.specs.Prelude.{◌≡◌, IfErr, IfOk, List, ℕ, length, string_bytes, ◌<◌, ◌^◌};
+ghost use Rattle.std.specs.Prelude.{◌≡◌, IfErr, IfOk, List, ℕ, length, max, string_bytes, ◌<◌, ◌^◌};
 ghost use Rattle.rv_behind.specs.Acting.{Does};
 ghost use Rattle.rv_behind.specs.Events.{by, catalogue_of};
 ghost use Rattle.rv_behind.specs.declared.event.Ask.{Ask};
@@ -85,6 +85,13 @@ impl Console {
             next: 1,
             columns,
         }
+    }
+
+    /// From now on the next page begins with the entry of this number, or with a later one: those before it were given up.
+    pub fn skip_to(&mut self, first: usize)
+        ensures { self.new ≡ record self.old { next = max self.old.next first } }
+    {
+        self.next = self.next.max(first);
     }
 
     // Writes a text that there was memory for, cut to the columns.

@@ -6,13 +6,14 @@ ghost use Rattle.rv_crew.specs.Abandoning.{Abandons, PartsInto};
 ghost use Rattle.rv_crew.specs.Crews.{owed};
 
 use crate::crew::Crew;
+use crate::job::Duty;
 use crate::running::Running;
 use std::alloc::AllocError;
 use std::mem;
 
 // Parts threads into those whose jobs have ended, and the actors of the others.
 #[tactic(auto, using(crate::proofs::Parted::none, crate::proofs::Parted::stays, crate::proofs::Parted::goes))]
-fn part(mut threads: Vec<Running>, stay: &mut Vec<Running>, gone: &mut Vec<u64>)
+fn part<D: Duty>(mut threads: Vec<Running<D>>, stay: &mut Vec<Running<D>>, gone: &mut Vec<u64>)
     requires room { length threads.items + vec_len stay.old ≤ vec_capacity stay.old }
     requires names { length threads.items + vec_len gone.old ≤ vec_capacity gone.old }
     ensures parts { PartsInto (map owed threads.items) (map owed stay.old.items) gone.old.items (map owed stay.new.items) gone.new.items }
@@ -31,7 +32,7 @@ fn part(mut threads: Vec<Running>, stay: &mut Vec<Running>, gone: &mut Vec<u64>)
     }
 }
 
-impl Crew {
+impl<D: Duty> Crew<D> {
     /// Whether the job of each thread has ended, so that all are joined without waiting. No clause says so.
     pub fn has_ended(&self) -> bool {
         for thread in self.running.as_slice() {

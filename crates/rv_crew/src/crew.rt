@@ -1,12 +1,13 @@
 //! The crew: threads that were started, each with a job and a port, and what came of them.
 
-ghost use Rattle.std.specs.Prelude.{◌≡◌, ◌==◌, ◌+◌, ◌≤◌, [], false, map, reverse, length, vec_len, IfOk, IfErr, IfSome, OnOk, OnErr};
+ghost use Rattle.std.specs.Prelude.{◌≡◌, ◌==◌, ◌+◌, ◌++◌, ◌≤◌, [], false, map, reverse, length, vec_len, IfOk, IfErr, IfSome, OnOk, OnErr};
 ghost use Rattle.std.specs.Vec.{vec_capacity};
 ghost use Rattle.rv_crew.specs.Teams.{IsOfTurn, no_threads};
 ghost use Rattle.rv_turn.specs.Histories.{Each};
-ghost use Rattle.rv_crew.specs.Crews.{Keeps, Joins, IsStartFault, IsClosedBy, actor_of, mark_of, with_started, given_up, with_joined, owed};
+ghost use Rattle.rv_crew.specs.Crews.{Keeps, Joins, IsStartFault, IsClosedBy, actor_of, mark_of, with_started, given_up, with_joined, owed, owed_for};
 
-use crate::job::Job;
+use crate::job::{Duty, Job};
+use crate::kept::Kept;
 pub use crate::running::STACK_BYTES;
 use crate::running::{Ended, Running};
 use rv_host::host::Host;
@@ -29,11 +30,14 @@ pub enum StartFault {
     NoMemory(Job, Port),
 }
 
-/// The threads of a host. Contracts see which ports are out, which came back, and which are lost.
-pub struct Crew {
+/// The threads of a host. Contracts see which ports are out and what is owed for them, which came back with what duty done, and
+/// which are lost.
+pub struct Crew<D: Duty> {
     pub(crate) alloc: Global,
-    pub(crate) running: Vec<Running>,
+    pub(crate) running: Vec<Running<D>>,
     joined: Vec<Finished>,
+    // Of each of these, in the same order, what was owed for it.
+    paid: Vec<Kept<D>>,
     // The actors whose ports were lost, and what each of these ports had seen but those of threads that were given up.
     pub(crate) lost: Vec<u64>,
     notes: Vec<Note>,
@@ -43,28 +47,31 @@ pub struct Crew {
     pub(crate) abandoned: usize,
 }
 
-impl Model for Crew {
+impl<D: Duty> Model for Crew<D> {
     ghost use Rattle.std.specs.Coded.{codes};
     ghost use Rattle.std.specs.Prelude.{map};
     ghost use Rattle.rv_behind.specs.contracts.event.Event as e;
-    ghost use Rattle.rv_crew.specs.Teams.{Team};
+    ghost use Rattle.rv_crew.specs.Teams.{EachTwo, Pays, Team};
 
-    ghost Value = { Team };
+    ghost Value = { Team D };
 
-    ghost coded = { Prim.hlevel (codes, e.the_row.coded) };
+    ghost coded = { Prim.hlevel (codes, e.the_row.coded, D.code) };
 
-    ghost use Rattle.rv_crew.specs.Crews.{owed};
+    ghost use Rattle.rv_crew.specs.Crews.{owed, owed_for};
 
-    ghost view = { λ c. record { running = map owed c.running.items; joined = c.joined.items; lost = c.lost.items; noted = c.notes.items; refuses = c.refuses; abandoned = c.abandoned } };
+    ghost view = { λ c. record { running = map owed c.running.items; joined = c.joined.items; paid = map owed_for c.paid.items; lost = c.lost.items; noted = c.notes.items; refuses = c.refuses; abandoned = c.abandoned } };
+
+    ghost invariant = { λ c. EachTwo (Pays D.does) (map owed_for c.paid.items) c.joined.items };
 }
 
-impl Drop for Crew {
+impl<D: Duty> Drop for Crew<D> {
     // A function of its own: a derived one is written out wherever a crew is let go, and proved there.
     fn drop(self) {
         let Crew {
             alloc: _,
             running: _,
             joined: _,
+            paid: _,
             lost: _,
             notes: _,
             refuses: _,
@@ -86,8 +93,8 @@ pub struct Closed {
 }
 
 /// A crew that wasn't closed for want of memory, with its control.
-pub struct StillOpen {
-    pub crew: Crew,
+pub struct StillOpen<D: Duty> {
+    pub crew: Crew<D>,
     pub control: Control,
 }
 
@@ -103,7 +110,7 @@ impl Drop for Closed {
     }
 }
 
-impl Drop for StillOpen {
+impl<D: Duty> Drop for StillOpen<D> {
     // A function of its own, as a crew's.
     fn drop(self) {
         let StillOpen {
@@ -113,14 +120,31 @@ impl Drop for StillOpen {
     }
 }
 
-// Waits for threads, the last first, and keeps what each gives.
+// The same threads, the last first.
+fn turned<D: Duty>(mut threads: Vec<Running<D>>) -> Vec<Running<D>>
+    ensures { result.items ≡ reverse threads.items }
+{
+    threads.as_mut_slice().reverse();
+    threads
+}
+
+// Waits for threads, the last first, and keeps what each gives, with what was owed for it.
 #[tactic(auto, using(crate::proofs::Joins::joins_none))]
-fn join_each<R: Threads>(rt: &R, mut waiting: Vec<Running>, joined: &mut Vec<Finished>)
-    requires { length waiting.items + vec_len joined.old ≤ vec_capacity joined.old }
-    ensures { Joins joined.old.items (map owed (reverse waiting.items)) joined.new.items }
+fn join_each<R: Threads, D: Duty>(
+    rt: &R,
+    mut waiting: Vec<Running<D>>,
+    joined: &mut Vec<Finished>,
+    paid: &mut Vec<Kept<D>>,
+)
+    requires room { length waiting.items + vec_len joined.old ≤ vec_capacity joined.old }
+    requires kept { length waiting.items + vec_len paid.old ≤ vec_capacity paid.old }
+    ensures joins { Joins D.does joined.old.items (map owed (reverse waiting.items)) joined.new.items }
+    ensures paid { map owed_for paid.new.items ≡ map owed_for paid.old.items ++ map owed (reverse waiting.items) }
 {
     while let Some(thread) = waiting.pop() {
-        joined.push_reserved(thread.join(rt));
+        let (finished, kept) = thread.join(rt);
+        joined.push_reserved(finished);
+        paid.push_reserved(kept);
     }
 }
 
@@ -160,15 +184,16 @@ fn keep_all(ports: &[Finished])
     }
 }
 
-impl Crew {
+impl<D: Duty> Crew<D> {
     /// A crew without threads.
-    pub fn new(alloc: Global) -> Crew
+    pub fn new(alloc: Global) -> Crew<D>
         ensures { result ≡ no_threads 0 }
     {
         Crew {
             alloc,
             running: Vec::new(alloc),
             joined: Vec::new(alloc),
+            paid: Vec::new(alloc),
             lost: Vec::new(alloc),
             notes: Vec::new(alloc),
             refuses: 0,
@@ -178,7 +203,7 @@ impl Crew {
 
     /// A crew without threads, for tests: the start with this number makes no thread, though one could be had. Starts count
     /// from 1, whether they make a thread or none, but not those that are out of memory; 0 refuses none.
-    pub fn refusing(alloc: Global, start: u64) -> Result<Crew, AllocError>
+    pub fn refusing(alloc: Global, start: u64) -> Result<Crew<D>, AllocError>
         ensures { IfOk result (λ crew. crew ≡ no_threads start) }
     {
         let mut lost = Vec::new(alloc);
@@ -187,6 +212,7 @@ impl Crew {
             alloc,
             running: Vec::new(alloc),
             joined: Vec::new(alloc),
+            paid: Vec::new(alloc),
             lost,
             notes: Vec::new(alloc),
             refuses: start,
@@ -194,10 +220,18 @@ impl Crew {
         })
     }
 
-    /// Starts a thread that runs the job on its port.
-    pub fn start<R: Threads>(&mut self, rt: &R, job: Job, port: Port) -> Result<(), StartFault>
-        requires { port ≡ job.port.value }
-        ensures ok { OnOk result (self.new ≡ with_started self.old port) }
+    /// Starts a thread that runs the job on its port, and so does this duty: the crew then has a thread that owes the port with the
+    /// duty done.
+    pub fn start<R: Threads>(
+        &mut self,
+        rt: &R,
+        job: Job,
+        duty: D,
+        port: Port,
+    ) -> Result<(), StartFault>
+        requires port { port ≡ job.port.value }
+        requires does { (f : _) → post job.run port f → D.does duty port f }
+        ensures ok { OnOk result (self.new ≡ with_started self.old port duty) }
         ensures allowed { OnOk result ((self.old.refuses == 1) ≡ false) }
         ensures err { IfErr result (λ fault. IsStartFault self.old job port self.new fault) }
     {
@@ -209,7 +243,7 @@ impl Crew {
         }
         // Room for what comes back, too: so no thread is left behind for want of memory when they are joined.
         let coming = self.running.len().saturating_add(1);
-        if self.joined.reserve(coming).is_err() {
+        if self.joined.reserve(coming).is_err() || self.paid.reserve(coming).is_err() {
             return Err(StartFault::NoMemory(job, port));
         }
         let Ok(ended) = Ended::new(self.alloc) else {
@@ -220,7 +254,7 @@ impl Crew {
         let note = port.note();
         let is_refused = self.refuses == 1;
         self.refuses = self.refuses.saturating_sub(1);
-        match Running::begin(rt, job, port, ended, is_refused) {
+        match Running::begin(rt, job, duty, port, ended, is_refused) {
             Some(thread) => {
                 self.running.push_reserved(thread);
                 Ok(())
@@ -248,17 +282,19 @@ impl Crew {
         Ok(())
     }
 
-    /// Waits until each thread that was started has ended, and keeps the ports that they give back.
+    /// Waits until each thread that was started has ended, and keeps the ports that they give back, each with its duty done.
     /// Where there is no memory for these it waits for none.
+    #[tactic(auto, using(crate::proofs::Joins::joined_pay))]
     pub fn join_all<R: Threads>(&mut self, rt: &R) -> Result<(), AllocError>
-        ensures ok { OnOk result (Joins self.old.joined self.old.running self.new.joined
+        ensures ok { OnOk result (Joins D.does self.old.joined self.old.running self.new.joined
             × (self.new ≡ with_joined self.old self.new.joined)) }
         ensures err { OnErr result (self.new ≡ self.old) }
     {
-        self.joined.reserve(self.running.len())?;
-        let mut waiting = mem::replace(&mut self.running, Vec::new(self.alloc));
-        waiting.as_mut_slice().reverse();
-        join_each(rt, waiting, &mut self.joined);
+        let count = self.running.len();
+        self.joined.reserve(count)?;
+        self.paid.reserve(count)?;
+        let waiting = mem::replace(&mut self.running, Vec::new(self.alloc));
+        join_each(rt, turned(waiting), &mut self.joined, &mut self.paid);
         Ok(())
     }
 
@@ -272,12 +308,12 @@ impl Crew {
 
     /// The host, whose journal has all that the control and the ports of this crew did, and the
     /// actors whose ports came back and were lost. Of a lost port it has what it did before. The ports
-    /// are of this control. Each end of a port that came back is what its text means, unless bodies
-    /// were refused to it. Where there is no memory, crew and control come back.
-    pub fn close<R: Wait>(self, rt: &R, control: Control) -> Result<Closed, StillOpen>
+    /// are of this control. Each end of a port that came back is what its text means, and what a task asked whose duty was its
+    /// text is what that text asks, unless bodies were refused to it. Where there is no memory, crew and control come back.
+    pub fn close<R: Wait>(self, rt: &R, control: Control) -> Result<Closed, StillOpen<D>>
         requires joined { self.running ≡ [] }
         requires turn { IsOfTurn control.turn self }
-        ensures ok { IfOk result (λ closed. IsClosedBy self control closed) }
+        ensures ok { IfOk result (λ closed. IsClosedBy D.does self control closed) }
         ensures err { IfErr result (λ still. (still.crew ≡ self) × (still.control ≡ control)) }
     {
         keep_all(self.joined.as_slice());
@@ -291,6 +327,7 @@ impl Crew {
             alloc,
             running,
             joined,
+            paid,
             lost,
             notes,
             refuses,
@@ -314,6 +351,7 @@ impl Crew {
                     alloc,
                     running,
                     joined,
+                    paid,
                     lost,
                     notes,
                     refuses,

@@ -4,7 +4,7 @@ ghost use Rattle.std.specs.Prelude.{◌≡◌};
 ghost use Rattle.rv_crew.specs.Hiring.{hired};
 
 use crate::crew::{Crew, StartFault};
-use crate::job::Job;
+use crate::job::{Duty, Job};
 use rv_port::port::Port;
 use std::thread::Threads;
 
@@ -20,8 +20,8 @@ pub enum HireFault {
 }
 
 /// Gives up a port for whose thread memory was refused: its actor is lost.
-pub fn give_up(crew: &mut Crew, port: Port) -> Result<(), HireFault>
-    ensures { crew.new ≡ hired crew.old port result }
+pub fn give_up<D: Duty>(crew: &mut Crew<D>, port: Port) -> Result<(), HireFault>
+    ensures { (duty : D) → crew.new ≡ hired crew.old port duty result }
 {
     match crew.give_up(port) {
         Ok(()) => Err(HireFault::GivenUp),
@@ -29,12 +29,19 @@ pub fn give_up(crew: &mut Crew, port: Port) -> Result<(), HireFault>
     }
 }
 
-/// Starts the thread of a job; where that fails, job and port are let go, and the actor is lost.
-pub fn start<R: Threads>(rt: &R, crew: &mut Crew, job: Job, port: Port) -> Result<(), HireFault>
-    requires { port ≡ job.port.value }
-    ensures { crew.new ≡ hired crew.old port result }
+/// Starts the thread of a job, which does this duty; where that fails, job and port are let go, and the actor is lost.
+pub fn start<R: Threads, D: Duty>(
+    rt: &R,
+    crew: &mut Crew<D>,
+    job: Job,
+    duty: D,
+    port: Port,
+) -> Result<(), HireFault>
+    requires port { port ≡ job.port.value }
+    requires does { (f : _) → post job.run port f → D.does duty port f }
+    ensures { crew.new ≡ hired crew.old port duty result }
 {
-    match crew.start(rt, job, port) {
+    match crew.start(rt, job, duty, port) {
         Ok(()) => Ok(()),
         Err(StartFault::NoThread) => Err(HireFault::NoThread),
         Err(StartFault::NoMemory(_job, port)) => give_up(crew, port),

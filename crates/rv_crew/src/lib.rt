@@ -5,6 +5,7 @@ mod abandoning;
 pub mod crew;
 pub mod hiring;
 pub mod job;
+mod kept;
 pub mod laws;
 pub mod notice;
 mod running;

@@ -1,9 +1,10 @@
 //! A thread that runs a job on a port.
 
 ghost use Rattle.std.specs.Prelude.{◌≡◌, false, IfSome};
-ghost use Rattle.rv_crew.specs.Teams.{told_of};
+ghost use Rattle.rv_crew.specs.Teams.{Pays, owing};
 
-use crate::job::{Job, OfPort};
+use crate::job::{Duty, Job, OfPort};
+use crate::kept::Kept;
 use rv_port::port::{Finished, Port};
 use std::alloc::{AllocError, Global};
 use std::sync::Arc;
@@ -42,37 +43,43 @@ impl Ended {
 }
 
 /// A thread that was started, and isn't joined yet.
-pub(crate) struct Running {
-    thread: PromisedHandle<Finished, OfPort>,
+pub(crate) struct Running<D: Duty> {
+    thread: PromisedHandle<Finished, OfPort<D>>,
     /// Whose port it has.
     pub actor: u64,
     // Whether its job has ended.
     has_ended: Arc<Mark>,
-    ghost same: { actor ≡ thread.promise.0.value.actor },
+    // What it owes.
+    kept: Kept<D>,
+    ghost same: { (actor ≡ thread.promise.0.value.actor) × (kept.port.value ≡ thread.promise.0.value) × (kept.duty ≡ thread.promise.1.value) },
 }
 
-impl Drop for Running {
+impl<D: Duty> Drop for Running<D> {
     // A function of its own: a derived one is written out wherever a crew is let go, and proved there. The thread runs on.
     fn drop(self) {
         let Running {
             thread: _,
             actor: _,
             has_ended: _,
+            kept: _,
         } = self;
     }
 }
 
-impl Running {
-    /// Runs a job on a port in a thread of its own. None where that is refused, or there is no thread.
+impl<D: Duty> Running<D> {
+    /// Runs a job on a port in a thread of its own, which owes the port with the job's duty done. None where that is refused, or
+    /// there is no thread.
     pub fn begin<R: Threads>(
         rt: &R,
         job: Job,
+        duty: D,
         port: Port,
         ended: Ended,
         is_refused: bool,
-    ) -> Option<Running>
-        requires { port ≡ job.port.value }
-        ensures { IfSome result (λ r. (r.thread.promise.0.value ≡ port) × (is_refused ≡ false)) }
+    ) -> Option<Running<D>>
+        requires port { port ≡ job.port.value }
+        requires does { (f : _) → post job.run port f → D.does duty port f }
+        ensures { IfSome result (λ r. (owing r.thread.promise.0.value r.thread.promise.1.value ≡ owing port duty) × (is_refused ≡ false)) }
     {
         if is_refused {
             return None;
@@ -80,7 +87,8 @@ impl Running {
         let actor = port.actor();
         let Ended { told, seen } = ended;
         let Job { port: _, run } = job;
-        let promise = OfPort::of(&port);
+        let promise = OfPort::of(&port, &duty);
+        let kept = Kept::of(&port, duty);
         let begun = Builder::new().stack_size(STACK_BYTES).spawn_with(
             rt,
             promise,
@@ -98,6 +106,7 @@ impl Running {
                 thread,
                 actor,
                 has_ended: seen,
+                kept,
             }),
             Err(_) => None,
         }
@@ -108,15 +117,17 @@ impl Running {
         self.has_ended.is_set.load(Ordering::Acquire)
     }
 
-    /// Waits until its job has ended, for the port that it gives back.
-    pub fn join<R: Threads>(self, rt: &R) -> Finished
-        ensures { told_of result ≡ told_of self.thread.promise.0.value }
+    /// Waits until its job has ended, for the port that it gives back, with what was owed for it.
+    pub fn join<R: Threads>(self, rt: &R) -> (Finished, Kept<D>)
+        ensures pays { Pays D.does (owing self.thread.promise.0.value self.thread.promise.1.value) result.0 }
+        ensures kept { owing result.1.port.value result.1.duty ≡ owing self.thread.promise.0.value self.thread.promise.1.value }
     {
         let Running {
             thread,
             actor: _,
             has_ended: _,
+            kept,
         } = self;
-        thread.join(rt)
+        (thread.join(rt), kept)
     }
 }

@@ -1,6 +1,7 @@
 //! What jobs do: plain functions, each of which takes a port and gives it back done.
 
-ghost use Rattle.std.specs.Prelude.{◌≡◌, ℕ};
+ghost use Rattle.std.specs.Iterator.{Drains, IsFinite};
+ghost use Rattle.std.specs.Prelude.{◌≡◌, ℕ, List, length};
 ghost use Rattle.rv_port.specs.Endings.{TextEnded};
 ghost use Rattle.rv_port.specs.Following.{FollowsUnless};
 ghost use Rattle.rv_port.specs.Ports.{Porting, pass_of, IsExplained};
@@ -10,7 +11,8 @@ ghost use Rattle.rv_port.specs.Texts.{LeavesText, TextRan};
 ghost use Rattle.rv_crew.specs.Tasks.{Calls, Fires, goes_on};
 
 use crate::notice::{Notice, notify};
-use crossbeam_channel::{Receiver, Sender};
+use crossbeam_channel::Sender;
+use rv_port::budget::Budget;
 use rv_port::ended::Ending;
 use rv_port::port::{Finished, Port};
 use rv_port::reached::Reached;
@@ -41,7 +43,7 @@ fn make_calls<R: Wait>(rt: &R, port: &mut Port, object: usize, operation: usize,
 
 /// The job of a task with a text: it runs the text to its end (9.2, 9.3), with so many requests of
 /// its own, and finishes. What its actor asked is then what the text asks. It gives how the text ended.
-pub fn text_task<R: Wait>(rt: &R, mut port: Port, budget: u32) -> (Finished, Ending)
+pub fn text_task<R: Wait>(rt: &R, mut port: Port, budget: Budget) -> (Finished, Ending)
     ensures ran { (exit : Exit) × (done : Porting) × TextRan (pass_of port) port.refused budget exit (pass_of done) done.refused × LeavesText done.refused (pass_of done) (pass_of result.0) × (result.0.refused ≡ done.refused) }
     ensures ended { (exit : Exit) × (done : Porting) × TextEnded (pass_of port) port.refused budget exit result.1 (pass_of done) done.refused × LeavesText done.refused (pass_of done) (pass_of result.0) }
     ensures stays { Stays (pass_of port) (pass_of result.0) }
@@ -56,7 +58,7 @@ pub fn text_task<R: Wait>(rt: &R, mut port: Port, budget: u32) -> (Finished, End
 pub fn noticed_text_task<R: Wait>(
     rt: &R,
     port: Port,
-    budget: u32,
+    budget: Budget,
     notices: &Option<Sender<Notice>>,
 ) -> Finished
     ensures ran { (exit : Exit) × (done : Porting) × TextRan (pass_of port) port.refused budget exit (pass_of done) done.refused × LeavesText done.refused (pass_of done) (pass_of result) × (result.refused ≡ done.refused) }
@@ -96,35 +98,40 @@ fn notify_raised<R: Wait>(rt: &R, notices: &Option<Sender<Notice>>, actor: u64, 
     }
 }
 
-// Fires for each number that comes, until no more can come.
-fn fire_each<R: Wait>(
+// Fires once for each number that comes, until no more can come.
+fn fire_each<R: Wait, I: Iterator<Item = u8> + Drop>(
     rt: &R,
     port: &mut Port,
-    receiver: &Receiver<u8>,
+    numbers: I,
     notices: &Option<Sender<Notice>>,
 )
-    ensures fires { (count : ℕ) × Fires count port.old port.new }
+    requires can { I.can_next numbers }
+    requires ends { IsFinite (I.remaining numbers) }
+    ensures fires { (received : List ℕ) × Drains I.next_gives numbers received × Fires (length received) port.old port.new }
     ensures stays { Stays (pass_of port.old) (pass_of port.new) }
 {
-    for _ in receiver.iter(rt) {
+    for _ in numbers {
         let actor = port.actor();
         let reached = port.fire(rt);
         notify_raised(rt, notices, actor, &reached);
     }
 }
 
-/// The job of a line: an interrupt for each line number that is received, until the channel closes
-/// (C.3). It notifies of each whose handler raised an exception.
-pub fn line_task<R: Wait>(
+/// The job of a line: an interrupt for each line number that is received, as many as come, until no more can come (C.3): with a
+/// channel, until it closes. It notifies of each whose handler raised an exception.
+pub fn line_task<R: Wait, I: Iterator<Item = u8> + Drop>(
     rt: &R,
     mut port: Port,
-    receiver: Receiver<u8>,
+    numbers: I,
     notices: Option<Sender<Notice>>,
 ) -> Finished
-    ensures fires { (count : ℕ) × (done : Porting) × Fires count port done × Quits (pass_of done) (pass_of result) × (result.refused ≡ done.refused) }
+    requires can { I.can_next numbers }
+    requires ends { IsFinite (I.remaining numbers) }
+    ensures fires { (received : List ℕ) × (done : Porting) × Drains I.next_gives numbers received × Fires (length received) port done
+        × Quits (pass_of done) (pass_of result) × (result.refused ≡ done.refused) }
     ensures stays { Stays (pass_of port) (pass_of result) }
     ensures explained { IsExplained result }
 {
-    fire_each(rt, &mut port, &receiver, &notices);
+    fire_each(rt, &mut port, numbers, &notices);
     port.finish(rt)
 }

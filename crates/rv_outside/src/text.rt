@@ -11,7 +11,7 @@ use rv_machine::stack::Stack;
 use rv_runs::ready::Ready;
 use rv_runs::run::run_task;
 
-/// Runs the text of an actor's task to its end (9.2, 9.3): its own body, which may make so many requests, 1 to 1,000,000, and
+/// Runs the text of an actor's task to its end (9.2, 9.3): its own body, which may make so many requests, and
 /// each body that starts for it, on a stack that has the memory for it, which it gives back. Its last request is Quit, where the
 /// task's mode allows it.
 pub fn run_text<R, O: Outward<R>>(

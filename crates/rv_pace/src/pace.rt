@@ -81,6 +81,14 @@ impl Pace {
         ticks
     }
 
+    /// So many ticks that were given out are due again: they weren't asked.
+    pub fn give_back(&mut self, ticks: u64)
+        requires { ticks ≤ self.old.asked }
+        ensures { self.new ≡ record self.old { asked = self.old.asked - ticks } }
+    {
+        self.asked -= ticks as u128;
+    }
+
     /// How long it is from a moment until the next ticks are due.
     pub fn pause(&self, now: Instant) -> Duration
         ensures { as_nanos result ≡ pause self.now (instant_nanos now) }

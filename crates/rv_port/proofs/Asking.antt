@@ -1,5 +1,5 @@
 -- One act of a pass as an ask of a port.
-use Rattle.std.proofs.Common.{◌≡◌, ◌⊎◌, ℕ, ◌+◌, ◌-◌, ◌<◌, ◌≤◌, true, false, List, [], ◌∷◌, ◌++◌, length, Option, Some, None, refl, sym, ap, ◌∙◌, subst, ⊎_elim, arith, append-nil, length-append}
+use Rattle.std.proofs.Common.{◌≡◌, ◌⊎◌, ℕ, ◌+◌, ◌-◌, ◌<◌, ◌≤◌, Bool, true, false, List, [], ◌∷◌, ◌++◌, length, Option, Some, None, refl, sym, ap, ◌∙◌, subst, ⊎_elim, arith, append-nil, length-append}
 use Rattle.rv_event.specs.Recorded.{recorded}
 use Rattle.rv_event.specs.declared.entry.Request.{Request}
 use Rattle.rv_event.specs.declared.entry.Answer.{Answer}
@@ -12,7 +12,8 @@ use Rattle.rv_turn.specs.Histories.{mine, StartsWith}
 use Rattle.rv_turn.specs.Passes.{Acted, IsWorn}
 use Rattle.rv_behind.specs.Events.{by, history_at, catalogue_of}
 use Rattle.rv_behind.specs.Acting.{entered, grown, Does, begun_by}
-use Rattle.rv_port.specs.Traces.{Passing, limits_in, told, IsTold, asks_on, noted, noted_if, EachInVain, InVain, WoreOut, Asked, Replied, RepliedOnce, Settled}
+use Rattle.rv_port.specs.Traces.{Passing, limits_in, told, IsTold, IsKnown, asked_again, asks_on, comes_again, noted, noted_if, EachInVain, InVain, WoreOut, Asked, Replied, RepliedOnce, Settled}
+use Rattle.rv_port.proofs.Lasting.{again_at, calm_of}
 use Rattle.std.specs.Prelude.{Result, Ok, Err, MatchResult}
 use Rattle.rv_turn.specs.declared.pass.Worn.{Worn}
 use Rattle.rv_exec.specs.Asking.{stands}
@@ -56,16 +57,16 @@ starts_entered : (word : Option Recorded) (a : ℕ) (q : Request) (log : List Ev
 starts_entered (Some w) a q log = (Asks a q w ∷ [], refl)
 starts_entered None a q log = starts_self log
 
-pub not_kept : (r : Answer) → asks_on r ≡ true → recorded r ≡ None
-not_kept (Answers.Started s) e = absurd (cc e)
-not_kept Answers.Queued e = absurd (cc e)
-not_kept (Answers.Refused rule line version) e = absurd (cc e)
-not_kept (Answers.Done n) e = absurd (cc e)
-not_kept Answers.Suspended e = absurd (cc e)
-not_kept Answers.Delayed e = absurd (cc e)
-not_kept (Answers.Woken s) e = absurd (cc e)
-not_kept (Answers.Accepted n) e = absurd (cc e)
-not_kept r e = refl
+pub not_kept : (limits : Limits) (log : List Event) (a : ℕ) (q : Request) (r : Answer) → comes_again limits log a q r ≡ true → recorded r ≡ None
+not_kept limits log a q (Answers.Started s) e = absurd (cc e)
+not_kept limits log a q Answers.Queued e = absurd (cc e)
+not_kept limits log a q (Answers.Refused rule line version) e = absurd (cc e)
+not_kept limits log a q (Answers.Done n) e = absurd (cc e)
+not_kept limits log a q Answers.Suspended e = absurd (cc e)
+not_kept limits log a q Answers.Delayed e = absurd (cc e)
+not_kept limits log a q (Answers.Woken s) e = absurd (cc e)
+not_kept limits log a q (Answers.Accepted n) e = absurd (cc e)
+not_kept limits log a q r e = refl
 
 -- asks in vain
 
@@ -94,10 +95,10 @@ in_vain_both v u w q p r = let sa : u.actor ≡ v.actor = ap (λ (k : Passing). 
     }
 
 -- an answer by which the request is made again
-pub in_vain_more : (v u w : Passing) (q : Request) (r : Answer) → InVain v q u → Asked u q r w → asks_on r ≡ true → InVain v q w
+pub in_vain_more : (v u w : Passing) (q : Request) (r : Answer) → InVain v q u → (x : Asked u q r w) → comes_again (limits_in u.about) x.at u.actor q r ≡ true → InVain v q w
 in_vain_more v u w q r p x e = in_vain_both v u w q p (one) where
   none : recorded r ≡ None
-  none = not_kept r e
+  none = not_kept (limits_in u.about) x.at u.actor q r e
 
   same_seen : w.seen ≡ x.at
   same_seen = x.seen_is ∙ ap (λ (b : Option Recorded). entered x.at u.actor q b) none
@@ -115,7 +116,7 @@ in_vain_more v u w q r p x e = in_vain_both v u w q p (one) where
   one = record {
     times = x.in_vain.times ++ x.at ∷ [];
     each = each_both (limits_in u.about) u.actor q u.seen x.before.seen w.seen x.in_vain.times (x.at ∷ []) x.in_vain.each
-        (x.later, x.legal, sym (ap asks_on x.due_is) ∙ e, same_seen);
+        (x.later, x.legal, sym (ap (comes_again (limits_in u.about) x.at u.actor q) x.due_is) ∙ e, same_seen);
     acts = omega (arith, act, acts, length-append x.in_vain.times (x.at ∷ []));
     same = x.same ∙ ap (λ (l : List Event). record u { seen = w.seen; own = l; left = w.left }) same_own;
   }
@@ -221,15 +222,19 @@ once_of {T} u w p r b lent sent done x is = subst (λ (z : Result T Worn). Match
 
 -- the request is made again
 pub vain_again : {T : Type 0} (v u w : Passing) (q p : Request) (r : Answer) (b : Begun) (lent : Option Lent) (sent : Result T Worn) (done : T) → InVain v q u → p ≡ q → MatchResult sent (λ _. RepliedOnce u p r b lent w) (λ _. IsWorn u w) → sent ≡ Ok done
-    → asks_on r ≡ true → InVain v q w
-vain_again v u w q p r b lent sent done before same x is e =
-    subst (λ (z : Request). InVain v z w) same (in_vain_more v u w p r (subst (λ (z : Request). InVain v z u) (sym same) before) (once_of u w p r b lent sent done x is).0.asked e)
+    → (lasting : Bool) → (lasting ≡ true → IsKnown u) → asked_again lasting r ≡ true → InVain v q w
+vain_again v u w q p r b lent sent done before same x is lasting known e =
+    let once : Asked u p r w = (once_of u w p r b lent sent done x is).0.asked in
+    subst (λ (z : Request). InVain v z w) same
+    (in_vain_more v u w p r (subst (λ (z : Request). InVain v z u) (sym same) before) once (again_at lasting u once.at p r known once.from e))
 
 -- the request isn't made again
 pub settled : {T : Type 0} (v u w : Passing) (q p : Request) (r : Answer) (b : Begun) (lent : Option Lent) (sent : Result T Worn) (done : T) → InVain v q u → p ≡ q → MatchResult sent (λ _. RepliedOnce u p r b lent w) (λ _. IsWorn u w) → sent ≡ Ok done
-    → asks_on r ≡ false → Settled v q r b lent w
-settled v u w q p r b lent sent done before same x is e =
-    (subst (λ (z : Request). Replied v z r b lent w) same (replied_after v u w p r b lent (subst (λ (z : Request). InVain v z u) (sym same) before) (once_of u w p r b lent sent done x is).0), e)
+    → (lasting : Bool) → asked_again lasting r ≡ false → Settled v q r b lent w
+settled v u w q p r b lent sent done before same x is lasting e = (
+  subst (λ (z : Request). Replied v z r b lent w) same (replied_after v u w p r b lent (subst (λ (z : Request). InVain v z u) (sym same) before) (once_of u w p r b lent sent done x is).0),
+  calm_of lasting r e,
+)
 
 -- the answer that was handed on
 pub sent_of : {T : Type 0} (v w : Passing) (q p : Request) (r : Answer) (b : Begun) (lent : Option Lent) (sent : Result T Worn) (done : T) → MatchResult sent (λ _. Settled v p r b lent w) (λ _. WoreOut v p w) → p ≡ q → sent ≡ Ok done

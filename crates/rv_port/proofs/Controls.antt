@@ -1,6 +1,6 @@
 -- What the calls of a control leave.
 use Rattle.std.proofs.Common.{◌≡◌, ℕ, Bool, true, false, eqb, List, [], ◌∷◌, ◌++◌, if◌then◌else◌, ap, sym, refl, ◌∙◌, ⊎_elim, inl, inr, map, length, arith, subst}
-use Rattle.std.specs.Prelude.{◌-◌, is_some, Option, Some, Result, Ok, Err, MatchResult}
+use Rattle.std.specs.Prelude.{◌-◌, is_some, IfErr, IfOk, Option, Some, Result, Ok, Err, MatchResult}
 use Rattle.rv_turn.specs.declared.pass.Worn.{Worn}
 use Rattle.atomic_table.specs.Seated.{TableId}
 use Rattle.rv_access.specs.Words.{Words}
@@ -25,7 +25,7 @@ use Rattle.rv_behind.proofs.Doing.{none_fit, none_numbered}
 use Rattle.rv_behind.proofs.Fitting.{stay_fit}
 use Rattle.rv_port.specs.Traces.{Passing}
 use Rattle.rv_fits.specs.Fits.{are_of}
-use Rattle.rv_port.specs.Controls.{AreKept, IsControl, ListsNothing, Told, LoadTold, BeginsWith, BringsIf, Brings, no_bodies_of, answer_in, lists_at, LoadsNothing}
+use Rattle.rv_port.specs.Controls.{AreKept, IsControl, IsLoadFault, ListsNothing, Told, LoadTold, BeginsWith, BringsIf, Brings, no_bodies_of, answer_in, answer_or_worn, lists_at, LoadsNothing}
 use Rattle.rv_behind.specs.declared.event.Ask.{Ask}
 use Rattle.rv_behind.specs.declared.event.Ask.TheVariants as Wants
 use Rattle.rv_behind.specs.declared.event.Reply.{Reply}
@@ -142,6 +142,17 @@ pub such_or_worn : (v w : Passing) (shape : Shape) (P Q : UnitBodies → Type 0)
     → MatchResult answer (λ r. LoadTold v shape P r w) (λ _. IsWorn v w) → MatchResult answer (λ r. LoadTold v shape Q r w) (λ _. IsWorn v w)
 such_or_worn v w shape P Q (Ok r) such t = load_such v w shape P Q r such t
 such_or_worn v w shape P Q (Err e) such t = t
+
+-- the answer to a load of a unit with its own bodies
+pub told_ok : (v w : Passing) (shape : Shape) (bodies : UnitBodies) (answer : Result Answer Worn) → MatchResult answer (λ r. LoadTold v shape (λ u. u ≡ bodies) r w) (λ _. IsWorn v w)
+    → IfOk (answer_or_worn answer) (λ r. LoadTold v shape (λ u. u ≡ bodies) r w)
+told_ok v w shape bodies (Ok r) t = t
+told_ok v w shape bodies (Err e) t = tt
+
+pub told_fault : (v w : Passing) (shape : Shape) (bodies : UnitBodies) (answer : Result Answer Worn) → MatchResult answer (λ r. LoadTold v shape (λ u. u ≡ bodies) r w) (λ _. IsWorn v w)
+    → IfErr (answer_or_worn answer) (λ fault. IsLoadFault v shape bodies fault w)
+told_fault v w shape bodies (Ok r) t = tt
+told_fault v w shape bodies (Err e) t = t
 
 -- the bodies that a load brings
 pub brings_given : (shapes : List Shape) (shape : Shape) (given unit : UnitBodies) → are_of shapes shape (unit_view given) ≡ true → unit ≡ given → Brings shapes shape given unit

@@ -1,4 +1,5 @@
 pub mod Actors
+pub mod Lasting
 pub mod Asking
 pub mod Gets
 pub mod Settles

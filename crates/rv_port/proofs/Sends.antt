@@ -51,6 +51,8 @@ use Rattle.rv_port.specs.contracts.stacks.Pool as pool
 use Rattle.rv_port.specs.contracts.stacks.Stacks as stacks
 use Rattle.rv_port.proofs.stacks.Pool.TheSendSync as pool_crosses
 use Rattle.rv_port.proofs.stacks.PortStack.TheSendSync as port_stack_crosses
+use Rattle.rv_port.specs.contracts.own_pass.OwnPass as own_pass
+use Rattle.rv_port.specs.contracts.own_pass.OwnPass.TheInside as own_pass_inside
 use Rattle.rv_port.specs.contracts.asker.Asker as asker
 use Rattle.rv_port.proofs.ended.Course.TheSendSync as course_crosses
 use Rattle.rv_port.specs.contracts.port.Port as port
@@ -159,8 +161,14 @@ stacks_send = struct_send (shape stacks.the_type) (global_crosses.the_field_send
 bell_arc_send : IsSend (arc.the_row bell.the_row global.the_row ghosts)
 bell_arc_send = arc_crosses.the_send bell.the_row global.the_row ghosts bell_crosses.the_send global_crosses.the_send bell_crosses.the_sync global_crosses.the_sync heap_crosses.the_frees
 
+own_pass_inside_send : IsSend own_pass_inside.the_row
+own_pass_inside_send = recorded_send (own_pass_inside.the_field).row _ _ (own_pass_inside.the_type).to_one (struct_send (shape own_pass_inside.the_type) (pass_crosses.the_send behind.the_row ask.the_row reply.the_row letter.the_row event.the_row limits.the_row counted behind_send, (plain_send _ _ _ _ _, (plain_send _ _ _ _ _, tt))))
+
+own_pass_send : IsSend own_pass.the_row
+own_pass_send = search (own_pass_inside_send, sendable)
+
 asker_send : IsSend (asker.the_field).row
-asker_send = struct_send (shape asker.the_type) (pass_crosses.the_send behind.the_row ask.the_row reply.the_row letter.the_row event.the_row limits.the_row counted behind_send, (bell_arc_send, (plain_send _ _ _ _ _, (plain_send _ _ _ _ _, (course_crosses.the_field_send, (port_stack_crosses.the_field_send, tt))))))
+asker_send = struct_send (shape asker.the_type) (own_pass_send, (bell_arc_send, (plain_send _ _ _ _ _, (plain_send _ _ _ _ _, (course_crosses.the_field_send, (port_stack_crosses.the_field_send, tt))))))
 
 port_inside_send : IsSend port_inside.the_row
 port_inside_send = recorded_send (port_inside.the_field).row _ _ (port_inside.the_type).to_one (struct_send (shape port_inside.the_type) (asker_send, tt))
@@ -169,7 +177,7 @@ pub port_send : IsSend port.the_row
 port_send = search (port_inside_send, sendable)
 
 finished_inside_send : IsSend finished_inside.the_row
-finished_inside_send = recorded_send (finished_inside.the_field).row _ _ (finished_inside.the_type).to_one (struct_send (shape finished_inside.the_type) (pass_crosses.the_send behind.the_row ask.the_row reply.the_row letter.the_row event.the_row limits.the_row counted behind_send, (plain_send _ _ _ _ _, tt)))
+finished_inside_send = recorded_send (finished_inside.the_field).row _ _ (finished_inside.the_type).to_one (struct_send (shape finished_inside.the_type) (own_pass_send, (plain_send _ _ _ _ _, tt)))
 
 pub finished_send : IsSend finished.the_row
 finished_send = search (finished_inside_send, sendable)
@@ -181,7 +189,7 @@ pub note_send : IsSend note.the_row
 note_send = search (note_inside_send, sendable)
 
 control_inside_send : IsSend control_inside.the_row
-control_inside_send = recorded_send (control_inside.the_field).row _ _ (control_inside.the_type).to_one (struct_send (shape control_inside.the_type) (global_crosses.the_field_send, (turn_crosses.the_send behind.the_row ask.the_row reply.the_row letter.the_row event.the_row limits.the_row counted behind_send, (pass_crosses.the_send behind.the_row ask.the_row reply.the_row letter.the_row event.the_row limits.the_row counted behind_send, (bell_arc_send, (list_send _ (plain_send _ _ _ _ _), (catalogue_crosses.the_send, (option_crosses.the_field_send lists.the_row lists_crosses.the_send, (plain_send _ _ _ _ _, (stacks_send, tt))))))))))
+control_inside_send = recorded_send (control_inside.the_field).row _ _ (control_inside.the_type).to_one (struct_send (shape control_inside.the_type) (global_crosses.the_field_send, (turn_crosses.the_send behind.the_row ask.the_row reply.the_row letter.the_row event.the_row limits.the_row counted behind_send, (own_pass_send, (bell_arc_send, (list_send _ (plain_send _ _ _ _ _), (catalogue_crosses.the_send, (option_crosses.the_field_send lists.the_row lists_crosses.the_send, (plain_send _ _ _ _ _, (stacks_send, tt))))))))))
 
 pub control_send : IsSend control.the_row
 control_send = search (control_inside_send, sendable)

@@ -1,12 +1,12 @@
 -- What the control of a host behind a turn gives out. (own)
-use Rattle.std.specs.Prelude.{◌≡◌, ◌⊎◌, ℕ, map, reverse, is_some, ◌<◌, ◌≤◌, Bool, true, false, ◌==◌, ◌||◌, List, [], ◌∷◌, ◌++◌, Option, Some}
+use Rattle.std.specs.Prelude.{◌≡◌, ◌⊎◌, ℕ, map, reverse, is_some, ◌<◌, ◌≤◌, Bool, true, false, ◌==◌, ◌||◌, List, [], ◌∷◌, ◌++◌, Option, Some, Result, Ok, Err}
 use Rattle.atomic_table.specs.Seated.{TableId}
 use Rattle.rv_access.specs.Words.{Words}
 use Rattle.rv_shape.specs.Shape.{Shape}
 use Rattle.rv_event.specs.declared.entry.Entry.{Entry}
 use Rattle.rv_event.specs.declared.entry.Entry.TheVariants.{Asked, Load, ListChange}
 use Rattle.rv_event.specs.declared.entry.Answer.{Answer}
-use Rattle.rv_event.specs.declared.entry.Answer.TheVariants.{Misuse}
+use Rattle.rv_event.specs.declared.entry.Answer.TheVariants.{Accepted, Misuse}
 use Rattle.rv_turn.specs.Histories.{mine}
 use Rattle.rv_turn.specs.Passes.{Acted, Parted, IsWorn, opening_of}
 use Rattle.rv_code.specs.Bodies as Code
@@ -24,6 +24,8 @@ use Rattle.rv_port.specs.Actors.{is_performer}
 use Rattle.rv_port.specs.Traces.{Passing}
 use Rattle.rv_port.specs.declared.fault.PortFault.{PortFault}
 use Rattle.rv_port.specs.declared.fault.PortFault.TheVariants.{Taken, NoActor, NoMemory, Worn}
+use Rattle.rv_port.specs.declared.fault.LoadFault.{LoadFault}
+use Rattle.rv_port.specs.declared.fault.LoadFault.TheVariants as LoadFaults
 use Rattle.rv_port.specs.declared.fault.PageFault.{PageFault}
 use Rattle.rv_port.specs.declared.fault.PageFault.TheVariants as PageFaults
 use Rattle.rv_behind.specs.declared.event.Ask.{Ask}
@@ -70,6 +72,11 @@ answer_in Gives.Unread = Misuse
 answer_in (Gives.Viewed view) = Misuse
 answer_in (Gives.Bodies lent) = Misuse
 
+-- it was carried out (own)
+abbrev pub is_accepted : Answer → Bool
+is_accepted (Accepted value) = true
+is_accepted r = false
+
 -- an ask that loads no unit (own)
 abbrev pub LoadsNothing : Ask → Type 0
 LoadsNothing (Ask.Load shape unit) = ⊥
@@ -113,6 +120,17 @@ BringsIf false shape given unit = unit_view unit ≡ no_bodies_of shape
 
 abbrev pub Brings : List Shape → Shape → UnitBodies → UnitBodies → Type 0
 Brings shapes shape given unit = BringsIf (are_of shapes shape (unit_view given)) shape given unit
+
+-- the answer to a load, where an act was left
+abbrev pub answer_or_worn : {E : Type 0} → Result Answer E → Result Answer LoadFault
+answer_or_worn (Ok answer) = Ok answer
+answer_or_worn (Err e) = Err LoadFaults.Worn
+
+-- Why nothing was asked of a load: the unit's bodies don't fit the catalogue with its shape, and nothing changed; or no act was
+-- left. (own)
+abbrev pub IsLoadFault : Passing → Shape → UnitBodies → LoadFault → Passing → Type 0
+IsLoadFault v shape bodies LoadFaults.Unfit w = (are_of (catalogue_of v.seen) shape (unit_view bodies) ≡ false) × (w ≡ v)
+IsLoadFault v shape bodies LoadFaults.Worn w = IsWorn v w
 
 -- The history that a control begins with is that of the host, whose units have no bodies. (own)
 abbrev pub BeginsWith : History → List Event → Type 0

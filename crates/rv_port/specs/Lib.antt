@@ -16,3 +16,4 @@ pub mod Ends
 pub mod Following
 pub mod Endings
 pub mod Viewing
+pub mod Budgets

@@ -1,5 +1,7 @@
 -- What a port's asks did: a trace of asks and replies, between two states of its pass. (own)
-use Rattle.std.specs.Prelude.{◌≡◌, ◌⊎◌, ℕ, ◌+◌, ◌≤◌, Bool, true, false, List, [], ◌∷◌, ◌++◌, length, Option, Some, None}
+use Rattle.std.specs.Prelude.{◌≡◌, ◌⊎◌, ℕ, ◌+◌, ◌≤◌, Bool, true, false, ◌&&◌, ◌||◌, List, [], ◌∷◌, ◌++◌, length, Option, Some, None, is_some}
+use Rattle.std.specs.List.{list_any}
+use Rattle.rv_event.specs.Past.{archives}
 use Rattle.rv_event.specs.Recorded.{recorded}
 use Rattle.rv_event.specs.declared.entry.Next.TheVariants.{Dropped}
 use Rattle.rv_event.specs.declared.entry.Request.{Request}
@@ -8,6 +10,7 @@ use Rattle.rv_event.specs.declared.entry.Answer.{Answer}
 use Rattle.rv_event.specs.declared.entry.Answer.TheVariants as Answers
 use Rattle.rv_event.specs.declared.entry.Recorded.{Recorded}
 use Rattle.rv_history.specs.declared.limits.Limits.{Limits}
+use Rattle.rv_history.specs.Allowance.{may_spend}
 use Rattle.rv_history.specs.Limits.{limits_of}
 use Rattle.rv_history.specs.Due.{out}
 use Rattle.rv_history.specs.Legal.{Legal}
@@ -15,7 +18,7 @@ use Rattle.rv_turn.specs.Histories.{mine, StartsWith}
 use Rattle.rv_accounts.specs.Seen.{but_settles}
 use Rattle.rv_meant.specs.Settles.{NeverSettles}
 use Rattle.rv_turn.specs.Passes.{Known}
-use Rattle.rv_behind.specs.Events.{by, history_at, catalogue_of}
+use Rattle.rv_behind.specs.Events.{by, history_at, catalogue_of, mark}
 use Rattle.rv_behind.specs.Acting.{grown, begun_by, IsLent, lent_view}
 use Rattle.rv_behind.specs.declared.event.Lent.{Lent}
 use Rattle.rv_behind.specs.declared.event.Begun.{Begun}
@@ -41,6 +44,31 @@ abbrev pub asks_on : Answer → Bool
 asks_on Answers.Busy = true
 asks_on Answers.Waiting = true
 asks_on r = false
+
+-- The journal lasts: its first entries were given up once, so that there is room for others, and will be again. (own)
+abbrev pub lasts : List Event → Bool
+lasts log = list_any (λ e. is_some (archives (mark e))) log
+
+abbrev pub is_full : Answer → Bool
+is_full Answers.Full = true
+is_full r = false
+
+-- The port may make the request again that was answered so on this history: it waits for others, or for room in a journal that
+-- lasts. Where the unit that it is charged to has spent its allowance it never does. (own)
+abbrev pub comes_again : Limits → List Event → ℕ → Request → Answer → Bool
+comes_again limits log a q r = asks_on r || (is_full r && (lasts log && may_spend (history_at limits log) a q))
+
+-- it does, where it knows so of the journal (own)
+abbrev pub asked_again : Bool → Answer → Bool
+asked_again lasting r = asks_on r || (is_full r && lasting)
+
+-- no unit has an allowance (own)
+abbrev pub IsUnbounded : Option Limits → Type 0
+IsUnbounded about = (limits_in about).allowance ≡ None
+
+-- what a port has to know of the journal to ask again at Full (own)
+abbrev pub IsKnown : Passing → Type 0
+IsKnown v = (lasts v.seen ≡ true) × IsUnbounded v.about
 
 -- a body is never told these (own)
 abbrev pub IsTold : Answer → Type 0
@@ -81,14 +109,15 @@ EachAnswered limits a seen later left own [] = Unit {0}
 EachAnswered limits a seen later left own (x ∷ xs) =
     (IsAnswered limits a seen own later x.0 x.1 ⊎ IsWorn a left x.1 xs) × EachAnswered limits a seen later left (own ++ noted a (x ∷ [])) xs
 
--- On these legal histories, of which each begins with all that was seen before it, Busy or Waiting was due. The last is seen
--- then. (own)
+-- On these legal histories, of which each begins with all that was seen before it, Busy or Waiting was due, or Full in a journal
+-- that lasts. The last is seen then. (own)
 abbrev pub EachInVain : Limits → ℕ → Request → List Event → List (List Event) → List Event → Type 0
 EachInVain limits a q seen [] last = last ≡ seen
 EachInVain limits a q seen (at ∷ more) last =
-    StartsWith at seen × Legal (history_at limits at) × (asks_on (out (history_at limits at) a q) ≡ true) × EachInVain limits a q at more last
+    StartsWith at seen × Legal (history_at limits at) × (comes_again limits at a q (out (history_at limits at) a q) ≡ true) × EachInVain limits a q at more last
 
--- A request was made in vain, so many times: each answer was Busy or Waiting, and took one act. (own)
+-- A request was made in vain, so many times, each of which took one act: the answer was Busy or Waiting, or Full in a journal that
+-- lasts. (own)
 pub record InVain (v : Passing) (q : Request) (w : Passing) : Type 0 where
   pub times : List (List Event)
   pub each : EachInVain (limits_in v.about) v.actor q v.seen times w.seen
@@ -174,6 +203,6 @@ pub record Replied (v : Passing) (q : Request) (r : Answer) (begun : Begun) (len
 abbrev pub RepliedOnce : Passing → Request → Answer → Begun → Option Lent → Passing → Type 0
 RepliedOnce v q r begun lent w = (x : Replied v q r begun lent w) × (x.asked.in_vain.times ≡ [])
 
--- the same, asked again while the answer was Busy or Waiting (own)
+-- the same, asked again while the answer was Busy or Waiting, and where it was Full in a journal that lasts (own)
 abbrev pub Settled : Passing → Request → Answer → Begun → Option Lent → Passing → Type 0
 Settled v q r begun lent w = Replied v q r begun lent w × (asks_on r ≡ false)

@@ -1,5 +1,6 @@
 //! The asking part of a port.
 
+ghost use Rattle.std.specs.Coded.{codes};
 ghost use Rattle.std.specs.Prelude.{◌≡◌, ◌<◌, ◌+◌, ◌^◌, ℕ, ◌++◌, ◌∷◌, [], MatchResult, true, false, is_some};
 ghost use Rattle.rv_turn.specs.Histories.{mine};
 ghost use Rattle.rv_turn.specs.Passes.{IsWorn};
@@ -7,19 +8,20 @@ ghost use Rattle.rv_port.specs.Held.{held_past};
 ghost use Rattle.rv_port.specs.Actors.{HasHandler};
 ghost use Rattle.rv_port.specs.Held.{held_by};
 ghost use Rattle.rv_behind.specs.Acting.{BodiesFit};
+ghost use Rattle.rv_behind.specs.contracts.event.Event as e;
 ghost use Rattle.rv_behind.specs.Events.{by, catalogue_of};
 ghost use Rattle.rv_port.specs.Composing.{MayGo};
 ghost use Rattle.rv_port.specs.Endings.{RunsCourse};
-ghost use Rattle.rv_port.specs.Traces.{RepliedOnce, Settled, SettlesBehind, SettlesIf, WoreOut, IsTold, told, asks_on, drops};
+ghost use Rattle.rv_port.specs.Traces.{RepliedOnce, Settled, SettlesBehind, SettlesIf, WoreOut, IsTold, asked_again, told, drops};
 
 use crate::bell::Bell;
 use crate::ended::{Course, Ending, stop_of};
+use crate::own_pass::OwnPass;
 use crate::stacks::PortStack;
-use rv_behind::behind::Behind;
 use rv_behind::event::Letter;
 use rv_event::entry::{Answer, Next, Request};
 use rv_exec::outward::Outward;
-use rv_turn::{Pass, Worn};
+use rv_turn::Worn;
 use std::alloc::Global;
 use std::sync::{Arc, Wait};
 
@@ -27,7 +29,7 @@ use std::sync::{Arc, Wait};
 /// else can ask the end of a body.
 #[derive(Drop)]
 pub(crate) struct Asker {
-    pub(crate) pass: Pass<Behind>,
+    pub(crate) pass: OwnPass,
     pub(crate) bell: Arc<Bell, Global>,
     // Whether bodies that were wanted couldn't be had.
     pub(crate) is_refused: bool,
@@ -38,20 +40,25 @@ pub(crate) struct Asker {
     // The stack on which its bodies and its text run.
     pub(crate) stack: PortStack,
     pub(crate) ghost given: { pass.first ≡ false },
-    pub(crate) ghost fresh: { pass.base ≡ [] },
+    pub(crate) ghost fresh: { pass.base ≡ [] } by { Prim.hlevel (codes, e.the_row.coded) },
     pub(crate) ghost limited: { is_some pass.about ≡ true },
     pub(crate) ghost handles: { HasHandler (catalogue_of pass.seen) pass.actor },
     pub(crate) ghost fits: { BodiesFit pass.seen },
-    pub(crate) ghost owns: { mine by pass.actor pass.seen ≡ pass.base ++ pass.own },
+    pub(crate) ghost owns: { mine by pass.actor pass.seen ≡ pass.base ++ pass.own } by { Prim.hlevel (codes, e.the_row.coded) },
     pub(crate) ghost counts: { held ≡ held_by pass },
     pub(crate) ghost few: { held + pass.left < 2 ^ 63 },
 }
 
-// Whether the request is to be made again.
-fn must_wait(answer: &Answer) -> bool
-    ensures { result ≡ asks_on answer.now }
+// Whether the request is to be made again: where others hold the object, where the wait isn't over, and where a journal that lasts has
+// no room now.
+fn is_asked_again(is_lasting: bool, answer: &Answer) -> bool
+    ensures { result ≡ asked_again is_lasting answer.now }
 {
-    matches!(answer, Answer::Busy | Answer::Waiting)
+    match answer {
+        Answer::Busy | Answer::Waiting => true,
+        Answer::Full => is_lasting,
+        _ => false,
+    }
 }
 
 // What a body is told of an answer.
@@ -103,7 +110,8 @@ impl Asker {
         Ok(())
     }
 
-    /// Asks, and again at each ring while the answer is Busy or Waiting. Err where no act is left.
+    /// Asks, and again at each ring while the answer is Busy or Waiting, and while it is Full where the journal lasts. Err where no act is
+    /// left.
     pub(crate) fn insist<R: Wait>(&mut self, rt: &R, letter: &mut Letter) -> Result<(), Worn>
         ensures reply { MatchResult
             result
@@ -113,10 +121,11 @@ impl Asker {
     {
         for _ in rt.forever() {
             let rings = self.bell.rings();
+            let lasting = self.pass.is_lasting();
             let Ok(()) = self.try_ask(rt, letter) else {
                 return Err(Worn);
             };
-            if !must_wait(&letter.answer) {
+            if !is_asked_again(lasting, &letter.answer) {
                 self.bell.tell(&letter.answer);
                 return Ok(());
             }

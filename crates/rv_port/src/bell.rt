@@ -11,7 +11,7 @@ const SPINS: u32 = 300;
 // After how many looks a port sleeps.
 const LOOKS: u32 = 400;
 
-/// Rings for those who were answered Busy or Waiting. No ring is lost: who goes to sleep says so
+/// Rings for those who were answered Busy or Waiting, or Full where the journal lasts. No ring is lost: who goes to sleep says so
 /// before the count is compared once more, and who rings adds to the count before it looks for
 /// sleepers.
 #[derive(Drop)]

@@ -29,3 +29,14 @@ pub enum PageFault {
     #[error("Worn")]
     Worn,
 }
+
+/// Why a unit isn't loaded, though nothing was asked.
+#[derive(Clone, Copy, PartialEq, Eq, Debug, Drop, Error)]
+pub enum LoadFault {
+    /// Its bodies don't fit its shape, or call what isn't there.
+    #[error("Unfit")]
+    Unfit,
+    /// The control has no act left.
+    #[error("Worn")]
+    Worn,
+}

@@ -1,9 +1,13 @@
 //! Laws, each on a function that does nothing.
 
-ghost use Rattle.std.specs.Prelude.{◌≡◌, ℕ, List, length, reverse};
+ghost use Rattle.std.specs.Prelude.{◌≡◌, ℕ, false, List, length, reverse};
 ghost use Rattle.rv_code.specs.declared.body.UnitBodies.{UnitBodies};
+ghost use Rattle.rv_event.specs.declared.entry.Answer.{Answer};
+ghost use Rattle.rv_event.specs.declared.entry.Request.{Request};
+ghost use Rattle.rv_history.specs.Allowance.{may_spend};
 ghost use Rattle.rv_history.specs.History.{History};
 ghost use Rattle.rv_history.specs.Legal.{Legal};
+ghost use Rattle.rv_history.specs.declared.limits.Limits.{Limits};
 ghost use Rattle.rv_turn.specs.Histories.{mine, StartsWith};
 ghost use Rattle.rv_port.specs.Alone.{IsUnused, quit_alone};
 ghost use Rattle.rv_port.specs.Calls.{Quits};
@@ -11,7 +15,7 @@ ghost use Rattle.rv_port.specs.Controls.{IsGiven};
 ghost use Rattle.rv_behind.specs.Events.{by, catalogue_of, history_at, log_of, units_in};
 ghost use Rattle.rv_port.specs.Later.{NoEarlierList, KeepsBodies};
 ghost use Rattle.rv_port.specs.Settled.{EndsAreSettled};
-ghost use Rattle.rv_port.specs.Traces.{Passing};
+ghost use Rattle.rv_port.specs.Traces.{Passing, asks_on, comes_again, lasts};
 ghost use Rattle.rv_behind.specs.declared.event.Event.{Event};
 
 /// The catalogue is that of the operator's own events, whatever others add.
@@ -66,4 +70,14 @@ pub fn unused_ports_quit_alone()
 #[tactic(auto, using(crate::proofs::Alone::given_unused))]
 pub fn given_ports_are_unused()
     ensures { (control : Passing) → (after : Passing) → (port : Passing) → (actor : ℕ) → IsGiven control actor after port → IsUnused port }
+{}
+
+/// A request is made again at Full only in a journal that gave entries up, and for a unit that hasn't spent its allowance. In any other
+/// it is made again at Busy and Waiting alone.
+#[tactic(auto, using(crate::proofs::Lasting::never_at_full, crate::proofs::Lasting::never_when_spent))]
+pub fn full_comes_again_for_room_alone()
+    ensures whole { (limits : Limits) (log : List Event) (actor : ℕ) (request : Request) (answer : Answer)
+        → lasts log ≡ false → comes_again limits log actor request answer ≡ asks_on answer }
+    ensures spent { (limits : Limits) (log : List Event) (actor : ℕ) (request : Request) (answer : Answer)
+        → may_spend (history_at limits log) actor request ≡ false → comes_again limits log actor request answer ≡ asks_on answer }
 {}

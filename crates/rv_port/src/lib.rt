@@ -4,12 +4,14 @@
 mod asker;
 mod bell;
 mod body;
+pub mod budget;
 pub mod control;
 pub mod ended;
 pub mod fault;
 pub mod gate;
 pub mod laws;
 pub mod note;
+mod own_pass;
 mod performance;
 pub mod port;
 pub mod reached;

@@ -21,6 +21,7 @@ use crate::bell::Bell;
 use crate::ended::Course;
 use crate::gate::{Gate, Open};
 use crate::note::Note;
+use crate::own_pass::OwnPass;
 use crate::reached::Reached;
 use crate::stacks::PortStack;
 use rv_behind::behind::Behind;
@@ -62,7 +63,7 @@ impl Drop for Port {
 
 /// A port that is done. Contracts see of it what they saw of the port.
 pub struct Finished {
-    pub(crate) pass: Pass<Behind>,
+    pub(crate) pass: OwnPass,
     is_refused: bool,
 }
 
@@ -104,7 +105,7 @@ impl Finished {
             pass,
             is_refused: _,
         } = self;
-        pass
+        pass.into_pass()
     }
 
     /// Whose port it was.
@@ -133,7 +134,7 @@ impl Finished {
 
 impl Port {
     // The port of a new pass.
-    pub(crate) fn new(pass: Pass<Behind>, bell: Arc<Bell, Global>, stack: PortStack) -> Port
+    pub(crate) fn new(pass: OwnPass, bell: Arc<Bell, Global>, stack: PortStack) -> Port
         requires given { pass.first ≡ false }
         requires limited { is_some pass.about ≡ true }
         requires fresh { pass.base ≡ [] }

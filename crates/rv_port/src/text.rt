@@ -15,6 +15,7 @@ ghost use Rattle.rv_port.specs.Ports.{pass_of, IsExplained};
 ghost use Rattle.rv_port.specs.Texts.{TextRan, TextRuns};
 
 use crate::asker::Asker;
+use crate::budget::Budget;
 use crate::ended::{Course, Ending};
 use crate::port::Port;
 use rv_behind::event::{Ask, Lent, Reply};
@@ -111,13 +112,8 @@ impl Asker {
 }
 
 impl Port {
-    /// Runs the text of the port's task to its end (9.2, 9.3), by the bodies of the units loaded so
-    /// far: its own body, which may make so many requests, 1 to 1,000,000, and each body that starts
-    /// for it. The last request is Quit, where the task's mode allows it. Where no act is left, or
-    /// the task was left in a body, it is stopped at once; where the bodies have too many holders
-    /// too, and the port is marked. The text runs on a stack of the port's own, and takes no memory. It gives how the text
-    /// exited, and why it ended.
-    pub fn run_text<R: Wait>(&mut self, rt: &R, budget: u32) -> (Exit, Ending)
+    // Runs the text of the port's task to its end, with so many requests of its own.
+    fn run_within<R: Wait>(&mut self, rt: &R, budget: u32) -> (Exit, Ending)
         ensures ran { TextRan (pass_of self.old) self.old.refused budget result.0 (pass_of self.new) self.new.refused }
         ensures ended { TextEnded (pass_of self.old) self.old.refused budget result.0 result.1 (pass_of self.new) self.new.refused }
         ensures stays { Stays (pass_of self.old) (pass_of self.new) }
@@ -125,5 +121,21 @@ impl Port {
         ensures followed { FollowsUnless self.new.refused budget (pass_of self.old) (pass_of self.new) }
     {
         self.asker.go_on(rt, budget)
+    }
+
+    /// Runs the text of the port's task to its end (9.2, 9.3), by the bodies of the units loaded so
+    /// far: its own body, which may make so many requests, 1 to 4,294,967,295, and each body that starts
+    /// for it. The last request is Quit, where the task's mode allows it. Where no act is left, or
+    /// the task was left in a body, it is stopped at once; where the bodies have too many holders
+    /// too, and the port is marked. The text runs on a stack of the port's own, and takes no memory. It gives how the text
+    /// exited, and why it ended.
+    pub fn run_text<R: Wait>(&mut self, rt: &R, budget: Budget) -> (Exit, Ending)
+        ensures ran { TextRan (pass_of self.old) self.old.refused budget result.0 (pass_of self.new) self.new.refused }
+        ensures ended { TextEnded (pass_of self.old) self.old.refused budget result.0 result.1 (pass_of self.new) self.new.refused }
+        ensures stays { Stays (pass_of self.old) (pass_of self.new) }
+        ensures explained { IsExplained self.new }
+        ensures followed { FollowsUnless self.new.refused budget (pass_of self.old) (pass_of self.new) }
+    {
+        self.run_within(rt, budget.requests())
     }
 }

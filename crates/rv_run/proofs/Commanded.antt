@@ -2,7 +2,6 @@
 use Rattle.std.proofs.Common.{◌≡◌, ◌+◌, ℕ, List, Option, Some, None, Ok, Err, inl, inr, sym, ap, subst, IfNone, IfSome}
 use Rattle.std.specs.Prelude.{Result, codes}
 use Rattle.rv_code.specs.declared.unit.Unit.{Unit as Compiled}
-use Rattle.rv_crew.specs.Teams.{Team}
 use Rattle.rv_event.specs.declared.entry.Answer.{Answer}
 use Rattle.rv_fault.specs.Sections.{GivesUnit}
 use Rattle.rv_behind.specs.Events.{catalogue_of}
@@ -13,7 +12,7 @@ use Rattle.rv_shell.specs.declared.shell.Next.{Next}
 use Rattle.rv_shell.specs.declared.shell.LineFault.{LineFault}
 use Rattle.rv_staff.specs.Giving.{Starts}
 use Rattle.rv_staff.specs.Saying.{Known, Says, SaysNoThread, SaysRaised}
-use Rattle.rv_staff.specs.Staffs.{Staffed}
+use Rattle.rv_staff.specs.Staffs.{Staffed, Workers}
 use Rattle.rv_text.specs.Words.{words}
 use Rattle.rv_turn.specs.declared.pass.Worn.{Worn}
 use Rattle.rv_run.specs.Commanding.{Commands, Follows, LoadsIn, LoadsText, SaysOfLine, Welcomes}
@@ -55,7 +54,7 @@ said_of_line old new shapes line (Some t) written result none some is = said_of_
 
 -- the crew stays
 pub same_staff : (v w : Staffed) → w.crew ≡ v.crew → w ≡ record v { control = w.control }
-same_staff v w same = ap (λ (crew : Team). record w { crew = crew }) same
+same_staff v w same = ap (λ (crew : Workers). record w { crew = crew }) same
 
 -- a line was carried out by the shell, and then what it said
 pub commands_by : (s : Stage) (u : Staffed) (said : Known) (t : Stage) (line : List ℕ) (next : Result Next LineFault) (result : Outcome)

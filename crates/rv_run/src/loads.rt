@@ -41,7 +41,7 @@ pub(crate) fn load_section<R: Wait>(
     ensures { LoadsSection control.old control.new line text.now result }
 {
     match unit_of(alloc, control.catalogue(), line, text) {
-        Ok(unit) => heard(control.load(rt, unit)),
+        Ok(unit) => heard(control.load_or_shape(rt, unit)),
         Err(failure) => Err(failure),
     }
 }

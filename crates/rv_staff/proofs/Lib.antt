@@ -1,2 +1,3 @@
 pub mod OneTurn
 pub mod Starting
+pub mod Texts

@@ -18,9 +18,10 @@ use Rattle.rv_port.specs.Viewing.{NotViewed}
 use Rattle.rv_port.specs.declared.fault.PageFault.{PageFault}
 use Rattle.rv_port.specs.declared.fault.PageFault.TheVariants as PageFaults
 use Rattle.rv_view.specs.Views.{Shown}
+use Rattle.rv_follow.specs.Archiving.{AsksArchive, GivesUp}
 use Rattle.rv_follow.specs.Following.{Reads, ReadsOn}
 use Rattle.rv_port.specs.Controls.{IsGiven, LoadTold, Told}
-use Rattle.rv_crew.specs.Teams.{Team, IsOfTurn}
+use Rattle.rv_crew.specs.Teams.{IsOfTurn}
 use Rattle.rv_behind.specs.declared.event.Ask.{Ask}
 use Rattle.rv_crew.specs.Crews.{Joins, IsClosedBy, with_joined}
 use Rattle.rv_crew.specs.declared.crew.Closed.{Closed}
@@ -28,15 +29,19 @@ use Rattle.rv_crew.proofs.Turns.{abandoned_of_turn, none_of_turn, started_of_tur
 use Rattle.rv_crew.specs.declared.hiring.HireFault.{HireFault}
 use Rattle.rv_crew.specs.declared.hiring.HireFault.TheVariants.{NoThread, GivenUp, NoMemory}
 use Rattle.rv_crew.specs.Hiring.{hired}
-use Rattle.rv_staff.specs.Staffs.{AreOf, Staffed, no_crew}
+use Rattle.rv_staff.specs.Staffs.{AreOf, Staffed, Workers, no_crew}
+use Rattle.rv_staff.specs.Working.{Works}
+use Rattle.rv_staff.specs.declared.work.Work.{Work}
+use Rattle.rv_staff.specs.declared.work.Work.TheVariants.{Text}
 use Rattle.rv_staff.specs.Ending.{Closes, Ended, Halts, Waits}
 
 -- What the operator does.
 
 -- the turn stays
-pub moved : (v w : Passing) (crew : Team) → w.turn ≡ v.turn → AreOf v crew → AreOf w crew
+pub moved : (v w : Passing) (crew : Workers) → w.turn ≡ v.turn → AreOf v crew → AreOf w crew
 moved v w crew same are = record {
   none_joined = are.none_joined;
+  none_paid = are.none_paid;
   one_turn = subst (λ (t : TableId). IsOfTurn t crew) (sym same) are.one_turn;
 }
 
@@ -64,6 +69,15 @@ reads_on_stay (suc count) v w reads = ap (λ (p : Passing). p.turn) reads.4.same
 pub reads_stay : (v w : Passing) → Reads v w → w.turn ≡ v.turn
 reads_stay v w reads = reads_on_stay reads.0 v w reads.1
 
+-- and where entries are given up
+archive_stays : (number : ℕ) (v w : Passing) → AsksArchive number v w → w.turn ≡ v.turn
+archive_stays number v w (inl told) = ap (λ (p : Passing). p.turn) told.1.2.same
+archive_stays number v w (inr worn) = ap (λ (p : Passing). p.turn) worn.1
+
+pub archives_stay : (next : ℕ) (v w : Passing) → GivesUp next v w → w.turn ≡ v.turn
+archives_stay next v w (inl same) = ap (λ (p : Passing). p.turn) same
+archives_stay next v w (inr asked) = archive_stays asked.0 v w asked.2
+
 -- and where the console looks
 pub answers_stay : (v w : Passing) → Looks v w → w.turn ≡ v.turn
 answers_stay v w (inl same) = ap (λ (p : Passing). p.turn) same
@@ -85,35 +99,42 @@ given_turn v w actor port given = ap (λ (p : Passing). p.turn) given.parted.new
 -- What is started.
 
 pub none_are : (control : Passing) → AreOf control no_crew
-none_are control = record { none_joined = refl; one_turn = none_of_turn control.turn 0 }
+none_are control = record { none_joined = refl; none_paid = refl; one_turn = none_of_turn control.turn 0 }
 
-pub hired_stay : (control : Passing) (crew : Team) (port : Porting) (result : Result (Unit {0}) HireFault) → port.turn ≡ control.turn → AreOf control crew → AreOf control (hired crew port result)
-hired_stay control crew port (Ok x) same are = record {
+pub hired_stay : (control : Passing) (crew : Workers) (port : Porting) (work : Work) (result : Result (Unit {0}) HireFault) → port.turn ≡ control.turn → AreOf control crew → AreOf control (hired crew port work result)
+hired_stay control crew port work (Ok x) same are = record {
   none_joined = are.none_joined;
-  one_turn = started_of_turn control.turn crew port are.one_turn same;
+  none_paid = are.none_paid;
+  one_turn = started_of_turn control.turn crew port work are.one_turn same;
 }
-hired_stay control crew port (Err NoThread) same are = record { none_joined = are.none_joined; one_turn = lost_of_turn control.turn crew port are.one_turn same }
-hired_stay control crew port (Err GivenUp) same are = record { none_joined = are.none_joined; one_turn = given_up_of_turn control.turn crew port are.one_turn same }
-hired_stay control crew port (Err NoMemory) same are = are
+hired_stay control crew port work (Err NoThread) same are = record { none_joined = are.none_joined; none_paid = are.none_paid; one_turn = lost_of_turn control.turn crew port are.one_turn same }
+hired_stay control crew port work (Err GivenUp) same are = record { none_joined = are.none_joined; none_paid = are.none_paid; one_turn = given_up_of_turn control.turn crew port are.one_turn same }
+hired_stay control crew port work (Err NoMemory) same are = are
+
+-- so is it where a port is given up, whatever work it was for
+pub given_up_stay : (control : Passing) (crew after : Workers) (port : Porting) (result : Result (Unit {0}) HireFault) → port.turn ≡ control.turn → AreOf control crew
+    → ((work : Work) → after ≡ hired crew port work result) → AreOf control after
+given_up_stay control crew after port result same are is =
+    subst (AreOf control) (sym (is (Text 1 None))) (hired_stay control crew port (Text 1 None) result same are)
 
 -- What is joined.
 
-pub waits_stay : (hurries : Bool) (turn : TableId) (crew after : Team) → Waits hurries crew after → crew.joined ≡ [] → IsOfTurn turn crew
+pub waits_stay : (hurries : Bool) (turn : TableId) (crew after : Workers) → Waits hurries crew after → crew.joined ≡ [] → IsOfTurn turn crew
     → (after.joined ≡ []) × IsOfTurn turn after
-waits_stay hurries turn crew after (inl same) none of = (ap (λ (t : Team). t.joined) same ∙ none, subst (IsOfTurn turn) (sym same) of)
+waits_stay hurries turn crew after (inl same) none of = (ap (λ (t : Workers). t.joined) same ∙ none, subst (IsOfTurn turn) (sym same) of)
 waits_stay hurries turn crew after (inr given_up) none of =
-    (ap (λ (t : Team). t.joined) given_up.1.is ∙ none, abandoned_of_turn turn crew after of given_up.1)
+    (ap (λ (t : Workers). t.joined) given_up.1.is ∙ none, abandoned_of_turn turn crew after of given_up.1)
 
-pub closes : (hurries : Bool) (control : Passing) (crew left after : Team) (result : Option Closed) → AreOf control crew → Waits hurries crew left
-    → Joins left.joined left.running after.joined → after ≡ with_joined left after.joined → IfSome result (IsClosedBy after control)
+pub closes : (hurries : Bool) (control : Passing) (crew left after : Workers) (result : Option Closed) → AreOf control crew → Waits hurries crew left
+    → Joins Works left.joined left.running after.joined → after ≡ with_joined left after.joined → IfSome result (IsClosedBy Works after control)
     → IfSome result (Closes hurries control crew)
 closes hurries control crew left after None are waits joins after_is closed = closed
 closes hurries control crew left after (Some closed) are waits joins after_is by = record {
   left = left;
   waits = waits;
   back = after.joined;
-  joined = subst (λ (l : List Porting). Joins l left.running after.joined) (waits_stay hurries control.turn crew left waits are.none_joined are.one_turn).0 joins;
-  closes = subst (λ (t : Team). IsClosedBy t control closed) after_is by;
+  joined = subst (λ (l : List Porting). Joins Works l left.running after.joined) (waits_stay hurries control.turn crew left waits are.none_joined are.one_turn).0 joins;
+  closes = subst (λ (t : Workers). IsClosedBy Works t control closed) after_is by;
 }
 
 -- The end.

@@ -1,11 +1,10 @@
 -- What the start of threads says.
 use Rattle.std.proofs.Common.{◌≡◌, ◌∙◌, ℕ, suc, ◌+◌, List, [], ◌++◌, Ok, Err, inl, inr, refl, sym, ap, subst, add-one, arith}
-use Rattle.std.specs.Prelude.{Result}
+use Rattle.std.specs.Prelude.{None, Result}
 use Rattle.std.specs.Io.KnownBytes.{Appends}
 use Rattle.rv_script.specs.Prefixes.{WritesPrefix}
 use Rattle.rv_script.proofs.Wrote.{appends_more, keeps_nothing, prefix_behind}
 use Rattle.rv_shape.specs.Shape.{Shape}
-use Rattle.rv_crew.specs.Teams.{Team}
 use Rattle.rv_port.specs.Controls.{IsGiven, IsPortFault}
 use Rattle.rv_behind.specs.Events.{catalogue_of}
 use Rattle.rv_port.specs.Ports.{Porting, pass_of}
@@ -14,7 +13,9 @@ use Rattle.rv_crew.specs.declared.hiring.HireFault.{HireFault}
 use Rattle.rv_crew.specs.declared.hiring.HireFault.TheVariants.{NoThread, GivenUp, NoMemory}
 use Rattle.rv_crew.specs.Hiring.{hired}
 use Rattle.rv_staff.specs.Saying.{Known, Says, SaysNoThread, no_memory_line, no_thread_line}
-use Rattle.rv_staff.specs.Staffs.{Staffed}
+use Rattle.rv_staff.specs.Staffs.{Staffed, Workers}
+use Rattle.rv_staff.specs.declared.work.Work.{Work}
+use Rattle.rv_staff.specs.declared.work.Work.TheVariants.{Text}
 use Rattle.rv_staff.specs.Giving.{GivesOne, GivesUpTo, SaidOfFault, SaidOfHire}
 
 -- there is no thread, and that is said
@@ -36,15 +37,25 @@ pub no_memory_said : {X E : Type 0} (old new : Known) (shapes : List Shape) (act
 no_memory_said old new shapes actor start result none says =
     (no_memory_line, subst (λ (r : Result (Unit {0}) HireFault). SaidOfHire shapes actor r no_memory_line) (sym none) refl, says)
 
+-- a thread was to be started that does some work: where none was, any stands for it
+pub some_work : (v w : Staffed) (port : Porting) (start : Result (Unit {0}) HireFault) → ((work : Work) → w ≡ record v { crew = hired v.crew port work start })
+    → (work : Work) × (w ≡ record v { crew = hired v.crew port work start })
+some_work v w port start is = (Text 1 None, is (Text 1 None))
+
+pub this_work : (v w : Staffed) (port : Porting) (work : Work) (start : Result (Unit {0}) HireFault) → w ≡ record v { crew = hired v.crew port work start }
+    → (work : Work) × (w ≡ record v { crew = hired v.crew port work start })
+this_work v w port work start is = (work, is)
+
 -- an actor was given a port
 pub one_given : (v u w : Staffed) (actor : ℕ) (port : Porting) (start : Result (Unit {0}) HireFault) (text : List ℕ)
-    → IsGiven v.control actor u.control (pass_of port) → u.crew ≡ v.crew → w ≡ record u { crew = hired u.crew port start }
+    → IsGiven v.control actor u.control (pass_of port) → u.crew ≡ v.crew → (work : Work) × (w ≡ record u { crew = hired u.crew port work start })
     → SaidOfHire (catalogue_of w.control.seen) actor start text → GivesOne v w actor text
 one_given v u w actor port start text given same is said = inl record {
   port = port;
+  work = is.0;
   start = start;
-  given = subst (λ (x : Staffed). IsGiven v.control actor x.control (pass_of port)) (sym is) given;
-  crew = ap (λ (x : Staffed). x.crew) is ∙ ap (λ (crew : Team). hired crew port start) same;
+  given = subst (λ (x : Staffed). IsGiven v.control actor x.control (pass_of port)) (sym is.1) given;
+  crew = ap (λ (x : Staffed). x.crew) is.1 ∙ ap (λ (crew : Workers). hired crew port is.0 start) same;
   said = said;
 }
 

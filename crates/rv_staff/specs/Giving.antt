@@ -14,6 +14,7 @@ use Rattle.rv_crew.specs.declared.hiring.HireFault.TheVariants.{NoThread, GivenU
 use Rattle.rv_crew.specs.Hiring.{hired}
 use Rattle.rv_staff.specs.Saying.{Known, no_memory_line, no_thread_line}
 use Rattle.rv_staff.specs.Staffs.{Staffed}
+use Rattle.rv_staff.specs.declared.work.Work.{Work}
 
 -- of a thread that was started nothing is said; else that there is none, or that memory was refused
 abbrev pub SaidOfHire : List Shape → ℕ → Result (Unit {0}) HireFault → List ℕ → Type 0
@@ -22,12 +23,13 @@ SaidOfHire shapes actor (Err NoThread) text = (text ≡ no_thread_line shapes ac
 SaidOfHire shapes actor (Err GivenUp) text = text ≡ no_memory_line
 SaidOfHire shapes actor (Err NoMemory) text = text ≡ no_memory_line
 
--- an actor is given a port, on which a thread is started, or what stands against that is said
+-- an actor is given a port, on which a thread is started that does some work, or what stands against that is said
 pub record GivesPort (v w : Staffed) (actor : ℕ) (text : List ℕ) : Type 0 where
   pub port : Porting
+  pub work : Work
   pub start : Result (Unit {0}) HireFault
   pub given : IsGiven v.control actor w.control (pass_of port)
-  pub crew : w.crew ≡ hired v.crew port start
+  pub crew : w.crew ≡ hired v.crew port work start
   pub said : SaidOfHire (catalogue_of w.control.seen) actor start text
 
 -- of an actor without a port it is said where memory was refused

@@ -3,3 +3,4 @@ pub mod Ending
 pub mod Saying
 pub mod Giving
 pub mod Working
+pub mod Texts

@@ -5,17 +5,19 @@ use Rattle.rv_actor.specs.Serving.{At, ServesTask}
 use Rattle.rv_shape.specs.Shape.{Shape}
 use Rattle.rv_event.specs.declared.entry.Exit.{Exit}
 use Rattle.rv_port.specs.Calls.{Quits}
+use Rattle.rv_port.specs.Following.{FollowsUnless}
 use Rattle.rv_port.specs.Ports.{Porting, pass_of}
 use Rattle.rv_port.specs.Texts.{LeavesText, TextRan}
 use Rattle.rv_crew.specs.Tasks.{Calls, Fires}
 use Rattle.rv_staff.specs.declared.work.Work.{Work}
 use Rattle.rv_staff.specs.declared.work.Work.TheVariants.{Text, Device, Line, Lines}
 
--- it runs the text of a task once, and then it finishes
+-- It runs the text of a task once, and then it finishes. What it asked is what the text asks.
 abbrev pub TextWorks : (budget : ℕ) → Porting → Porting → Type 0
 TextWorks budget port after =
-    (exit : Exit) × (done : Porting) × TextRan (pass_of port) port.refused budget exit (pass_of done) done.refused
-    × LeavesText done.refused (pass_of done) (pass_of after)
+    ((exit : Exit) × (done : Porting) × TextRan (pass_of port) port.refused budget exit (pass_of done) done.refused
+    × LeavesText done.refused (pass_of done) (pass_of after))
+    × FollowsUnless after.refused budget (pass_of port) (pass_of after)
 
 -- what another process asks by lines is performed, each line before the next is read, and then it finishes; where memory is
 -- refused for that, it finishes at once

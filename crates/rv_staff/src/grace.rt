@@ -3,6 +3,7 @@
 ghost use Rattle.std.specs.Prelude.{◌≡◌, is_some};
 ghost use Rattle.rv_staff.specs.Ending.{Waits};
 
+use crate::task::Task;
 use crossbeam_channel::{Receiver, Sender, TrySendError, bounded};
 use rv_crew::crew::Crew;
 use std::alloc::{AllocError, Global};
@@ -66,7 +67,7 @@ impl Timekeeper {
 
 impl Grace {
     // Waits until the jobs of all threads have ended, or the time is up. Whether it is; where nobody keeps the time it never is.
-    fn is_over<R: Wait>(&self, rt: &R, crew: &Crew) -> bool {
+    fn is_over<R: Wait>(&self, rt: &R, crew: &Crew<Task>) -> bool {
         if self.begins.try_send(rt, 1).is_err() {
             return false;
         }
@@ -86,7 +87,7 @@ impl Grace {
 
 /// Waits for the threads of a crew as long as a grace lasts, and gives up those that didn't end by then; without a grace none.
 /// Where memory for the names of their actors is refused none is given up.
-pub(crate) fn wait<R: Wait>(rt: &R, crew: &mut Crew, grace: Option<&Grace>)
+pub(crate) fn wait<R: Wait>(rt: &R, crew: &mut Crew<Task>, grace: Option<&Grace>)
     ensures { Waits (is_some grace.entry) crew.old crew.new }
 {
     if let Some(grace) = grace {

@@ -4,11 +4,13 @@
 mod grace;
 mod hands;
 mod hires;
+pub mod laws;
 mod raising;
 mod saying;
 mod session;
 mod staff;
 mod staffing;
+mod task;
 mod work;
 
 pub use grace::{Grace, Timekeeper, grace_ends};
@@ -19,4 +21,5 @@ pub use saying::{NO_MEMORY, notice_line, say, say_lost};
 pub use session::{DeviceJob, Outsider, Session};
 pub use staff::Staff;
 pub use staffing::start_threads;
+pub use task::Task;
 pub use work::{Work, perform};

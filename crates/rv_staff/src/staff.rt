@@ -14,6 +14,7 @@ ghost use Rattle.rv_event.specs.declared.entry.Request.TheVariants as asks;
 ghost use Rattle.rv_port.specs.Viewing.{NotViewed};
 ghost use Rattle.rv_tally.specs.Tallying.{IsTally};
 ghost use Rattle.rv_port.specs.Controls.{Brings, IsGiven, IsPortFault, LoadTold, Told};
+ghost use Rattle.rv_follow.specs.Archiving.{GivesUp};
 ghost use Rattle.rv_follow.specs.Following.{IsKept, Looked, Reads};
 ghost use Rattle.rv_keep.specs.Keeping.{Known};
 ghost use Rattle.rv_crew.specs.Crews.{IsClosedBy};
@@ -22,9 +23,12 @@ ghost use Rattle.rv_shell.specs.Serving.{CarriesRead, Writes, answer_line};
 ghost use Rattle.rv_staff.specs.Ending.{Closes, Ended};
 ghost use Rattle.rv_crew.specs.Hiring.{hired};
 ghost use Rattle.rv_staff.specs.Staffs.{AreOf, no_crew};
+ghost use Rattle.rv_staff.specs.Working.{Works};
+ghost use Rattle.rv_staff.specs.declared.work.Work.{Work};
 
 use crate::grace::{Grace, wait};
 use crate::hires::Hires;
+use crate::task::Task;
 use crate::work::Work;
 use rv_access::Line;
 use rv_code::Unit;
@@ -32,7 +36,7 @@ use rv_console::{Console, Word};
 use rv_crew::crew::{Closed, Crew};
 use rv_crew::hiring::{HireFault, give_up};
 use rv_event::entry::Answer;
-use rv_follow::{Found, follow};
+use rv_follow::{Archive, Found, follow, give_up as give_up_entries};
 use rv_keep::{KeepFault, Keeper};
 use rv_pipes::Ender;
 use rv_port::control::Control;
@@ -54,17 +58,18 @@ use std::time::Clock;
 /// A host that runs: its operator and the crew of its threads. Each thread has a port of this control, and none was joined.
 pub struct Staff {
     control: Control,
-    crew: Crew,
+    crew: Crew<Task>,
 }
 
 impl Model for Staff {
     ghost use Rattle.std.specs.Coded.{codes};
     ghost use Rattle.rv_behind.specs.contracts.event.Event as e;
+    ghost use Rattle.rv_staff.specs.contracts.work.Work as w;
     ghost use Rattle.rv_staff.specs.Staffs.{AreOf, Staffed};
 
     ghost Value = { Staffed };
 
-    ghost coded = { Prim.hlevel (codes, e.the_row.coded) };
+    ghost coded = { Prim.hlevel (codes, e.the_row.coded, w.the_row.coded) };
 
     ghost view = { λ s. record { control = s.control; crew = s.crew } };
 
@@ -82,10 +87,10 @@ impl Drop for Staff {
 }
 
 // Closes a control with a crew that is joined.
-fn leave<R: Wait>(rt: &R, crew: Crew, control: Control) -> Option<Closed>
+fn leave<R: Wait>(rt: &R, crew: Crew<Task>, control: Control) -> Option<Closed>
     requires joined { crew.running ≡ [] }
     requires turn { IsOfTurn control.turn crew }
-    ensures { IfSome result (IsClosedBy crew control) }
+    ensures { IfSome result (IsClosedBy Works crew control) }
 {
     match crew.close(rt, control) {
         Ok(closed) => Some(closed),
@@ -96,7 +101,7 @@ fn leave<R: Wait>(rt: &R, crew: Crew, control: Control) -> Option<Closed>
 // Joins a crew, but for threads that don't end in time where the end is hurried, and closes its control.
 fn close<R: Threads + Wait>(
     rt: &R,
-    mut crew: Crew,
+    mut crew: Crew<Task>,
     control: Control,
     within: Option<&Grace>,
 ) -> Option<Closed>
@@ -191,7 +196,7 @@ impl Staff {
             (λ _. IsWorn self.old.control self.new.control) }
         ensures crew { self.new.crew ≡ self.old.crew }
     {
-        self.control.load(rt, unit)
+        self.control.load_or_shape(rt, unit)
     }
 
     /// So many ticks of the clock go by, 1 .. 1,000,000 (D.8).
@@ -237,6 +242,15 @@ impl Staff {
         follow(rt, alloc, &mut self.control, keeper, tally)
     }
 
+    /// Gives up entries whose lines a keeper's file has, where there are enough (`rv_follow::give_up`).
+    #[tactic(auto, using(crate::proofs::OneTurn::moved, crate::proofs::OneTurn::archives_stay))]
+    pub fn archive<R: Wait, F>(&mut self, rt: &R, keeper: &Keeper<F>, archive: &mut Archive)
+        ensures gives_up { GivesUp keeper.now.next self.old.control self.new.control }
+        ensures crew { self.new.crew ≡ self.old.crew }
+    {
+        give_up_entries(rt, &mut self.control, keeper, archive);
+    }
+
     /// Writes the answer to a request of the operator.
     pub fn tell<W: Write>(
         &self,
@@ -268,16 +282,15 @@ impl Staff {
     #[tactic(auto, using(crate::proofs::OneTurn::hired_stay))]
     pub fn hire<H: Hires>(&mut self, hires: &H, port: Port, work: Work) -> Result<(), HireFault>
         requires { port.turn ≡ self.old.control.turn }
-        ensures { self.new ≡ record self.old { crew = hired self.old.crew port result } }
+        ensures { self.new ≡ record self.old { crew = hired self.old.crew port work result } }
     {
         hires.hire(&mut self.crew, port, work)
     }
 
     /// Gives up a port of this host for whose thread memory was refused: its actor is lost.
-    #[tactic(auto, using(crate::proofs::OneTurn::hired_stay))]
     pub fn give_up(&mut self, port: Port) -> Result<(), HireFault>
         requires { port.turn ≡ self.old.control.turn }
-        ensures { self.new ≡ record self.old { crew = hired self.old.crew port result } }
+        ensures { (work : Work) → self.new ≡ record self.old { crew = hired self.old.crew port work result } }
     {
         give_up(&mut self.crew, port)
     }

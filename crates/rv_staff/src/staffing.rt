@@ -5,6 +5,7 @@ ghost use Rattle.rv_behind.specs.Events.{catalogue_of};
 ghost use Rattle.rv_staff.specs.Giving.{GivesOne, SaidOfHire, Starts, actors_of};
 ghost use Rattle.rv_crew.specs.Hiring.{hired};
 ghost use Rattle.rv_staff.specs.Saying.{Says};
+ghost use Rattle.rv_staff.specs.declared.work.Work.{Work};
 
 use crate::hires::Hires;
 use crate::saying::{NO_MEMORY, say, say_no_thread};
@@ -13,9 +14,12 @@ use crate::work::Work;
 use crossbeam_channel::{Sender, unbounded};
 use rv_crew::hiring::HireFault;
 use rv_crew::notice::Notice;
+use rv_pipes::{Ender, Pipes};
+use rv_port::budget::Budget;
 use rv_port::fault::PortFault;
 use rv_port::port::Port;
 use rv_shape::actor::FIRST_TASK;
+use rv_shape::catalogue::Catalogue;
 use std::io;
 use std::io::Write;
 
@@ -41,11 +45,12 @@ fn notices_of(session: &Session) -> Option<Sender<Notice>> {
 fn work_of(session: &Session, actor: usize) -> Work {
     match device_of(session.devices.as_slice(), actor) {
         Some(job) => Work::Device(job.object, job.operation, job.calls),
-        None => Work::Text(session.budget, notices_of(session)),
+        None => Work::Text(Budget::of(session.budget), notices_of(session)),
     }
 }
 
 // A thread for a line, with a channel for its raises.
+#[tactic(auto, using(crate::proofs::Starting::some_work, crate::proofs::Starting::this_work))]
 fn hire_line<H: Hires>(
     hires: &H,
     session: &mut Session,
@@ -53,7 +58,7 @@ fn hire_line<H: Hires>(
     port: Port,
 ) -> Result<(), HireFault>
     requires { port.turn ≡ session.old.staff.control.turn }
-    ensures { session.new.staff ≡ record session.old.staff { crew = hired session.old.staff.crew port result } }
+    ensures { (work : Work) × (session.new.staff ≡ record session.old.staff { crew = hired session.old.staff.crew port work result }) }
 {
     if session.channels.reserve(1).is_err() {
         return session.staff.give_up(port);
@@ -96,27 +101,22 @@ fn take_outsider(session: &mut Session, actor: usize) -> Option<Outsider>
     }
 }
 
-// A thread for a task that belongs to another process, with the names of what is loaded by now.
-fn hire_outsider<H: Hires>(
+// A thread that serves another process, with these names.
+#[tactic(auto, using(crate::proofs::Starting::some_work, crate::proofs::Starting::this_work))]
+fn hire_server<H: Hires>(
     hires: &H,
     session: &mut Session,
-    outsider: Outsider,
+    pipes: Pipes,
+    ender: Ender,
+    names: Catalogue,
     port: Port,
 ) -> Result<(), HireFault>
     requires { port.turn ≡ session.old.staff.control.turn }
-    ensures { session.new.staff ≡ record session.old.staff { crew = hired session.old.staff.crew port result } }
+    ensures { (work : Work) × (session.new.staff ≡ record session.old.staff { crew = hired session.old.staff.crew port work result }) }
 {
     if session.enders.reserve(1).is_err() {
         return session.staff.give_up(port);
     }
-    let Ok(names) = session.staff.catalogue().copy(session.alloc) else {
-        return session.staff.give_up(port);
-    };
-    let Outsider {
-        task: _,
-        pipes,
-        ender,
-    } = outsider;
     let work = Work::Lines(session.alloc, pipes, names);
     match session.staff.hire(hires, port, work) {
         Ok(()) => {
@@ -127,7 +127,30 @@ fn hire_outsider<H: Hires>(
     }
 }
 
+// A thread for a task that belongs to another process, with the names of what is loaded by now.
+#[tactic(auto, using(crate::proofs::Starting::some_work, crate::proofs::Starting::this_work))]
+fn hire_outsider<H: Hires>(
+    hires: &H,
+    session: &mut Session,
+    outsider: Outsider,
+    port: Port,
+) -> Result<(), HireFault>
+    requires { port.turn ≡ session.old.staff.control.turn }
+    ensures { (work : Work) × (session.new.staff ≡ record session.old.staff { crew = hired session.old.staff.crew port work result }) }
+{
+    let Ok(names) = session.staff.catalogue().copy(session.alloc) else {
+        return session.staff.give_up(port);
+    };
+    let Outsider {
+        task: _,
+        pipes,
+        ender,
+    } = outsider;
+    hire_server(hires, session, pipes, ender, names, port)
+}
+
 // A thread for a task on its port: it serves the process that the task belongs to, or else does the task's own work.
+#[tactic(auto, using(crate::proofs::Starting::some_work, crate::proofs::Starting::this_work))]
 fn hire_task<H: Hires>(
     hires: &H,
     session: &mut Session,
@@ -135,7 +158,7 @@ fn hire_task<H: Hires>(
     port: Port,
 ) -> Result<(), HireFault>
     requires { port.turn ≡ session.old.staff.control.turn }
-    ensures { session.new.staff ≡ record session.old.staff { crew = hired session.old.staff.crew port result } }
+    ensures { (work : Work) × (session.new.staff ≡ record session.old.staff { crew = hired session.old.staff.crew port work result }) }
 {
     match take_outsider(session, actor) {
         Some(outsider) => hire_outsider(hires, session, outsider, port),
@@ -154,7 +177,7 @@ fn hire<H: Hires>(
     port: Port,
 ) -> Result<(), HireFault>
     requires { port.turn ≡ session.old.staff.control.turn }
-    ensures { session.new.staff ≡ record session.old.staff { crew = hired session.old.staff.crew port result } }
+    ensures { (work : Work) × (session.new.staff ≡ record session.old.staff { crew = hired session.old.staff.crew port work result }) }
 {
     if actor < FIRST_TASK {
         return hire_line(hires, session, actor.saturating_sub(1) as u8, port);

@@ -8,6 +8,7 @@ use rv_actor::{Desk, actor_task};
 use rv_crew::notice::Notice;
 use rv_crew::tasks::{device, line_task, noticed_text_task};
 use rv_pipes::Pipes;
+use rv_port::budget::Budget;
 use rv_port::port::{Finished, Port};
 use rv_shape::catalogue::Catalogue;
 use std::alloc::Global;
@@ -19,7 +20,7 @@ use std::time::Clock;
 #[derive(Drop)]
 pub enum Work {
     /// It runs the text of a task, which may make so many requests of its own, and notifies of how that ended.
-    Text(u32, Option<Sender<Notice>>),
+    Text(Budget, Option<Sender<Notice>>),
     /// It calls an operation, by the numbers of its object and of the operation, so many times.
     Device(usize, usize, u32),
     /// It makes an interrupt for each number that is received, and notifies of each whose handler raised an exception.
@@ -74,7 +75,7 @@ pub fn perform<R: Wait + Clock>(rt: &R, port: Port, work: Work) -> Finished
     match work {
         Work::Text(budget, notices) => noticed_text_task(rt, port, budget, &notices),
         Work::Device(object, operation, calls) => device(rt, port, object, operation, calls),
-        Work::Line(raised, notices) => line_task(rt, port, raised, notices),
+        Work::Line(raised, notices) => line_task(rt, port, raised.into_iter(rt), notices),
         Work::Lines(alloc, pipes, names) => serve_lines(rt, alloc, port, pipes, &names),
     }
 }

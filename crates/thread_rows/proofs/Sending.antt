@@ -25,7 +25,6 @@ use Rattle.crossbeam_channel.proofs.flavors.array.Rows.TheSendSync as rows_cross
 use Rattle.crossbeam_channel.proofs.flavors.array.ruled.Receiving.TheSendSync as receiving_crosses
 use Rattle.rv_port.specs.contracts.note.Note as note
 use Rattle.rv_port.proofs.Sends.{note_send}
-use Rattle.rv_staff.proofs.work.Work.TheSendSync as work_crosses
 use Rattle.thread_rows.specs.contracts.crews.notes.OneTurn as rule
 use Rattle.thread_rows.specs.contracts.crews.notes.OneTurnProtocolNoteOptionNote.TheImpl as protocol
 use Rattle.thread_rows.specs.contracts.crews.notes.Hearer as hearer
@@ -71,8 +70,8 @@ told_field = struct_send (structs.shape told.the_type) (hearer_field, (caller_cr
 
 role_field : IsSend (role.the_field).row
 role_field = enum_send (enums.shape role.the_type) (
-  (work_crosses.the_field_send, tt),
-  ((told_field, tt), ((ends_crosses.the_field_send, tt), ((ends_crosses.the_field_send, tt), tt))),
+  (told_field, tt),
+  ((ends_crosses.the_field_send, tt), ((ends_crosses.the_field_send, tt), (tt, tt))),
 )
 
 pub role_send : IsSend role.the_row

@@ -1,9 +1,10 @@
-//! Worked rows on threads, of what no contract says: two games of a crew, and runs, each kind under a heading. More games stand
+//! Worked rows on threads, of what no contract says: games of a crew, and runs, each kind under a heading. More games stand
 //! beside the gate, in `bench/thread_games`.
 #![tactic(auto)]
 
 ghost use Rattle.std.specs.Prelude.{◌≡◌};
 ghost use Rattle.rv_crew.specs.Hiring.{hired};
+ghost use Rattle.rv_staff.specs.Working.{Works};
 ghost use Rattle.thread_rows.specs.Fitting.{Fits};
 
 mod crews;
@@ -14,8 +15,9 @@ mod stage;
 use role::{Role, act};
 use rv_crew::crew::Crew;
 use rv_crew::hiring::{HireFault, give_up, start};
-use rv_crew::job::Job;
+use rv_crew::job::{Job, NoDuty};
 use rv_port::port::{Finished, Port};
+use rv_staff::{Task, Work, perform};
 use rv_unit::STACK_BYTES;
 use stage::hands::Hands;
 use std::fs::Files;
@@ -25,22 +27,29 @@ use std::thread::Threads;
 use std::time::Clock;
 use std::{io, thread};
 
-// Plays all games of each kind.
-fn play_all<R>(rt: &R, hands: &Hands) -> io::Result<()>
+// Plays the games of crews.
+fn play_crews<R>(rt: &R, hands: &Hands) -> io::Result<()>
 where
     R: Threads + Wait + Clock + AllocGlobal + Print + Files + Clone + Sync,
 {
     println!(rt; "# Jobs of a crew")?;
-    crews::play_all(rt, hands)?;
+    crews::play_all(rt, hands)
+}
+
+// Plays the runs.
+fn play_runs<R>(rt: &R, staff: &rv_staff::Hands) -> io::Result<()>
+where
+    R: Threads + Wait + Clock + AllocGlobal + Print + Files + Clone + Sync,
+{
     println!(rt; "# Runs")?;
-    runs::play_all(rt, hands)
+    runs::play_all(rt, staff)
 }
 
 // The jobs of threads are boxed here, where the runtime is.
 fn main(rt: HostRuntime) -> io::Result<()> {
-    let begin = move |crew: &mut Crew, port: Port, role: Role| -> Result<(), HireFault>
+    let begin = move |crew: &mut Crew<NoDuty>, port: Port, role: Role| -> Result<(), HireFault>
         requires { Fits role port }
-        ensures { crew.new ≡ hired crew.old port result }
+        ensures { crew.new ≡ hired crew.old port (record {}) result }
     {
         let given = Snapshot::of(&port);
         let boxed = Box::new(
@@ -51,16 +60,41 @@ fn main(rt: HostRuntime) -> io::Result<()> {
             { act(&rt, port, role) },
         );
         match boxed {
-            Ok(run) => start(&rt, crew, Job { port: given, run }, port),
+            Ok(run) => start(&rt, crew, Job { port: given, run }, NoDuty, port),
             Err(_) => give_up(crew, port),
         }
+    };
+    let work = move |crew: &mut Crew<Task>, port: Port, work: Work| -> Result<(), HireFault>
+        ensures { crew.new ≡ hired crew.old port work result }
+    {
+        let given = Snapshot::of(&port);
+        let task = Task::of(&work);
+        let boxed = Box::new(
+            rt.alloc(),
+            move |port: Port| -> Finished
+                ensures works { Works work port result }
+                ensures same { (result.turn ≡ port.turn) × (result.actor ≡ port.actor) }
+            { perform(&rt, port, work) },
+        );
+        match boxed {
+            Ok(run) => start(&rt, crew, Job { port: given, run }, task, port),
+            Err(_) => give_up(crew, port),
+        }
+    };
+    let staff = rv_staff::Hands {
+        begin: Box::new(rt.alloc(), work)?,
     };
     let hands = Hands {
         begin: Box::new(rt.alloc(), begin)?,
     };
-    // On a thread whose stack is as wide as that of `ravenhost`.
+    // Each kind on a thread whose stack is as wide as that of `ravenhost`.
     let wide = thread::Builder::new().stack_size(16 * STACK_BYTES);
-    match wide.spawn(&rt, move || play_all(&rt, &hands)) {
+    match wide.spawn(&rt, move || play_crews(&rt, &hands)) {
+        Ok(thread) => thread.join(&rt)?,
+        Err(_) => return Err(io::Error::from(io::ErrorKind::OutOfMemory)),
+    }
+    let wide = thread::Builder::new().stack_size(16 * STACK_BYTES);
+    match wide.spawn(&rt, move || play_runs(&rt, &staff)) {
         Ok(thread) => thread.join(&rt),
         Err(_) => Err(io::Error::from(io::ErrorKind::OutOfMemory)),
     }

@@ -3,24 +3,24 @@
 ghost use Rattle.std.specs.Prelude.{◌≡◌};
 ghost use Rattle.thread_rows.specs.Fitting.{Fits};
 
+use crate::crews::room_again::read_one;
 use crate::crews::told_revoke::{ToldReader, read_told};
 use crate::crews::two_readers::{Ends, read_beside, read_open};
 use rv_port::port::{Finished, Port};
-use rv_staff::{Work, perform};
 use std::sync::Wait;
 use std::time::Clock;
 
 /// What a thread does with the port of its actor.
 #[derive(Drop)]
 pub enum Role {
-    /// What the threads of a run do.
-    Work(Work),
     /// It reads, is told of what changed meanwhile, and reads again.
     ToldReader(ToldReader),
     /// It reads, and its body stays open until another reader was answered.
     OpenReader(Ends),
     /// It reads while that body is open.
     Beside(Ends),
+    /// It reads once.
+    Reader,
 }
 
 /// Does what a role says, and finishes the port.
@@ -29,9 +29,9 @@ pub fn act<R: Wait + Clock>(rt: &R, port: Port, role: Role) -> Finished
     ensures { (result.turn ≡ port.turn) × (result.actor ≡ port.actor) }
 {
     match role {
-        Role::Work(work) => perform(rt, port, work),
         Role::ToldReader(reader) => read_told(rt, port, reader),
         Role::OpenReader(ends) => read_open(rt, port, ends),
         Role::Beside(ends) => read_beside(rt, port, ends),
+        Role::Reader => read_one(rt, port),
     }
 }

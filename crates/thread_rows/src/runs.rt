@@ -1,27 +1,19 @@
 //! Runs: plays each transcript of the folder that the program is run in at a terminal of its own, and says of each whether
 //! the run answered what stands there (`row`).
 
-ghost use Rattle.std.specs.Prelude.{◌≡◌};
-ghost use Rattle.rv_crew.specs.Hiring.{hired};
-
 mod failing;
 mod given_up;
 mod row;
 mod terminal;
 
-use crate::role::Role;
-use crate::stage::hands::Hands;
 use failing::failures_told;
 use given_up::named;
 use row::{Row, row_of};
 use row_files::names_before;
-use rv_crew::crew::Crew;
-use rv_crew::hiring::HireFault;
 use rv_fault::Failure;
-use rv_port::port::Port;
 use rv_run::outputs::Outputs;
 use rv_run::run::run;
-use rv_staff::{Hires, Work};
+use rv_staff::Hires;
 use std::alloc::Global;
 use std::cell::RefCell;
 use std::fs::Files;
@@ -30,14 +22,6 @@ use std::thread::Threads;
 use std::time::Clock;
 use std::{fs, io};
 use terminal::{Keyboard, Screen, Terminal};
-
-impl Hires for Hands {
-    fn hire(&self, crew: &mut Crew, port: Port, work: Work) -> Result<(), HireFault>
-        ensures { crew.new ≡ hired crew.old port result }
-    {
-        self.start(crew, port, Role::Work(work))
-    }
-}
 
 // What is told of the end of a run on standard error.
 fn told(alloc: Global, outcome: Result<(), Failure>) -> io::Result<String> {

@@ -8,6 +8,7 @@ ghost use Rattle.rv_port.specs.Ports.{pass_of};
 
 use super::Control;
 use crate::note::Note;
+use crate::own_pass::OwnPass;
 use crate::port::Finished;
 use rv_behind::behind::Behind;
 use rv_host::host::Host;
@@ -36,7 +37,7 @@ fn take_passes(passes: &mut Vec<Pass<Behind>>, mut finished: Vec<Finished>)
 
 // From now on the pass has seen all that is noted.
 #[tactic(auto, using(crate::proofs::Closings::none_met, crate::proofs::Closings::next_turn, crate::proofs::Closings::one_met, crate::proofs::Closings::all_met))]
-fn meet_all(pass: &mut Pass<Behind>, notes: Vec<Note>)
+fn meet_all(pass: &mut OwnPass, notes: Vec<Note>)
     requires { Each (λ note. note.turn ≡ pass.old.turn) notes.items }
     ensures { HasMet pass.old notes.items pass.new }
 {
@@ -84,7 +85,8 @@ impl Control {
             stacks: _,
         } = self;
         meet_all(&mut pass, notes);
-        let behind = turn.close(rt, pass, passes);
+        let first = pass.into_pass();
+        let behind = turn.close(rt, first, passes);
         let host = behind.into_host();
         host.replays();
         Ok(host)

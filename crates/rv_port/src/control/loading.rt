@@ -1,15 +1,16 @@
 //! Loads of units, with their bodies and as shapes alone.
 
-ghost use Rattle.std.specs.Prelude.{◌≡◌, IfOk, IfSome, MatchResult, map};
+ghost use Rattle.std.specs.Prelude.{◌≡◌, IfErr, IfOk, IfSome, MatchResult, map};
 ghost use Rattle.std.specs.Arc.{arc_value};
 ghost use Rattle.rv_code.specs.BodyView.{unit_view};
 ghost use Rattle.rv_fits.specs.Fits.{are_of};
 ghost use Rattle.rv_exec.specs.Bodies.{held, shared_view, units_of};
 ghost use Rattle.rv_turn.specs.Passes.{IsWorn};
-ghost use Rattle.rv_port.specs.Controls.{Told, LoadTold, Brings, no_bodies_of};
+ghost use Rattle.rv_port.specs.Controls.{Told, LoadTold, Brings, IsLoadFault, answer_or_worn, no_bodies_of};
 ghost use Rattle.rv_behind.specs.Events.{catalogue_of};
 
 use super::{Control, heard};
+use crate::fault::LoadFault;
 use rv_behind::event::Ask;
 use rv_code::{Unit, UnitBodies};
 use rv_event::entry::Answer;
@@ -47,6 +48,16 @@ pub(crate) fn no_bodies_of_all(
     }
 }
 
+// The answer to a load, where an act was left.
+fn or_worn(answer: Result<Answer, Worn>) -> Result<Answer, LoadFault>
+    ensures { result ≡ answer_or_worn answer }
+{
+    match answer {
+        Ok(answer) => Ok(answer),
+        Err(_) => Err(LoadFault::Worn),
+    }
+}
+
 impl Control {
     // Whether a unit's bodies may be loaded with its shape. None where the shape doesn't fit, or memory is refused.
     fn allows(&self, shape: &UnitShape, bodies: &UnitBodies) -> Option<bool>
@@ -55,11 +66,51 @@ impl Control {
         may_load(self.alloc, self.catalogue(), shape, bodies)
     }
 
+    // A load of a unit with its own bodies; where there was no memory to look whether they fit, as one for which there is none.
+    fn load_fitting<R: Wait>(
+        &mut self,
+        rt: &R,
+        shape: UnitShape,
+        bodies: UnitBodies,
+        is_known: bool,
+    ) -> Result<Answer, Worn>
+        ensures { MatchResult
+            result
+            (λ r. LoadTold self.old shape (λ u. u ≡ bodies) r self.new)
+            (λ _. IsWorn self.old self.new) }
+    {
+        if !is_known {
+            return self.load_nothing(rt, shape);
+        }
+        let Ok(unit) = SharedUnit::new(self.alloc, bodies) else {
+            return self.load_nothing(rt, shape);
+        };
+        self.load_shared(rt, shape, unit)
+    }
+
     /// Loads a unit as a text gives it, compiled against `catalogue`: its shape and its bodies, which
-    /// ports run from then on. Bodies that have another number of objects or tasks than the shape, or
-    /// that call what isn't there, are none of its own: then the shape is loaded alone. Where it isn't
-    /// accepted, it is dropped.
-    pub fn load<R: Wait>(&mut self, rt: &R, unit: Unit) -> Result<Answer, Worn>
+    /// ports run from then on. Where it isn't accepted, it is dropped.
+    ///
+    /// # Errors
+    /// `Unfit` where its bodies have another number of objects or tasks than the shape, or call what isn't there: then nothing is
+    /// asked, and it is dropped. `load_shape` loads such a unit without bodies. `Worn` where no act is left.
+    #[tactic(auto, using(crate::proofs::Controls::told_fault))]
+    pub fn load<R: Wait>(&mut self, rt: &R, unit: Unit) -> Result<Answer, LoadFault>
+        ensures ok { IfOk result (λ r. LoadTold self.old unit.shape (λ u. u ≡ unit.bodies) r self.new) }
+        ensures fault { IfErr result (λ fault. IsLoadFault self.old unit.shape unit.bodies fault self.new) }
+    {
+        let Unit { shape, bodies } = unit;
+        let fits = self.allows(&shape, &bodies);
+        if let Some(is_whole) = fits {
+            if !is_whole {
+                return Err(LoadFault::Unfit);
+            }
+        }
+        or_worn(self.load_fitting(rt, shape, bodies, fits.is_some()))
+    }
+
+    /// Loads a unit as `load` does. Bodies that don't fit are none of its own: then the shape is loaded alone.
+    pub fn load_or_shape<R: Wait>(&mut self, rt: &R, unit: Unit) -> Result<Answer, Worn>
         ensures { MatchResult
             result
             (λ r. LoadTold self.old unit.shape (λ u. Brings (catalogue_of self.old.seen) unit.shape unit.bodies u) r self.new)
@@ -72,10 +123,7 @@ impl Control {
         if !is_whole {
             return self.load_shape(rt, shape);
         }
-        let Ok(unit) = SharedUnit::new(self.alloc, bodies) else {
-            return self.load_nothing(rt, shape);
-        };
-        self.load_shared(rt, shape, unit)
+        self.load_fitting(rt, shape, bodies, true)
     }
 
     /// Loads a unit as a shape alone: its bodies leave the scalars as they are, and exit by

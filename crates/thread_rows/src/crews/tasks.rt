@@ -12,12 +12,17 @@ use rv_value::Args;
 use std::alloc::Global;
 use std::sync::Wait;
 
-/// The control of a host with both units loaded and the list set: three entries.
+/// Loads both units, and sets the list: three entries.
+pub fn load_tasks<R: Wait>(rt: &R, alloc: Global, control: &mut Control) -> Option<()> {
+    load_text(rt, alloc, control, PLANT)?;
+    load_text(rt, alloc, control, NAV)?;
+    set_list(rt, alloc, control, "allow * * *\n")
+}
+
+/// The control of a host with both units loaded and the list set.
 pub fn with_tasks<R: Wait>(rt: &R, alloc: Global) -> Option<Control> {
     let mut control = new_control(alloc, 1)?;
-    load_text(rt, alloc, &mut control, PLANT)?;
-    load_text(rt, alloc, &mut control, NAV)?;
-    set_list(rt, alloc, &mut control, "allow * * *\n")?;
+    load_tasks(rt, alloc, &mut control)?;
     Some(control)
 }
 

@@ -13,6 +13,7 @@ use crate::stage::units::{FIRST, GET, VALVE};
 use crate::stage::waiting::receive;
 use crossbeam_channel::{Receiver, Sender, unbounded};
 use rv_crew::crew::{Closed, Crew};
+use rv_crew::job::NoDuty;
 use rv_port::control::Control;
 use rv_port::gate::Gate;
 use rv_port::port::{Finished, Port};
@@ -78,7 +79,12 @@ fn both_ends(alloc: Global) -> Option<(Ends, Ends)> {
 }
 
 // Starts the threads of both readers. None where one gets none.
-fn begin_both(hands: &Hands, alloc: Global, control: &mut Control, crew: &mut Crew) -> Option<()>
+fn begin_both(
+    hands: &Hands,
+    alloc: Global,
+    control: &mut Control,
+    crew: &mut Crew<NoDuty>,
+) -> Option<()>
     requires { IsOfTurn control.old.turn crew.old }
     ensures { IsOfTurn control.new.turn crew.new }
 {

@@ -8,7 +8,7 @@ use rv_crew::hiring::{HireFault, give_up};
 use rv_port::port::Port;
 use rv_run::outputs::Outputs;
 use rv_run::run::run;
-use rv_staff::{Hires, Work};
+use rv_staff::{Hires, Task, Work};
 use std::alloc::Global;
 use std::sync::Wait;
 use std::thread::Threads;
@@ -33,9 +33,10 @@ const LOST: &[u8] = b"lost Int_4\nlost Plant.Pump\nlost Plant.Pilot\n";
 struct NoThreads {}
 
 impl Hires for NoThreads {
-    fn hire(&self, crew: &mut Crew, port: Port, _work: Work) -> Result<(), HireFault>
-        ensures { crew.new ≡ hired crew.old port result }
+    fn hire(&self, crew: &mut Crew<Task>, port: Port, work: Work) -> Result<(), HireFault>
+        ensures { crew.new ≡ hired crew.old port work result }
     {
+        let _ = work;
         give_up(crew, port)
     }
 }

@@ -6,9 +6,10 @@ use rv_keep::{Keeper, Syncing};
 use std::alloc::Global;
 use std::io;
 
-/// The journal of a host, as text. None where there is no memory.
+/// The journal of a host, as text, without what was given up. None where there is no memory.
 pub fn journal_of(alloc: Global, host: &Host) -> Option<String> {
     let mut keeper = Keeper::new(alloc, Vec::<u8>::new(alloc), Syncing::Never);
+    keeper.next = host.archived().checked_add(1)?;
     keeper.put_rest(host).ok()?;
     let text = str::from_utf8(keeper.file.as_slice()).ok()?;
     String::from_str(alloc, text).ok()

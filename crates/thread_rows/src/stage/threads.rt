@@ -7,6 +7,7 @@ ghost use Rattle.thread_rows.specs.Fitting.{Fits};
 use crate::role::Role;
 use crate::stage::hands::Hands;
 use rv_crew::crew::{Closed, Crew};
+use rv_crew::job::NoDuty;
 use rv_crew::laws::joins_keep_the_turn;
 use rv_port::control::Control;
 use rv_port::port::Port;
@@ -15,7 +16,7 @@ use std::thread::Threads;
 
 /// Starts a thread of a crew in this role. False where there is none.
 #[tactic(auto, using(rv_crew::proofs::Turns::hired_of_turn))]
-pub fn begin(hands: &Hands, crew: &mut Crew, port: Port, role: Role) -> bool
+pub fn begin(hands: &Hands, crew: &mut Crew<NoDuty>, port: Port, role: Role) -> bool
     requires crew { IsOfTurn port.turn crew.old }
     requires role { Fits role port }
     ensures { IsOfTurn port.turn crew.new }
@@ -24,10 +25,10 @@ pub fn begin(hands: &Hands, crew: &mut Crew, port: Port, role: Role) -> bool
 }
 
 /// Joins a crew whose ports are of a control, and closes both.
-pub fn close<R: Threads + Wait>(rt: &R, mut crew: Crew, control: Control) -> Option<Closed>
+pub fn close<R: Threads + Wait>(rt: &R, mut crew: Crew<NoDuty>, control: Control) -> Option<Closed>
     requires { IsOfTurn control.turn crew }
 {
-    joins_keep_the_turn();
+    joins_keep_the_turn::<NoDuty>();
     match crew.join_all(rt) {
         Ok(()) => crew.close(rt, control).ok(),
         Err(_) => None,

@@ -1,6 +1,6 @@
 use Rattle.std.proofs.Common.{◌∙◌, refl}
 use Rattle.rv_follow.proofs.Reading.{kept_later}
-use Rattle.rv_attend.proofs.Chores.{chores_later, chores_on}
+use Rattle.rv_attend.proofs.Chores.{as_terms, chores_later, chores_tend, widen}
 use Rattle.rv_attend.proofs.GoingOn.{halt_after}
 use Rattle.rv_attend.proofs.due.catch_up.Goals as goal
 
@@ -8,7 +8,7 @@ pub loop-init : goal.loop-init
 loop-init g c = record {
   tends = (
     λ opened kept. kept_later opened _ _ _ _ kept (chores_later _ _ c.entries_now-most.ensures.chores),
-    c.entries_now-most.ensures.chores,
+    widen _ _ _ c.entries_now-most.ensures.chores,
     c.entries_now-most.ensures.crew,
     refl,
   );
@@ -19,7 +19,7 @@ pub loop-preserved : goal.loop-preserved
 loop-preserved g c = record {
   tends = (
     λ opened kept. c.in-Ok.ensures.tends.0 opened (c.loop.invariant.tends.0 opened kept),
-    chores_on _ _ _ c.loop.invariant.tends.1 c.do_round.ensures.tends.1,
+    chores_tend _ _ _ _ _ c.loop.invariant.tends.3 c.loop.invariant.tends.1 c.do_round.ensures.tends.1,
     c.do_round.ensures.tends.2 ∙ c.loop.invariant.tends.2,
     c.do_round.ensures.tends.3 ∙ c.loop.invariant.tends.3,
   );
@@ -29,13 +29,13 @@ loop-preserved g c = record {
 pub returns-then-is_last-clause-tends : goal.returns-then-is_last-clause-tends
 returns-then-is_last-clause-tends g c = (
   λ opened kept. c.in-Ok.ensures.tends.0 opened (c.loop.invariant.tends.0 opened kept),
-  chores_on _ _ _ c.loop.invariant.tends.1 c.do_round.ensures.tends.1,
+  chores_tend _ _ _ _ _ c.loop.invariant.tends.3 c.loop.invariant.tends.1 c.do_round.ensures.tends.1,
   c.do_round.ensures.tends.2 ∙ c.loop.invariant.tends.2,
   c.do_round.ensures.tends.3 ∙ c.loop.invariant.tends.3,
 )
 
 pub returns-then-is_last-clause-ends : goal.returns-then-is_last-clause-ends
-returns-then-is_last-clause-ends g c = λ out. halt_after _ _ _ _ _ c.loop.invariant.tends.1 (c.in-Ok.ensures.ends out)
+returns-then-is_last-clause-ends g c = λ out. halt_after _ _ _ _ _ (as_terms _ _ _ _ (c.do_round.ensures.tends.3 ∙ c.loop.invariant.tends.3) c.loop.invariant.tends.1) (c.in-Ok.ensures.ends out)
 
 pub returns-then-is_last-clause-feed : goal.returns-then-is_last-clause-feed
 returns-then-is_last-clause-feed g c = c.is_last.ensures ∙ c.do_round.ensures.feed ∙ c.loop.invariant.feed
@@ -43,7 +43,7 @@ returns-then-is_last-clause-feed g c = c.is_last.ensures ∙ c.do_round.ensures.
 pub returns-in-Err-clause-tends : goal.returns-in-Err-clause-tends
 returns-in-Err-clause-tends g c = (
   λ opened kept. c.in-Err.ensures.tends.0 opened (c.loop.invariant.tends.0 opened kept),
-  chores_on _ _ _ c.loop.invariant.tends.1 c.do_round.ensures.tends.1,
+  chores_tend _ _ _ _ _ c.loop.invariant.tends.3 c.loop.invariant.tends.1 c.do_round.ensures.tends.1,
   c.do_round.ensures.tends.2 ∙ c.loop.invariant.tends.2,
   c.do_round.ensures.tends.3 ∙ c.loop.invariant.tends.3,
 )

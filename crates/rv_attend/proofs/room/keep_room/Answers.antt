@@ -1,6 +1,6 @@
 use Rattle.std.proofs.Common.{◌≡◌, ◌∙◌, refl, rules, sym}
 use Rattle.rv_attend.specs.declared.room.Then.TheVariants.{End}
-use Rattle.rv_attend.proofs.Chores.{chores_on, due_chores, no_chores}
+use Rattle.rv_attend.proofs.Chores.{chores_on, due_chores, no_chores, widen}
 use Rattle.rv_attend.proofs.GoingOn.{halt_after, halt_as}
 use Rattle.rv_attend.proofs.room.keep_room.Goals as goal
 
@@ -23,5 +23,5 @@ returns-in-End-clause-chores g c = chores_on _ _ _ c.loop.invariant.0 (due_chore
 pub returns-in-End-clause-ends : goal.returns-in-End-clause-ends
 returns-in-End-clause-ends g c = λ out.
     let ends : c.do_due.result ≡ End = search rules in
-    halt_after _ _ _ _ _ c.loop.invariant.0
+    halt_after _ _ _ _ _ (widen _ _ _ c.loop.invariant.0)
     (halt_as c.args.asked.now c.loop.room.capacity c.args.room.now.capacity c.args.used c.args.used _ _ (sym c.loop.invariant.2) refl (c.do_due.ensures.ends ends))

@@ -5,12 +5,12 @@ use Rattle.rv_feed.proofs.Heard.{hears_none, hears_on}
 use Rattle.rv_input.specs.Whole.{HasCommand}
 use Rattle.rv_attend.specs.Lasting.{standing}
 use Rattle.rv_attend.proofs.Attended.{grows_on, grows_same}
-use Rattle.rv_attend.proofs.Chores.{chores_on, no_chores}
+use Rattle.rv_attend.proofs.Chores.{as_terms, chores_tend, no_chores_in}
 use Rattle.rv_attend.proofs.GoingOn.{goes_after, goes_unless, goes_with}
 use Rattle.rv_attend.proofs.waiting.wait_command.Goals as goal
 
 pub returns-then-has_command-clause-tends : goal.returns-then-has_command-clause-tends
-returns-then-has_command-clause-tends g c = (λ opened kept. kept, no_chores _ _ refl, refl, refl)
+returns-then-has_command-clause-tends g c = (λ opened kept. kept, no_chores_in _ _ _ refl, refl, refl)
 
 pub returns-then-has_command-clause-grows : goal.returns-then-has_command-clause-grows
 returns-then-has_command-clause-grows g c = grows_same _ _ refl
@@ -27,13 +27,13 @@ returns-then-has_command-clause-goes g c =
     c.unless_stopped.ensures.goes has
 
 pub loop-init : goal.loop-init
-loop-init g c = record { tends = (λ opened kept. kept, no_chores _ _ refl, refl, refl); grows = grows_same _ _ refl; hears = hears_none _ _ _ _ refl refl }
+loop-init g c = record { tends = (λ opened kept. kept, no_chores_in _ _ _ refl, refl, refl); grows = grows_same _ _ refl; hears = hears_none _ _ _ _ refl refl }
 
 pub loop-preserved : goal.loop-preserved
 loop-preserved g c = record {
   tends = (
     λ opened kept. c.in-Ok-None.ensures.tends.0 opened (c.loop.invariant.tends.0 opened kept),
-    chores_on _ _ _ c.loop.invariant.tends.1 c.wait_once.ensures.tends.1,
+    chores_tend _ _ _ _ _ c.loop.invariant.tends.3 c.loop.invariant.tends.1 c.wait_once.ensures.tends.1,
     c.wait_once.ensures.tends.2 ∙ c.loop.invariant.tends.2,
     c.wait_once.ensures.tends.3 ∙ c.loop.invariant.tends.3,
   );
@@ -44,7 +44,7 @@ loop-preserved g c = record {
 pub returns-in-Ok-Some-clause-tends : goal.returns-in-Ok-Some-clause-tends
 returns-in-Ok-Some-clause-tends g c = (
   λ opened kept. c.in-Ok-Some.ensures.tends.0 opened (c.loop.invariant.tends.0 opened kept),
-  chores_on _ _ _ c.loop.invariant.tends.1 c.wait_once.ensures.tends.1,
+  chores_tend _ _ _ _ _ c.loop.invariant.tends.3 c.loop.invariant.tends.1 c.wait_once.ensures.tends.1,
   c.wait_once.ensures.tends.2 ∙ c.loop.invariant.tends.2,
   c.wait_once.ensures.tends.3 ∙ c.loop.invariant.tends.3,
 )
@@ -67,13 +67,13 @@ returns-in-Ok-Some-clause-goes g c =
     (goes_after (standing g.F.Write.contents c.args.session.now.staff c.args.follower.now)
     (standing g.F.Write.contents c.loop.session.staff c.loop.follower)
     (standing g.F.Write.contents c.wait_once.new.session.staff c.wait_once.new.follower) c.wait_once.new.input
-    (heard c.wait_once.new.follower.source.feed) (told c.wait_once.new.follower.source.stop) c.in-Ok-Some.goes c.loop.invariant.tends.1
+    (heard c.wait_once.new.follower.source.feed) (told c.wait_once.new.follower.source.stop) c.in-Ok-Some.goes (as_terms _ _ _ _ (c.wait_once.ensures.tends.3 ∙ c.loop.invariant.tends.3) c.loop.invariant.tends.1)
     (rw c.in-Ok-Some.field-0-is at c.in-Ok-Some.ensures.goes))
 
 pub returns-in-Err-clause-tends : goal.returns-in-Err-clause-tends
 returns-in-Err-clause-tends g c = (
   λ opened kept. c.in-Err.ensures.tends.0 opened (c.loop.invariant.tends.0 opened kept),
-  chores_on _ _ _ c.loop.invariant.tends.1 c.wait_once.ensures.tends.1,
+  chores_tend _ _ _ _ _ c.loop.invariant.tends.3 c.loop.invariant.tends.1 c.wait_once.ensures.tends.1,
   c.wait_once.ensures.tends.2 ∙ c.loop.invariant.tends.2,
   c.wait_once.ensures.tends.3 ∙ c.loop.invariant.tends.3,
 )

@@ -2,4 +2,4 @@ use Rattle.std.proofs.Common.{length}
 use Rattle.rv_crew.proofs.abandoning.+part.Given as goal
 
 abbrev pub decreases-part : goal.decreases-part
-decreases-part l = length l.threads.items
+decreases-part g l = length l.threads.items

@@ -9,7 +9,7 @@ pub returns-in-Ok : goal.returns-in-Ok
 returns-in-Ok g c = (
   Ok c.in-Ok.unit,
   subst (λ (shapes : List Shape). GivesUnit shapes (without_returns c.args.text.now) (Ok c.in-Ok.unit)) c.catalogue.ensures c.in-Ok.ensures,
-  (c.load.result, c.load.ensures, c.heard.ensures),
+  (c.load_or_shape.result, c.load_or_shape.ensures, c.heard.ensures),
 )
 
 pub returns-in-Err : goal.returns-in-Err

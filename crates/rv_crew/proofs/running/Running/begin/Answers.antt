@@ -20,7 +20,7 @@ mark_send = arc_crosses.the_send mark.the_row global.the_row ghosts mark_crosses
 pub spawn_with-begun-requires-send-F : goal.spawn_with-begun-requires-send-F
 spawn_with-begun-requires-send-F g c κs within =
     search (
-      dyn_box_send (object.Vt (boxed.slots g.row.R) g.dyn-1.0) (object.ghosts_of (boxed.slots g.row.R) g.dyn-1.0 g.dyn-1.1) g.dyn-1.2,
+      dyn_box_send (object.Vt (boxed.slots g.row.D g.row.R) g.dyn-1.0) (object.ghosts_of (boxed.slots g.row.D g.row.R) g.dyn-1.0 g.dyn-1.1) g.dyn-1.2,
       port_send,
       mark_send,
       crosses,
