@@ -18,14 +18,13 @@ use rv_crew::hiring::{HireFault, give_up, start};
 use rv_crew::job::{Job, NoDuty};
 use rv_port::port::{Finished, Port};
 use rv_staff::{Task, Work, perform};
-use rv_unit::STACK_BYTES;
 use stage::hands::Hands;
 use std::fs::Files;
+use std::io;
 use std::snapshot::Snapshot;
 use std::sync::Wait;
 use std::thread::Threads;
 use std::time::Clock;
-use std::{io, thread};
 
 // Plays the games of crews.
 fn play_crews<R>(rt: &R, hands: &Hands) -> io::Result<()>
@@ -87,15 +86,6 @@ fn main(rt: HostRuntime) -> io::Result<()> {
     let hands = Hands {
         begin: Box::new(rt.alloc(), begin)?,
     };
-    // Each kind on a thread whose stack is as wide as that of `ravenhost`.
-    let wide = thread::Builder::new().stack_size(16 * STACK_BYTES);
-    match wide.spawn(&rt, move || play_crews(&rt, &hands)) {
-        Ok(thread) => thread.join(&rt)?,
-        Err(_) => return Err(io::Error::from(io::ErrorKind::OutOfMemory)),
-    }
-    let wide = thread::Builder::new().stack_size(16 * STACK_BYTES);
-    match wide.spawn(&rt, move || play_runs(&rt, &staff)) {
-        Ok(thread) => thread.join(&rt),
-        Err(_) => Err(io::Error::from(io::ErrorKind::OutOfMemory)),
-    }
+    play_crews(&rt, &hands)?;
+    play_runs(&rt, &staff)
 }
