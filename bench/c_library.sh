@@ -10,7 +10,8 @@
 # - each row that is played without settings and faults goes through a handle too, call by call, its texts by rh_load_unit and rh_go, and
 #   its journal is the row's;
 # - each call of a handle gives what is due, with each allocation refused in turn; what is refused changes nothing;
-# - examples/c_host and examples/ada_host print their journal, and examples/c_plant and examples/ada_plant run 20 times, their journals legal;
+# - examples/c_host and examples/ada_host print their journal; examples/c_plant, ada_plant, c_texts and ada_texts run 20 times, their journals
+#   legal;
 # - sizes and offsets of the Ada package are the header's;
 # - each row is played, or judged, with its allocations refused in turn, and by a handle too;
 # - the library that is built in another folder, over the same proved crates, has the same bytes.
@@ -871,6 +872,14 @@ for _ in $(seq 20); do
     told "examples/c_plant" 0 "$folder/due_plant" "$folder/nothing" timeout 60 "$folder/c_plant/out/c_plant"
 done
 
+cp -r "$top/examples/c_texts" "$folder/c_texts"
+rm -rf "$folder/c_texts/out"
+holds "examples/c_texts builds by its own Makefile" make -C "$folder/c_texts" CFLAGS="-g $checks"
+printf 'the feeder filled 50 times, and the drain took all of it\nthe journal is legal\n' >"$folder/due_texts"
+for _ in $(seq 20); do
+    told "examples/c_texts" 0 "$folder/due_texts" "$folder/nothing" timeout 60 "$folder/c_texts/out/c_texts"
+done
+
 if [ -n "$tell" ]; then
     cat >"$folder/ada/sizes.adb" <<'END'
 with Ada.Text_IO;
@@ -959,6 +968,11 @@ END
         '$top/examples/ada_plant/ada_plant.adb' -largs '$library'"
     for _ in $(seq 20); do
         told "examples/ada_plant" 0 "$folder/due_plant" "$folder/nothing" timeout 60 "$folder/ada/ada_plant"
+    done
+    holds "examples/ada_texts builds" sh -c "cd '$folder/ada' && gnatmake -q -gnat12 -gnatwae -I'$top/ada' -I'$top/examples/ada_texts' \
+        '$top/examples/ada_texts/ada_texts.adb' -largs '$library'"
+    for _ in $(seq 20); do
+        told "examples/ada_texts" 0 "$folder/due_texts" "$folder/nothing" timeout 60 "$folder/ada/ada_texts"
     done
 fi
 
