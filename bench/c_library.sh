@@ -503,7 +503,8 @@ played=0 judged=0 texts=0 handled=0 gone=0
 : >"$folder/nothing"
 for path in "$rows"/*.raven "$rows"/*.grown; do
     name=${path##*/} name=${name%.*}
-    if [ -e "$rows/$name.said" ] || [ -e "$rows/$name.whole" ] || [ -e "$rows/$name.file" ]; then
+    # A row with a quota is judged by `--quota`, which no export takes.
+    if [ -e "$rows/$name.said" ] || [ -e "$rows/$name.whole" ] || [ -e "$rows/$name.file" ] || [ -e "$rows/$name.quota" ]; then
         continue
     fi
     script_of "$name" >"$folder/script"
