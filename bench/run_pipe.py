@@ -542,7 +542,8 @@ def halt_below(program):
 
 def lasting(program):
     """With --lasting a journal goes on past its capacity, no text ends by Full, and FILE has all of it; without the flag the text ends."""
-    sections = "@host.toml\ncapacity = %d\nbudget = 1000000\n" + unit(PLANT) + unit(free("Bad")) + "@list\nallow * * *\n"
+    sections, crowded = ("@host.toml\ncapacity = %d\nbudget = 1000000\n" + unit(PLANT) + "".join(unit(free(name)) for name in names) + "@list\nallow * * *\n"
+                         for names in (("Bad",), ("Ann", "Ben", "Cat", "Dan")))
     with tempfile.TemporaryDirectory() as folder:
         for capacity in (64, 4096):
             file = os.path.join(folder, f"journal{capacity}")
@@ -566,8 +567,8 @@ def lasting(program):
                                   stderr=subprocess.PIPE)
             expect_that("the audit of a run that lasts", done.stdout.startswith(f"legal {len(journal)} entries\n".encode()) and done.returncode == 0,
                         (done.stdout[-200:], done.stderr[-200:]))
-        least = least_capacity(program, folder, sections)
-        run = Run(program, sections % least + "@run\n", ("--lasting", "--journal", os.path.join(folder, "least")))
+        least = least_capacity(program, folder, crowded)
+        run = Run(program, crowded % least + "@run\n", ("--lasting", "--journal", os.path.join(folder, "least")))
         out, err, status = run.end()
         expect_that("the least capacity", out.startswith("entries ") and not err and status == 0, (out, err, status))
         run = Run(program, sections % 64 + "@run\n", ("--journal", os.path.join(folder, "short"), "--notes", "always"))
