@@ -25,6 +25,7 @@ import time
 
 TOP = os.path.dirname(os.path.dirname(os.path.abspath(__file__)))
 LIMIT = 60  # the longest that an answer may take, in seconds
+PAGE, PAGES = 50, 40  # the entries of a page, and how many pages are asked for at once
 NO_HANDLER = "warning: Int_3 has no handler\n"  # what is told before `raise 3` is answered `unattached`
 
 # A plant, and a task that makes a call at each tick until the call is denied: the units of a row of the gate.
@@ -110,18 +111,33 @@ class Run:
         return self.line().rstrip("\n")
 
     def page(self, start):
-        """The lines of `journal START`; a command that answers at once tells where they end."""
-        self.send(f"journal {start}\nmark\n")
-        lines = []
-        while (line := self.line()) not in ("bad command\n", ""):
-            lines.append(line.rstrip("\n"))
-        return lines
+        """The lines of `journal START`."""
+        return self.shown([start])
+
+    def shown(self, starts):
+        """The lines of `journal START` for each of these; a command that answers at once tells where they end."""
+        self.send("".join(f"journal {start}\n" for start in starts) + "mark\n")
+        watch = threading.Timer(LIMIT, self.process.kill)
+        watch.start()
+        try:
+            lines = []
+            while (line := self.process.stdout.readline().decode()) not in ("bad command\n", ""):
+                lines.append(line.rstrip("\n"))
+            return lines
+        finally:
+            watch.cancel()
+
+    def pages(self, start):
+        """The entries of as many pages as are asked for at once, from this one on; none behind a gap, where the journal grew meanwhile."""
+        lines = self.shown(range(start, start + PAGES * PAGE, PAGE))
+        due = next((number for number, line in enumerate(lines) if not line.startswith(f"{start + number} ")), len(lines))
+        return lines[:due]
 
     def journal(self):
         """The journal so far."""
         lines = []
-        while page := self.page(len(lines) + 1):
-            lines += page
+        while pages := self.pages(len(lines) + 1):
+            lines += pages
         return lines
 
     def end(self, command="quit\n"):
