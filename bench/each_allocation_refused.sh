@@ -11,15 +11,22 @@
 # end in a minute, with status 3, or with 0 and its last line. Each line must be an answer, `nomemory` among them; and `audit`
 # must find the journal that it printed legal. Without threads a run that ends with 0 has answered each command with one line.
 # Some of `check`, `play`, `audit`, `run` may be named, or scripts be given for `check --explain` alone, and before them
-# `--program PATH`, a proved program; else it is proved first. It needs a C compiler, for a library of a few lines that stands
-# before malloc. Statuses: 0 all as it should be, 1 not so, 127 a tool is missing.
+# `--program PATH`, a proved program, else it is proved first; and `--jobs N`, so many processes at once that share the allocations of a
+# script. It needs a C compiler, for a library of a few lines that stands before malloc. Statuses: 0 all as it should be, 1 not so, 127
+# a tool is missing.
 set -eu
 bench=$(dirname "$(readlink -f "$0")")
 . "$bench/shared/measuring.sh"
 take_folder
 build_allocations
-program=""
-if [ "${1:-}" = --program ]; then program=$(readlink -f "$2") && shift 2; fi
+program="" jobs=1
+while true; do
+    case ${1:-} in
+        --program) program=$(readlink -f "$2") && shift 2 ;;
+        --jobs) jobs=$2 && shift 2 ;;
+        *) break ;;
+    esac
+done
 cd "$bench/.."
 
 fail() {
@@ -36,29 +43,50 @@ refuse() {
         >"$folder/written" 2>"$folder/error" 9>"$folder/none" || status=$?
 }
 
+# Has each job do its share of the allocations of a script, in a folder of its own, and counts all. The function that does a share
+# follows, with its words; the number of the job is put before these.
+share_out() {
+    local share=$1 whole=$folder/whole told=$folder/told started=() job ended=0
+    shift
+    for job in $(seq "$jobs"); do
+        mkdir -p "$folder/$job"
+        (folder=$folder/$job && "$share" "$job" "$@") &
+        started+=($!)
+    done
+    for job in "${started[@]}"; do wait "$job" || ended=1; done
+    [ "$ended" -eq 0 ] || exit 1
+    count "$(cat "$folder"/[0-9]*/end | sort -n | head -n 1)"
+}
+
 # Whether a fault was told as it should be, with its status and all output, and only its explanation was cut short.
 lacks_explanation() {
-    [ "$status" -eq "$1" ] && [ "$1" -eq 1 ] && cmp -s "$folder/written" "$folder/whole" &&
-        [ "$(head -n 1 "$folder/error")" = "$(head -n 1 "$folder/told")" ]
+    [ "$status" -eq "$1" ] && [ "$1" -eq 1 ] && cmp -s "$folder/written" "$whole" &&
+        [ "$(head -n 1 "$folder/error")" = "$(head -n 1 "$told")" ]
+}
+
+# A job's share of the allocations over one script, of which this status is due. The words of the command line follow.
+refuse_share() {
+    local number=$1 script=$2 due=$3 status
+    shift 3
+    while true; do
+        refuse "$script" "$number" "$@"
+        if [ -s "$folder/none" ]; then break; fi
+        [ "$status" -eq 3 ] || lacks_explanation "$due" || fail "$* < $script: allocation $number refused: status $status"
+        cmp -s -n "$(stat -c %s "$folder/written")" "$folder/written" "$whole" ||
+            fail "$* < $script: allocation $number refused: other output"
+        number=$((number + jobs))
+    done
+    cmp "$folder/written" "$whole"
+    [ "$status" -eq "$due" ]
+    echo "$number" >"$folder/end"
 }
 
 # Refuses each allocation over one script in turn. The words of the command line follow.
 refuse_each() {
-    local script=$1 number=0 status=0 due
+    local script=$1 status=0
     shift
     "$program" "$@" <"$script" >"$folder/whole" 2>"$folder/told" || status=$?
-    due=$status
-    while true; do
-        number=$((number + 1))
-        refuse "$script" "$number" "$@"
-        if [ -s "$folder/none" ]; then break; fi
-        [ "$status" -eq 3 ] || lacks_explanation "$due" || fail "$* < $script: allocation $number refused: status $status"
-        cmp -s -n "$(stat -c %s "$folder/written")" "$folder/written" "$folder/whole" ||
-            fail "$* < $script: allocation $number refused: other output"
-    done
-    cmp "$folder/written" "$folder/whole"
-    [ "$status" -eq "$due" ]
-    count "$number"
+    share_out refuse_share "$script" "$status" "$@"
 }
 
 # One script more, each of whose allocations but the last, which didn't come, was refused.
@@ -109,19 +137,25 @@ look_at_run() {
     "$program" audit <"$folder/audited" >"$folder/verdict" || fail "$(cat "$folder/verdict")"
 }
 
-# Refuses each allocation of a run in turn. With a second word it has no threads.
-refuse_each_of_run() {
-    local script=$1 number=0 status=0 wanted=""
-    "$program" run <"$script" >"$folder/whole" 2>/dev/null
-    [ -z "${2:-}" ] || wanted=$(answers "$folder/whole")
+# A job's share of the allocations of a run.
+refuse_share_of_run() {
+    local number=$1 script=$2 wanted=$3 status
     while true; do
-        number=$((number + 1))
         refuse "$script" "$number" run
         if [ -s "$folder/none" ]; then break; fi
         (look_at_run "$script" "$wanted") || fail "run < $script: allocation $number refused"
+        number=$((number + jobs))
     done
     look_at_run "$script" "$wanted"
-    count "$number"
+    echo "$number" >"$folder/end"
+}
+
+# Refuses each allocation of a run in turn. With a second word it has no threads.
+refuse_each_of_run() {
+    local script=$1 wanted=""
+    "$program" run <"$script" >"$folder/whole" 2>/dev/null
+    [ -z "${2:-}" ] || wanted=$(answers "$folder/whole")
+    share_out refuse_share_of_run "$script" "$wanted"
 }
 
 [ -n "$program" ] || { ./ravenhost --prove && program=$PWD/crates/ravenhost/out/ravenhost; }

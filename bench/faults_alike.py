@@ -1,14 +1,14 @@
 #!/usr/bin/env python3
 """Whether two builds of the program tell the same faults: each fault's line, and the status.
 
-    bench/faults_alike.py OLD NEW [--seed S] [--count N] [--jobs J]
+    bench/faults_alike.py OLD NEW [--seed S] [--count N] [--jobs J] [--checks]
 
 OLD and NEW are programs, proved or trials, as crates/ravenhost/out/ravenhost or crates/ravenhost/out/trial/ravenhost of two
 checkouts. Each script of crates/rv_rows/data beside which a fault stands is checked, checked as a whole script, played and audited
 by both; and so are N scripts (2,000) drawn from all rows and from examples/, in which up to three words, signs or lines were left
 out, doubled, swapped, misspelt or replaced by others. What both write to standard error is compared, which is the fault alone,
-since no explanation is asked for; and their statuses. The last line counts the faults by kind. Statuses: 0 all alike, 1 some
-differ, 2 usage.
+since no explanation is asked for; and their statuses. With --checks both are only asked to check, as programs can that are made
+of the front end alone. The last line counts the faults by kind. Statuses: 0 all alike, 1 some differ, 2 usage.
 """
 import argparse
 import random
@@ -94,19 +94,21 @@ def kind_of(fault: bytes) -> str:
 
 def main() -> int:
     parser = argparse.ArgumentParser(description="Compares the faults of two builds.",
-                                     usage="bench/faults_alike.py OLD NEW [--seed S] [--count N] [--jobs J]")
+                                     usage="bench/faults_alike.py OLD NEW [--seed S] [--count N] [--jobs J] [--checks]")
     parser.add_argument("old", type=Path)
     parser.add_argument("new", type=Path)
     parser.add_argument("--seed", metavar="S", type=int, default=0)
     parser.add_argument("--count", metavar="N", type=int, default=2_000)
     parser.add_argument("--jobs", metavar="J", type=int, default=2)
+    parser.add_argument("--checks", action="store_true")
     given = parser.parse_args()
     old, new = given.old.resolve(), given.new.resolve()
+    commands = COMMANDS[:2] if given.checks else COMMANDS
     rows = [Text(it.stem, script_of(it)) for it in sorted(ROWS.glob("*.fault"))]
     texts = rows + drawn(given.seed, given.count)
 
     def compare(text: Text) -> list[tuple[Text, tuple[str, ...], object, tuple[object, bytes]]]:
-        return [(text, words, told(old, words, text.script), told(new, words, text.script)) for words in COMMANDS]
+        return [(text, words, told(old, words, text.script), told(new, words, text.script)) for words in commands]
 
     kinds: Counter[str] = Counter()
     compared = differ = 0

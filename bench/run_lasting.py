@@ -13,7 +13,7 @@ import sys
 import tempfile
 import time
 
-from run_pipe import PLANT, Run, expect_that, faults, free, unit
+from run_pipe import PLANT, Run, expect_that, faults, free, judged_over, unit
 from run_soak import memory
 
 SLOWEST = 0.1  # the longest that an answer may take, in seconds
@@ -62,7 +62,7 @@ def soak(program, folder, capacity, seconds):
     expect_that("no text ended by Full", "ended: full" not in err, err[-500:])
     expect_that("the slowest answer", slowest < SLOWEST, slowest)
     expect_that("memory", first is not None and last <= first + MOST_GROWN, (first, last))
-    done = subprocess.run([program, "audit", "--journal", file], input=sections(capacity).split("@list")[0].encode(), stdout=subprocess.PIPE, stderr=subprocess.PIPE)
+    done = subprocess.run([program, "audit", "--journal", file], input=judged_over(sections(capacity)), stdout=subprocess.PIPE, stderr=subprocess.PIPE)
     expect_that("the audit", done.stdout == f"legal {entries} entries\n".encode(), (done.stdout, done.stderr))
     os.remove(file)
 

@@ -25,6 +25,7 @@ import time
 
 TOP = os.path.dirname(os.path.dirname(os.path.abspath(__file__)))
 LIMIT = 60  # the longest that an answer may take, in seconds
+PAGE, PAGES = 50, 40  # the entries of a page, and how many pages are asked for at once
 NO_HANDLER = "warning: Int_3 has no handler\n"  # what is told before `raise 3` is answered `unattached`
 
 # A plant, and a task that makes a call at each tick until the call is denied: the units of a row of the gate.
@@ -78,6 +79,11 @@ def looper(name):
     return LOOPER.replace("Nav", name)
 
 
+def judged_over(script):
+    """What a journal in a file is judged over: the settings and the units of a script, without its list, which an audit refuses."""
+    return script.split("@list")[0].encode()
+
+
 class Run:
     """A run of the program with its input and output in hand."""
 
@@ -105,18 +111,33 @@ class Run:
         return self.line().rstrip("\n")
 
     def page(self, start):
-        """The lines of `journal START`; a command that answers at once tells where they end."""
-        self.send(f"journal {start}\nmark\n")
-        lines = []
-        while (line := self.line()) not in ("bad command\n", ""):
-            lines.append(line.rstrip("\n"))
-        return lines
+        """The lines of `journal START`."""
+        return self.shown([start])
+
+    def shown(self, starts):
+        """The lines of `journal START` for each of these; a command that answers at once tells where they end."""
+        self.send("".join(f"journal {start}\n" for start in starts) + "mark\n")
+        watch = threading.Timer(LIMIT, self.process.kill)
+        watch.start()
+        try:
+            lines = []
+            while (line := self.process.stdout.readline().decode()) not in ("bad command\n", ""):
+                lines.append(line.rstrip("\n"))
+            return lines
+        finally:
+            watch.cancel()
+
+    def pages(self, start):
+        """The entries of as many pages as are asked for at once, from this one on; none behind a gap, where the journal grew meanwhile."""
+        lines = self.shown(range(start, start + PAGES * PAGE, PAGE))
+        due = next((number for number, line in enumerate(lines) if not line.startswith(f"{start + number} ")), len(lines))
+        return lines[:due]
 
     def journal(self):
         """The journal so far."""
         lines = []
-        while page := self.page(len(lines) + 1):
-            lines += page
+        while pages := self.pages(len(lines) + 1):
+            lines += pages
         return lines
 
     def end(self, command="quit\n"):
@@ -537,7 +558,8 @@ def halt_below(program):
 
 def lasting(program):
     """With --lasting a journal goes on past its capacity, no text ends by Full, and FILE has all of it; without the flag the text ends."""
-    sections = "@host.toml\ncapacity = %d\nbudget = 1000000\n" + unit(PLANT) + unit(free("Bad")) + "@list\nallow * * *\n"
+    sections, crowded = ("@host.toml\ncapacity = %d\nbudget = 1000000\n" + unit(PLANT) + "".join(unit(free(name)) for name in names) + "@list\nallow * * *\n"
+                         for names in (("Bad",), ("Ann", "Ben", "Cat", "Dan")))
     with tempfile.TemporaryDirectory() as folder:
         for capacity in (64, 4096):
             file = os.path.join(folder, f"journal{capacity}")
@@ -557,12 +579,12 @@ def lasting(program):
                     expect_that("what is archived", given_up < upto < number, line)
                     given_up = upto
                 expect_that("the capacity", number - given_up <= capacity, line)
-            done = subprocess.run([program, "audit", "--explain", "--journal", file], input=(sections % capacity).encode(), stdout=subprocess.PIPE,
+            done = subprocess.run([program, "audit", "--explain", "--journal", file], input=judged_over(sections % capacity), stdout=subprocess.PIPE,
                                   stderr=subprocess.PIPE)
             expect_that("the audit of a run that lasts", done.stdout.startswith(f"legal {len(journal)} entries\n".encode()) and done.returncode == 0,
                         (done.stdout[-200:], done.stderr[-200:]))
-        least = least_capacity(program, folder, sections)
-        run = Run(program, sections % least + "@run\n", ("--lasting", "--journal", os.path.join(folder, "least")))
+        least = least_capacity(program, folder, crowded)
+        run = Run(program, crowded % least + "@run\n", ("--lasting", "--journal", os.path.join(folder, "least")))
         out, err, status = run.end()
         expect_that("the least capacity", out.startswith("entries ") and not err and status == 0, (out, err, status))
         run = Run(program, sections % 64 + "@run\n", ("--journal", os.path.join(folder, "short"), "--notes", "always"))
@@ -595,7 +617,7 @@ def killed_lasting(program, folder, script):
         time.sleep(time_to_go)
         run.process.kill()
         run.process.communicate()
-        done = subprocess.run([program, "audit", "--torn", "--journal", file], input=script.encode(), stdout=subprocess.PIPE, stderr=subprocess.PIPE)
+        done = subprocess.run([program, "audit", "--torn", "--journal", file], input=judged_over(script), stdout=subprocess.PIPE, stderr=subprocess.PIPE)
         expect_that(f"the audit of a run that was killed after {time_to_go} s", re.fullmatch(rb"legal \d+ entries\n", done.stdout), (done.stdout, done.stderr))
 
 

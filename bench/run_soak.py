@@ -175,10 +175,10 @@ class Soak:
         """Waits until the journal doesn't grow any more. Gives its lines from this one on."""
         lines, still = [], 0
         while still < 20:
-            page = self.run.page(start + len(lines))
-            still = 0 if page else still + 1
-            lines += page
-            if not page:
+            pages = self.run.pages(start + len(lines))
+            still = 0 if pages else still + 1
+            lines += pages
+            if not pages:
                 time.sleep(0.1)
         return lines
 
@@ -234,8 +234,9 @@ def judged(program, journal, texts):
 
 
 def all_went_on(journal, ticks):
-    """Each paced task acted to the end: it delayed to a time past so many ticks. Those that wait in the entry and on the
-    suspension object were woken to the end, too: in the last twentieth of the journal."""
+    """Each paced task acted to the end: it delayed to a time past so many ticks. So did those that wait: the one in the entry was woken
+    in the last twentieth of the journal, and the one on the suspension object behind the last Set_True. (Beside other work the ticks
+    may be over before most tasks have caught up.)"""
     last = {}
     for line in journal:
         if " delay " in line:
@@ -244,10 +245,11 @@ def all_went_on(journal, ticks):
     expect("tasks that delay", len(last), len(TEAMS) * TASKS - 2)
     for actor, until in last.items():
         expect_that(f"{actor} stalled", until > ticks, f"its last delay is to {until} of {ticks}")
-    for actor in ("A.T7", "B.T7"):
-        woken = [number for number, line in enumerate(journal, 1) if f" {actor} resume -> woken" in line]
-        expect_that(f"{actor} stalled", woken and woken[-1] > len(journal) * 19 // 20,
-                    f"it was woken {len(woken)} times, at last by entry {woken[-1:]} of {len(journal)}")
+    last_set = max((number for number, line in enumerate(journal, 1) if " C.T7 call P.R Set_True -> accepted" in line), default=len(journal))
+    for actor, due in (("A.T7", len(journal) * 19 // 20), ("B.T7", last_set)):
+        woken = [number for number, line in enumerate(journal, 1)
+                 if f" {actor} resume -> woken" in line or f" {actor} call P.R Suspend_Until_True -> accepted" in line]
+        expect_that(f"{actor} stalled", woken and woken[-1] > due, f"it was woken {len(woken)} times, at last by entry {woken[-1:]}, due behind {due} of {len(journal)}")
 
 
 def all_fired(journal, raised):
