@@ -19,7 +19,7 @@ PAGE = TOP / "docs" / "CLAIMS.md"
 WORDS = frozenset(
     "rt ci full done stopped unattached audit play check append load raise exit go in FROM deny allow run UNIT FILE None Ok Err Integer Interrupts "
     "remaining contents".split())
-CRATE = r"\b(rv_\w+|thread_rows|embedding|raven\w+)\b"
+CRATE = r"\b(rv_\w+|thread_rows|run_rows|embedding|raven\w+)\b"
 NAME = re.compile(r"[A-Za-z_]\w*(?:::[A-Za-z_]\w*)*")
 DECLARED_RT = (
     re.compile(r"\b(?:fn|struct|enum|trait|const|static|type|mod)\s+(\w+)"),

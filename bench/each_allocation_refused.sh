@@ -258,7 +258,7 @@ operation = "Get"
 calls = 1
 RAVEN
     # (the plant of a row of the gate)
-    sed '/^@list$/,$d' crates/thread_rows/data/lines_raised.run >>"$folder/manned.raven"
+    sed '/^@list$/,$d' crates/run_rows/data/lines_raised.run >>"$folder/manned.raven"
     cat >>"$folder/manned.raven" <<'RAVEN'
 @list
 allow * * *

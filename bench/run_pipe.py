@@ -29,7 +29,7 @@ PAGE, PAGES = 50, 40  # the entries of a page, and how many pages are asked for 
 NO_HANDLER = "warning: Int_3 has no handler\n"  # what is told before `raise 3` is answered `unattached`
 
 # A plant, and a task that makes a call at each tick until the call is denied: the units of a row of the gate.
-with open(os.path.join(TOP, "crates/thread_rows/data/right_taken_away_while_a_task_loops.run"), encoding="utf-8") as row:
+with open(os.path.join(TOP, "crates/run_rows/data/right_taken_away_while_a_task_loops.run"), encoding="utf-8") as row:
     PLANT, LOOPER = row.read().partition("@list\n")[0].split("@unit\n")[1:]
 
 # A unit that attaches a line.
