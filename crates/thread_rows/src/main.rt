@@ -15,10 +15,9 @@ use rv_crew::crew::Crew;
 use rv_crew::hiring::{HireFault, give_up, start};
 use rv_crew::job::{Job, NoDuty};
 use rv_port::port::{Finished, Port};
-use rv_unit::STACK_BYTES;
 use stage::hands::Hands;
+use std::io;
 use std::snapshot::Snapshot;
-use std::{io, thread};
 
 // The jobs of threads are boxed here, where the runtime is.
 fn main(rt: HostRuntime) -> io::Result<()> {
@@ -42,10 +41,5 @@ fn main(rt: HostRuntime) -> io::Result<()> {
     let hands = Hands {
         begin: Box::new(rt.alloc(), begin)?,
     };
-    // On a thread whose stack is as wide as that of `ravenhost`.
-    let wide = thread::Builder::new().stack_size(16 * STACK_BYTES);
-    match wide.spawn(&rt, move || crews::play_all(&rt, &hands)) {
-        Ok(thread) => thread.join(&rt),
-        Err(_) => Err(io::Error::from(io::ErrorKind::OutOfMemory)),
-    }
+    crews::play_all(&rt, &hands)
 }
