@@ -16,6 +16,7 @@ mod kept;
 mod least;
 mod notes;
 mod outsiders;
+mod reserve;
 mod room;
 mod spending;
 mod telling;

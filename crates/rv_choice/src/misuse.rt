@@ -16,6 +16,8 @@ pub enum Flag {
     HaltBelow,
     /// How many entries each unit may spend.
     Quota,
+    /// How many entries are kept for the operator's list changes.
+    OperatorRoom,
     /// How long the end of a run waits.
     Grace,
     /// When notes are told.
@@ -36,6 +38,7 @@ impl Flag {
             Flag::Tick => "--tick <MS>",
             Flag::HaltBelow => "--halt-below <N>",
             Flag::Quota => "--quota <N>",
+            Flag::OperatorRoom => "--operator-room <K>",
             Flag::Grace => "--grace <MS>",
             Flag::Notes => "--notes <WHEN>",
             Flag::Color => "--color <WHEN>",
@@ -49,7 +52,7 @@ impl Flag {
         match self {
             Flag::Sync => "each, second or never",
             Flag::Tick | Flag::Grace => "1 to 3600000",
-            Flag::HaltBelow | Flag::Quota => "1 to 1048576",
+            Flag::HaltBelow | Flag::Quota | Flag::OperatorRoom => "1 to 1048576",
             Flag::Notes | Flag::Color => "auto, always or never",
             Flag::Torn => "no word",
             Flag::Actor => "the name of a task, as Plant.Sensor, and of two pipes",
