@@ -77,8 +77,8 @@ fn number_of(word: Option<&str>, most: u32) -> Option<Option<u32>>
     }
 }
 
-// The same, by the word that a flag of this name was given.
-fn given_number<'a>(
+/// The same, by the word that a flag of this name was given.
+pub(crate) fn given_number<'a>(
     words: &ArgMatches<'a>,
     flag: Flag,
     name: &str,
