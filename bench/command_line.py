@@ -34,6 +34,7 @@ WORDED = {
     "--halt-below": ("N", "1 to 1048576", NUMBERS),
     "--quota": ("N", "1 to 1048576", NUMBERS),
     "--grace": ("MS", "1 to 3600000", ("0", "3600001", *NUMBERS[2:])),
+    "--rotate": ("MIB", "1 to 1048576", NUMBERS),
     "--notes": ("WHEN", "auto, always or never", ("x", "", "Auto", "al")),
     "--color": ("WHEN", "auto, always or never", ("blue", "", "NEVER")),
 }
@@ -187,6 +188,8 @@ def misuses(asked: Asked) -> None:
     is_told("'--lasting' needs '--journal <FILE>'", "run", "--lasting")
     is_told("'--lasting' goes without '--halt-below <N>'", "run", "--lasting", "--journal", "kept", "--halt-below", "9")
     is_told("'--lasting' goes without '--quota <N>'", "run", "--journal", "kept", "--quota", "9", "--lasting")
+    for flag, value in (("--rotate", "MIB"), ("--keep-units", "FILE"), ("--times", "FILE")):
+        is_told(f"'{flag} <{value}>' needs '--journal <FILE>'", "run", flag, "1")
     # (the first of several)
     wrong = {"--sync": "x", "--tick": "0", "--halt-below": "0", "--quota": "0", "--grace": "0", "--notes": "x", "--color": "x"}
     left = list(wrong)
