@@ -35,6 +35,7 @@ WORDED = {
     "--quota": ("N", "1 to 1048576", NUMBERS),
     "--operator-room": ("K", "1 to 1048576", NUMBERS),
     "--grace": ("MS", "1 to 3600000", ("0", "3600001", *NUMBERS[2:])),
+    "--rotate": ("MIB", "1 to 1048576", NUMBERS),
     "--notes": ("WHEN", "auto, always or never", ("x", "", "Auto", "al")),
     "--color": ("WHEN", "auto, always or never", ("blue", "", "NEVER")),
 }
@@ -193,6 +194,8 @@ def misuses(asked: Asked) -> None:
     is_told("'--quota <N>' needs '--explain'", "audit", "--journal", "nowhere", "--quota", "9")
     vain = asked.start("run", "--grace", "-5")
     asked.due("a number below 0", (vain.status, b"\n  tip: no flag takes a number below 0\n" in vain.err, b"use '--" in vain.err), (2, True, False))
+    for flag, value in (("--rotate", "MIB"), ("--keep-units", "FILE"), ("--times", "FILE")):
+        is_told(f"'{flag} <{value}>' needs '--journal <FILE>'", "run", flag, "1")
     # (the first of several)
     wrong = {"--sync": "x", "--tick": "0", "--halt-below": "0", "--quota": "0", "--operator-room": "0", "--grace": "0", "--notes": "x", "--color": "x"}
     left = list(wrong)

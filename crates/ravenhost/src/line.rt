@@ -5,6 +5,7 @@ use clap::Error;
 use clap::error::ErrorKind;
 use rv_choice::actors::{ActorWords, actors_of};
 use rv_choice::chosen::{Unchosen, chosen};
+use rv_choice::files::{FileWords, files_of, journals_of};
 use rv_choice::selection::Selection;
 use rv_fault::Failure;
 use rv_shown::Shown;
@@ -126,6 +127,30 @@ pub fn actors<'a, R: Print + Eprint>(
 ) -> Result<Vec<ActorWords<'a>>, Stop> {
     match actors_of(alloc, words) {
         Ok(actors) => Ok(actors),
+        Err(why) => Err(unchosen(rt, alloc, why)),
+    }
+}
+
+/// The files that a run writes beside its journal, by words that `choice` took.
+pub fn files<'a, R: Print + Eprint>(
+    rt: &R,
+    alloc: Global,
+    words: &'a [&'a str],
+) -> Result<FileWords<'a>, Stop> {
+    match files_of(alloc, words) {
+        Ok(files) => Ok(files),
+        Err(why) => Err(unchosen(rt, alloc, why)),
+    }
+}
+
+/// The files of the journal that is judged, by words that `choice` took.
+pub fn journals<'a, R: Print + Eprint>(
+    rt: &R,
+    alloc: Global,
+    words: &'a [&'a str],
+) -> Result<Vec<&'a str>, Stop> {
+    match journals_of(alloc, words) {
+        Ok(names) => Ok(names),
         Err(why) => Err(unchosen(rt, alloc, why)),
     }
 }

@@ -5,6 +5,7 @@ ghost use Rattle.rv_attend.specs.Going.{HurriesBy, terms};
 
 use crate::attention::Attention;
 use crate::explaining::Given;
+use crate::filing::Filed;
 use crate::reserve::Reserve;
 use crate::room::Room;
 use crossbeam_channel::Receiver;
@@ -33,6 +34,8 @@ pub struct Follower<'a, T, F> {
     pub outsiders: Vec<Outsider>,
     /// How long its end waits for threads, where that is asked.
     pub grace: Option<Grace>,
+    /// What is written beside the journal.
+    pub filed: Filed<F>,
     // How many threads were given up at its end.
     pub(crate) abandoned: usize,
     // What was given up of its journal, where the run lasts.
@@ -76,6 +79,7 @@ impl<'a, T, F> Follower<'a, T, F> {
             asked,
             outsiders: Vec::new(alloc),
             grace: None,
+            filed: Filed::none(),
             abandoned: 0,
             archive: Archive::new(0),
             units: 0,

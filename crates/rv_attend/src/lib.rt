@@ -4,6 +4,7 @@
 
 mod advising;
 mod archiving;
+mod asking;
 mod attention;
 mod beside;
 mod closing;
@@ -11,6 +12,7 @@ mod console;
 mod due;
 mod ending;
 mod explaining;
+mod filing;
 mod follower;
 mod kept;
 mod least;
@@ -27,5 +29,6 @@ mod waiting;
 
 pub use archiving::LASTING_BUDGET;
 pub use attention::{Attention, Typing};
+pub use filing::{Beside, Filed};
 pub use follower::Follower;
 pub use kept::run_kept;

@@ -1,7 +1,8 @@
 -- The command line (own): `play`, which may be given `--all`, `check`, which may be given `--script`, and `run`, which may be
 -- given `--journal FILE` and, with it, `--sync HOW`, `--halt-below N`, `--quota N`, `--tick MS`, `--stop-by PIPE`, `--console`,
--- `--end-status`, `--sections-end`, `--lasting` and, once or more, `--actor TASK=IN,OUT`, all three with `--no-explain` and `--warnings-are-errors`; and `audit`, which
--- may be given `--journal FILE` and, with it, `--torn`. Each may be given `--explain`, `--notes WHEN`, `--color WHEN` and the FILE of
+-- `--end-status`, `--sections-end`, `--lasting`, with `--journal` `--rotate MIB`, `--keep-units FILE` and `--times FILE`, and, once or more,
+-- `--actor TASK=IN,OUT`, all three with `--no-explain` and `--warnings-are-errors`; and `audit`, which may be given `--journal FILE`, once or
+-- more, and, with it, `--torn`. Each may be given `--explain`, `--notes WHEN`, `--color WHEN` and the FILE of
 -- its script.
 -- Beside them `manual`, which may be given the name of one of them. What words come to is what `clap` says of this command.
 use Rattle.std.specs.Prelude.{◌≡◌, ℕ, Bool, true, false, ◌&&◌, nat_le, nat_lt, if◌then◌else◌, List, [], ◌∷◌, Option, Some, None, is_some, codes, option_map, Result, Ok, Err}
@@ -116,12 +117,16 @@ lasting = with_rule hurried (flag_rule (codes "lasting"))
 abbrev pub acting : App
 acting = with_rule lasting (many_rule (codes "actor"))
 
-abbrev pub running : App
-running = with_file (with_color (with_notes acting))
+-- whose journal may stand in several files, and which may write its units, and when entries were written, into others
+abbrev pub filing : App
+filing = with_rule (with_rule (with_rule acting (value_rule (codes "rotate"))) (value_rule (codes "keep-units"))) (value_rule (codes "times"))
 
--- `audit`, which may be given the name of a file and a flag that goes with it, and how many entries each unit could spend
+abbrev pub running : App
+running = with_file (with_color (with_notes filing))
+
+-- `audit`, which may be given the names of files and a flag that goes with them, and how many entries each unit could spend
 abbrev pub judging : App
-judging = with_rule (with_rule (with_rule (new_app (codes "audit")) file_rule) (flag_rule (codes "torn"))) (value_rule (codes "quota"))
+judging = with_rule (with_rule (with_rule (new_app (codes "audit")) (many_rule (codes "journal"))) (flag_rule (codes "torn"))) (value_rule (codes "quota"))
 
 abbrev pub audited : App
 audited = with_file (with_color (with_rule (with_rule judging explain_rule) notes_rule))
