@@ -37,6 +37,8 @@ package body Ravenhost.Gates is
 
       procedure End_Body (Actor : Actor_Number; State : Body_State; Told : in out Answer; Came : out Kind);
 
+      procedure Go (Actor : Actor_Number; Told : in out Answer; Came : out Kind);
+
       procedure Delay_Until (Actor : Actor_Number; Tick : Interfaces.Integer_64; Told : in out Answer; Came : out Kind);
 
       procedure Finish (Actor : Actor_Number; Told : in out Answer; Came : out Kind);
@@ -114,6 +116,12 @@ package body Ravenhost.Gates is
          end loop;
          Ring_All;
       end End_Body;
+
+      procedure Go (Actor : Actor_Number; Told : in out Answer; Came : out Kind) is
+      begin
+         Came := Go (The_Host, Actor, Told);
+         Note (Actor, Came);
+      end Go;
 
       procedure Delay_Until (Actor : Actor_Number; Tick : Interfaces.Integer_64; Told : in out Answer; Came : out Kind) is
       begin
@@ -197,6 +205,15 @@ package body Ravenhost.Gates is
    begin
       Perform (Actor_Number (Line + 1), (True, Line), State, Runs, Told, Came);
    end Fire;
+
+   procedure Go (Actor : Interfaces.C.size_t; Told : in out Answer; Came : out Kind) is
+   begin
+      loop
+         Gate.Go (Actor, Told, Came);
+         exit when Came /= Busy and then Came /= Waiting;
+         Suspend_Until_True (Rings (Actor));
+      end loop;
+   end Go;
 
    procedure Delay_Until
      (Actor : Interfaces.C.size_t; Tick : Interfaces.Integer_64; Told : in out Answer; Came : out Kind)

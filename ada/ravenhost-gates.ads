@@ -68,6 +68,11 @@ package Ravenhost.Gates is
       Came  : out Kind)
      with Pre => Interfaces.C.size_t (Line) < Last_Actor;
 
+   --  One request of the actor's text (rh_go), and what comes of it: a request that finds its object busy, or waits, is asked again once that may
+   --  end. Came is Misuse where the text has nothing to ask.
+   procedure Go (Actor : Interfaces.C.size_t; Told : in out Answer; Came : out Kind)
+     with Pre => Actor <= Last_Actor;
+
    --  Waits until a time in ticks, which Tick moves: Accepted, Woken, or what kept the delay out.
    procedure Delay_Until
      (Actor : Interfaces.C.size_t; Tick : Interfaces.Integer_64; Told : in out Answer; Came : out Kind)

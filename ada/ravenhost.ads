@@ -137,6 +137,11 @@ package Ravenhost is
    procedure Free (Made : in out Host)
      with Import, Convention => C, External_Name => "rh_free";
 
+   function Load_Unit
+     (Of_Host : in out Host; Unit : Interfaces.C.char_array; Length : Interfaces.C.size_t; Told : in out Text) return Kind
+     with Import, Convention => C, External_Name => "rh_load_unit",
+          Pre => Unit'Length > 0 and then Length <= Unit'Length and then Told.Bytes /= System.Null_Address;
+
    function Load_Shape
      (Of_Host : in out Host; Shape : Interfaces.C.char_array; Length : Interfaces.C.size_t; Told : in out Text) return Kind
      with Import, Convention => C, External_Name => "rh_load_shape",
@@ -226,6 +231,9 @@ package Ravenhost is
 
    function Finish (Of_Host : in out Host; Actor : Interfaces.C.size_t; Told : in out Answer) return Kind
      with Import, Convention => C, External_Name => "rh_finish";
+
+   function Go (Of_Host : in out Host; Actor : Interfaces.C.size_t; Told : in out Answer) return Kind
+     with Import, Convention => C, External_Name => "rh_go";
 
    function Fire (Of_Host : in out Host; Line : Interfaces.Unsigned_32; Told : in out Answer) return Kind
      with Import, Convention => C, External_Name => "rh_fire";

@@ -7,6 +7,7 @@ saw that the documents don't allow, and ends with 1 then. Needs nothing but Pyth
     bench/actors.py --kills N [PROGRAM]        so often processes are killed or stopped, or one asks on and reads nothing
     bench/actors.py --round-trips N [PROGRAM]  seconds of so many requests by pipes, beside as many through two bare FIFOs
 """
+import fcntl
 import os
 import re
 import signal
@@ -32,6 +33,7 @@ package body Late is
 end Late;
 """
 SECOND = 1.0  # the longest that `quit` may take
+PIPE_BYTES = 1031  # F_SETPIPE_SZ of Linux, of which Python 3.9 has no name
 
 
 def script():
@@ -201,13 +203,21 @@ def ends(program, folder):
         flood(one)
         ended(run, "a process that reads nothing")
 
+    def reads_slowly(run, one, journal):
+        fcntl.fcntl(one.replies, PIPE_BYTES, 4096)
+        one.tell(b"clock\n" * 2000)
+        for _ in range(20):
+            expect("a reply that is read late", one.reply(), "returned 1")
+            time.sleep(0.01)
+        ended(run, "a process that reads slowly")
+
     def end_of_input(run, one, journal):
         one.tell("call Plant.Tank Moved")
         until("the call", lambda: has_line(journal, QUEUED))
         ended(run, "the end of input", command="")
         expect("a call that is open then", one.reply(), "stopped")
 
-    for number, way in enumerate((open_at_quit, idle, dies, dies_waiting, no_text, no_line_feed, reads_nothing, end_of_input)):
+    for number, way in enumerate((open_at_quit, idle, dies, dies_waiting, no_text, no_line_feed, reads_nothing, reads_slowly, end_of_input)):
         place = os.path.join(folder, str(number))
         os.mkdir(place)
         run, (pipes,), journal = started(program, place, (ACTUATOR,))

@@ -7,12 +7,17 @@
 # - each of its allocations is refused in turn, and four threads call it at the same time;
 # - sizes and offsets of the header are held against what the exports read and write;
 # - ada/tell.adb says the same of the rows, where gnatmake is;
-# - each row that is played without settings, unit texts and faults goes through a handle too, call by call, and its journal is the row's;
+# - each row that is played without settings and faults goes through a handle too, call by call, its texts by rh_load_unit and rh_go, and
+#   its journal is the row's;
 # - each call of a handle gives what is due, with each allocation refused in turn; what is refused changes nothing;
-# - examples/c_host and examples/ada_host print their journal, and examples/c_plant and examples/ada_plant run 20 times, their journals legal;
-# - sizes and offsets of the Ada package are the header's.
+# - examples/c_host and examples/ada_host print their journal; examples/c_plant, ada_plant, c_texts and ada_texts run 20 times, their journals
+#   legal;
+# - sizes and offsets of the Ada package are the header's;
+# - each row is played, or judged, with its allocations refused in turn, and by a handle too;
+# - the library that is built in another folder, over the same proved crates, has the same bytes.
+# With the word `instructions` it counts those of a step through the library beside those of Host::step: that proves and builds rv_bench.
 # Statuses: 0 as due, 1 something isn't, 2 the library can't be built, 127 a tool is missing. Needs rt, make, cc, ar, nm, pkg-config,
-# awk and cmp.
+# awk and cmp; for `instructions` valgrind and what rv_bench needs.
 set -u
 export LC_ALL=C
 
@@ -42,6 +47,7 @@ holds() {
     fi
 }
 
+: >"$folder/refusals"
 echo "building the library"
 make -C "$top/include" PREFIX="$folder/installed" install >"$folder/built" 2>&1 || {
     tail -n 20 "$folder/built"
@@ -83,8 +89,9 @@ ulimit -s 1048576 2>/dev/null || ulimit -s "$(ulimit -H -s)" 2>/dev/null || echo
 
 cat >"$folder/by_handle.c" <<'END'
 /*
- * Plays a script without unit texts, settings and bodies through a handle, and prints the journal. A step that no call can ask, as a
- * tick that a task asks for, is left out: its answer is misuse, which no journal has.
+ * Plays a script without settings through a handle, and prints the journal. A step that no call can ask, as a tick that a task asks for,
+ * is left out: its answer is misuse, which no journal has. Then it plays it again with each of its allocations refused in turn, where a
+ * call that finds memory wanting is made once more: the journal has to be the same. Of more than 400 allocations it refuses 400.
  */
 #define _POSIX_C_SOURCE 200809L
 #include <ctype.h>
@@ -110,6 +117,27 @@ static void stop(const char *what, int32_t got)
     fprintf(stderr, "by_handle: %s: %ld\n", what, (long)got);
     exit(1);
 }
+
+/* How many allocations are still made before one is refused, and how many there were. */
+static long left = -1, made = 0;
+
+void *__real_malloc(size_t size);
+void *__real_realloc(void *at, size_t size);
+void *__wrap_malloc(size_t size);
+void *__wrap_realloc(void *at, size_t size);
+
+static int is_refused(void)
+{
+    made++;
+    return left >= 0 && left-- == 0;
+}
+void *__wrap_malloc(size_t size) { return is_refused() ? NULL : __real_malloc(size); }
+void *__wrap_realloc(void *at, size_t size) { return is_refused() ? NULL : __real_realloc(at, size); }
+
+/* A call, made once more where memory was refused to it. */
+static int32_t once;
+static int32_t same(int32_t kind) { return kind; }
+#define AGAIN(call) ((once = (call)) == RH_OUT_OF_MEMORY ? (call) : same(once))
 
 static void split(char *line, struct words *words)
 {
@@ -159,7 +187,7 @@ static void call(size_t actor, const struct words *words, rh_answer *answer)
     rh_target target;
     if (rh_find_target(&host, words->at[2], strlen(words->at[2]), words->at[3], strlen(words->at[3]), &target) != RH_DONE)
         stop("an unknown operation", RH_UNKNOWN_NAME);
-    rh_call(&host, actor, target, values, count, answer);
+    AGAIN(rh_call(&host, actor, target, values, count, answer));
 }
 
 static uint32_t exit_of(const struct words *words, size_t at)
@@ -182,7 +210,7 @@ static void end(size_t actor, const struct words *words, rh_answer *answer)
     uint32_t exit = exit_of(words, at);
     if (exit == RH_RETURN)
         value_count = values_of(words, at + 1, values);
-    rh_end(&host, actor, scalars, count, exit, values, value_count, answer);
+    AGAIN(rh_end(&host, actor, scalars, count, exit, values, value_count, answer));
 }
 
 /* What the operator alone asks. Gives whether it was that. */
@@ -193,17 +221,17 @@ static int order(const char *line, const struct words *words)
     long long number = words->count > 2 ? strtoll(words->at[2], NULL, 10) : 0;
     if (strcmp(deed, "tick") == 0) {
         if (number >= 0 && number <= 0xffffffffLL)
-            rh_tick(&host, (uint32_t)number);
+            AGAIN(rh_tick(&host, (uint32_t)number));
     } else if (strcmp(deed, "halt") == 0)
-        rh_halt(&host);
+        AGAIN(rh_halt(&host));
     else if (strcmp(deed, "archive") == 0)
-        rh_archive(&host, (size_t)number);
+        AGAIN(rh_archive(&host, (size_t)number));
     else if (strcmp(deed, "append") == 0)
-        rh_append_line(&host, behind(line, 2), strlen(behind(line, 2)), &told);
+        AGAIN(rh_append_line(&host, behind(line, 2), strlen(behind(line, 2)), &told));
     else if (strcmp(deed, "remove") == 0)
-        rh_remove_line(&host, number < 0 ? 0 : (size_t)number);
+        AGAIN(rh_remove_line(&host, number < 0 ? 0 : (size_t)number));
     else if (strcmp(deed, "replace") == 0)
-        rh_replace_line(&host, number < 0 ? 0 : (size_t)number, behind(line, 3), strlen(behind(line, 3)), &told);
+        AGAIN(rh_replace_line(&host, number < 0 ? 0 : (size_t)number, behind(line, 3), strlen(behind(line, 3)), &told));
     else
         return 0;
     return 1;
@@ -216,7 +244,7 @@ static void step(const char *line)
     struct words words;
     rh_answer answer = {0};
     size_t actor;
-    long raised;
+    long raised, count;
     const char *deed;
     if (strlen(line) >= sizeof copy)
         stop("a long line", 0);
@@ -233,27 +261,32 @@ static void step(const char *line)
     else if (strcmp(deed, "end") == 0)
         end(actor, &words, &answer);
     else if (strcmp(deed, "settle") == 0)
-        rh_settle(&host, actor, &answer);
+        AGAIN(rh_settle(&host, actor, &answer));
     else if (strcmp(deed, "resume") == 0)
-        rh_resume(&host, actor, &answer);
+        AGAIN(rh_resume(&host, actor, &answer));
     else if (strcmp(deed, "delay") == 0)
-        rh_delay_until(&host, actor, strtoll(words.at[2], NULL, 10), &answer);
+        AGAIN(rh_delay_until(&host, actor, strtoll(words.at[2], NULL, 10), &answer));
     else if (strcmp(deed, "clock") == 0)
-        rh_clock(&host, actor, &answer);
+        AGAIN(rh_clock(&host, actor, &answer));
     else if (strcmp(deed, "finish") == 0)
-        rh_finish(&host, actor, &answer);
+        AGAIN(rh_finish(&host, actor, &answer));
     else if (strcmp(deed, "fire") == 0 && raised >= 0)
-        rh_fire(&host, (uint32_t)raised, &answer);
+        AGAIN(rh_fire(&host, (uint32_t)raised, &answer));
+    else if (strcmp(deed, "go") == 0)
+        for (count = words.count > 2 ? strtol(words.at[2], NULL, 10) : 1; count > 0; count--)
+            AGAIN(rh_go(&host, actor, &answer));
 }
 
 /* Carries out a section, whose text ends before the next. */
 static void section(const char *opening, char *text)
 {
     rh_text told = rh_text_over(room, sizeof room);
-    if (strncmp(opening, "@shape", 6) == 0)
-        rh_load_shape(&host, text, strlen(text), &told);
+    if (strncmp(opening, "@unit", 5) == 0)
+        AGAIN(rh_load_unit(&host, text, strlen(text), &told));
+    else if (strncmp(opening, "@shape", 6) == 0)
+        AGAIN(rh_load_shape(&host, text, strlen(text), &told));
     else if (strncmp(opening, "@list", 5) == 0)
-        rh_set_list(&host, text, strlen(text), &told);
+        AGAIN(rh_set_list(&host, text, strlen(text), &told));
     else
         while (*text != '\0') {
             char *end = strchr(text, '\n');
@@ -264,32 +297,31 @@ static void section(const char *opening, char *text)
         }
 }
 
-static void print_journal(void)
+/* Reads the journal into a buffer. Gives how long it is. */
+static size_t journal(char *lines, size_t capacity)
 {
-    size_t from, next = 1;
+    size_t from, next = 1, length = 0;
     do {
         rh_text told = rh_text_over(room, sizeof room);
         from = next;
-        if (rh_journal(&host, from, &next, &told) != RH_DONE || told.length > told.capacity)
+        if (AGAIN(rh_journal(&host, from, &next, &told)) != RH_DONE || told.length > told.capacity || told.length > capacity - length)
             stop("the journal", 0);
-        fwrite(room, 1, told.length, stdout);
+        memcpy(lines + length, room, told.length);
+        length += told.length;
     } while (next > from);
+    return length;
 }
 
-int main(int argc, char **argv)
+/* Plays a script, and reads the journal that comes of it. */
+static size_t play(char *script, char *lines, size_t capacity)
 {
-    static char script[1 << 24];
-    FILE *file = argc == 2 ? fopen(argv[1], "rb") : NULL;
     char *at = script, *text, *next, opening;
-    int32_t made;
-    if (file == NULL)
-        return 2;
-    script[fread(script, 1, sizeof script - 1, file)] = '\0';
-    fclose(file);
+    size_t length;
+    int32_t got;
     host = rh_none();
-    made = rh_create(CAPACITY, 1, &host);
-    if (made != RH_DONE)
-        stop("no host", made);
+    got = AGAIN(rh_create(CAPACITY, 1, &host));
+    if (got != RH_DONE)
+        stop("no host", got);
     while (*at == '@') {
         text = strchr(at, '\n');
         text = text == NULL ? at + strlen(at) : text + 1;
@@ -301,16 +333,111 @@ int main(int argc, char **argv)
         *next = opening;
         at = next;
     }
-    print_journal();
+    length = journal(lines, capacity);
     rh_free(&host);
+    return length;
+}
+
+int main(int argc, char **argv)
+{
+    static char script[1 << 22], copy[1 << 22], due[1 << 20], lines[1 << 20];
+    FILE *file = argc == 2 ? fopen(argv[1], "rb") : NULL;
+    size_t size, length;
+    long count, number, step;
+    if (file == NULL)
+        return 2;
+    size = fread(script, 1, sizeof script - 1, file);
+    script[size] = '\0';
+    fclose(file);
+    length = play(strcpy(copy, script), due, sizeof due);
+    fwrite(due, 1, length, stdout);
+    count = made;
+    step = count / 400 + 1;
+    for (number = 0; number < count; number += step) {
+        left = number;
+        if (play(strcpy(copy, script), lines, sizeof lines) != length || memcmp(lines, due, length) != 0)
+            stop("another journal where this allocation is refused", (int32_t)number);
+        if (left >= 0)
+            stop("this allocation isn't there", (int32_t)number);
+    }
     return 0;
 }
 END
 # The capacity is that of a script without settings.
 capacity=$(sed -n 's/^default_capacity = //p' "$top/crates/rv_settings/specs/Settings.antt")
 # shellcheck disable=SC2046,SC2086 # flags
-holds "by_handle.c builds" cc $strict -g $checks "-DCAPACITY=$capacity" "$folder/by_handle.c" \
+holds "by_handle.c builds" cc $strict -g $checks "-DCAPACITY=$capacity" -Wl,--wrap=malloc -Wl,--wrap=realloc "$folder/by_handle.c" \
     $(pkg-config --cflags --libs ravenhost) -o "$folder/by_handle"
+
+cat >"$folder/refused.c" <<'END'
+/*
+ * Plays or audits a script with each of its allocations refused in turn, of more than 400 with 400: each call says that memory is
+ * wanting, and tells nothing, or tells all that is due.
+ */
+#include <ravenhost.h>
+#include <stdio.h>
+#include <stdlib.h>
+#include <string.h>
+
+static long left = -1, made = 0;
+
+void *__real_malloc(size_t size);
+void *__real_realloc(void *at, size_t size);
+void *__wrap_malloc(size_t size);
+void *__wrap_realloc(void *at, size_t size);
+
+static int is_refused(void)
+{
+    made++;
+    return left >= 0 && left-- == 0;
+}
+void *__wrap_malloc(size_t size) { return is_refused() ? NULL : __real_malloc(size); }
+void *__wrap_realloc(void *at, size_t size) { return is_refused() ? NULL : __real_realloc(at, size); }
+
+static int32_t told_of(int is_audit, const char *script, size_t size, rh_text *told)
+{
+    return is_audit ? rh_audit(script, size, told) : rh_play(script, size, 1, told);
+}
+
+int main(int argc, char **argv)
+{
+    static char script[1 << 24], due[1 << 22], room[1 << 22];
+    FILE *file = argc == 3 ? fopen(argv[2], "rb") : NULL;
+    int is_audit = argc == 3 && strcmp(argv[1], "audit") == 0;
+    rh_text told = rh_text_over(due, sizeof due), other;
+    long count, number, wanting = 0, tried = 0;
+    int32_t status, got;
+    size_t size;
+    if (file == NULL)
+        return 2;
+    size = fread(script, 1, sizeof script, file);
+    fclose(file);
+    status = told_of(is_audit, script, size, &told);
+    count = made;
+    for (number = 0; number < count; number += count / 400 + 1, tried++) {
+        left = number;
+        other = rh_text_over(room, sizeof room);
+        got = told_of(is_audit, script, size, &other);
+        if (left >= 0)
+            return fprintf(stderr, "allocation %ld isn't there\n", number), 1;
+        if (got == RH_NO_MEMORY ? other.length > 0
+                                : got != status || other.length != told.length || other.fault != told.fault
+                                      || memcmp(room, due, told.length < sizeof room ? told.length : sizeof room) != 0)
+            return fprintf(stderr, "allocation %ld is refused: status %ld\n", number, (long)got), 1;
+        wanting += got == RH_NO_MEMORY;
+    }
+    printf("%ld %ld %ld\n", count, tried, wanting);
+    return 0;
+}
+END
+# shellcheck disable=SC2046,SC2086 # flags
+holds "refused.c builds" cc $strict -g $checks -Wl,--wrap=malloc -Wl,--wrap=realloc "$folder/refused.c" \
+    $(pkg-config --cflags --libs ravenhost) -o "$folder/refused"
+
+# A row with its allocations refused in turn; what came of it is added to a file.
+refuse_row() {
+    "$folder/refused" "$2" "$folder/script" >>"$folder/refusals" 2>"$folder/err" || fault "$2 $1, allocations refused: $(head -c 300 "$folder/err")"
+}
 
 # A script of a row: as it is, or grown from lines `TIMES LINE`.
 script_of() {
@@ -372,7 +499,7 @@ else
     echo "gnatmake isn't here: ada/ravenhost.ads isn't tried"
 fi
 
-played=0 judged=0 texts=0 handled=0
+played=0 judged=0 texts=0 handled=0 gone=0
 : >"$folder/nothing"
 for path in "$rows"/*.raven "$rows"/*.grown; do
     name=${path##*/} name=${name%.*}
@@ -388,16 +515,22 @@ for path in "$rows"/*.raven "$rows"/*.grown; do
         play_row "$name"
         played=$((played + 1)) deed=play
         ! grep -q '^@unit' "$folder/script" || texts=$((texts + 1))
-        if ! grep -q -e '^@unit' -e '^@host' -e '^@[^sl]' -e '^@s[^ht]' "$folder/script" && [ ! -s "$folder/due_fault" ] \
-            && ! grep -q -E '^[A-Za-z0-9_.]+[[:blank:]]+go([[:blank:]]|$)' "$folder/script"; then
+        # A task behind a handle may make a million requests, in a script without settings a thousand.
+        if ! grep -q -e '^@host' -e '^@[^slu]' -e '^@s[^ht]' "$folder/script" && [ ! -s "$folder/due_fault" ] \
+            && ! grep -q -E '^[A-Za-z0-9_.]+[[:blank:]]+go[[:blank:]]+[0-9]{4,}' "$folder/script"; then
             told "by a handle $name" 0 "$folder/due_journal" "$folder/nothing" "$folder/by_handle" "$folder/script"
             handled=$((handled + 1))
+            ! grep -q '^@unit' "$folder/script" || gone=$((gone + 1))
         fi
     fi
     [ -z "$tell" ] || ada_row "$name" $deed
+    refuse_row "$name" $deed
 done
-echo "rows: $played played, of them $texts with texts, $handled by a handle too, and $judged judged"
-if [ "$played" = 0 ] || [ "$judged" = 0 ] || [ "$handled" = 0 ]; then
+echo "rows: $played played, of them $texts with texts, $handled by a handle too, $gone of these with texts, and $judged judged"
+awk '{ made += $1; tried += $2; wanting += $3; all += $1 == $2 }
+    END { print "rows with each allocation refused in turn: " all " of " NR "; " tried " of " made " refused, " wanting " told as memory that is wanting" }' \
+    "$folder/refusals"
+if [ "$played" = 0 ] || [ "$judged" = 0 ] || [ "$handled" = 0 ] || [ "$gone" = 0 ]; then
     fault "there are rows of all kinds"
 fi
 
@@ -627,6 +760,53 @@ static void layout(void)
     rh_free(&handle.host);
 }
 
+/* Units with texts: a task fills a tank until that is full, by rh_go, and its bodies are those of the texts. */
+static void texts(void)
+{
+    static const char tank[] =
+        "package Plant is\n   protected Tank with Priority => 20 is\n      procedure Fill (N : in Integer; Full : out Boolean);\n"
+        "   private\n      Level : Integer range 0 .. 100 := 0;\n   end Tank;\nend Plant;\n"
+        "package body Plant is\n   protected body Tank is\n      procedure Fill (N : in Integer; Full : out Boolean) is\n"
+        "      begin\n         Level := Level + N;\n         Full := Level > 50;\n      end Fill;\n   end Tank;\nend Plant;\n";
+    static const char filler[] =
+        "with Plant;\npackage Nav is\n   task Filler;\nend Nav;\npackage body Nav is\n   task body Filler is\n      Full : Boolean;\n"
+        "   begin\n      loop\n         Plant.Tank.Fill (30, Full);\n         exit when Full;\n      end loop;\n   end Filler;\nend Nav;\n";
+    static const char done[] =
+        "1 operator load Plant -> accepted 0\n"
+        "2 operator load Nav -> accepted 0\n"
+        "3 operator list [allow Nav Plant.Tank *] -> accepted 0\n"
+        "4 Nav.Filler call Plant.Tank Fill 30 -> started\n"
+        "5 Nav.Filler end 30 : return 0 -> done\n"
+        "6 Nav.Filler call Plant.Tank Fill 30 -> started\n"
+        "7 Nav.Filler end 60 : return 1 -> done\n"
+        "8 Nav.Filler finish -> accepted 0\n";
+    static char lines[4096];
+    rh_text told = rh_text_over(lines, sizeof lines);
+    rh_answer answer = {0};
+    size_t actor = 0, next = 1;
+    host = rh_none();
+    DUE(RH_DONE, rh_create(100, 1, &host));
+    DUE(RH_ACCEPTED, rh_load_unit(&host, tank, sizeof tank - 1, &told));
+    DUE(RH_ACCEPTED, rh_load_unit(&host, filler, sizeof filler - 1, &told));
+    DUE(RH_ACCEPTED, rh_set_list(&host, "allow Nav Plant.Tank *\n", 23, &told));
+    if (left < 0) {
+        DUE(RH_BAD_TEXT, rh_load_unit(&host, "package", 7, &told));
+        check(told.length > 0, "why a unit text is bad", (long)told.length);
+        DUE(RH_MISUSE, rh_go(&host, 5, &answer));
+    }
+    DUE(RH_DONE, rh_find_actor(&host, "Nav.Filler", 10, &actor));
+    DUE(RH_STARTED, rh_go(&host, actor, &answer));
+    DUE(RH_ENDED, rh_go(&host, actor, &answer));
+    DUE(RH_STARTED, rh_go(&host, actor, &answer));
+    DUE(RH_ENDED, rh_go(&host, actor, &answer));
+    DUE(RH_ACCEPTED, rh_go(&host, actor, &answer));
+    DUE(RH_MISUSE, rh_go(&host, actor, &answer));
+    told = rh_text_over(lines, sizeof lines);
+    DUE(RH_DONE, rh_journal(&host, 1, &next, &told));
+    check(told.length == strlen(done) && memcmp(lines, done, told.length) == 0, "the journal of texts", (long)told.length);
+    rh_free(&host);
+}
+
 /* An archive gives the places of the first entries back, and their lines are told no more. */
 static void archives(void)
 {
@@ -656,11 +836,13 @@ int main(void)
     long number = 0;
     int more = 1;
     run();
+    texts();
     layout();
     archives();
     while (more && faults == 0) {
         left = number++;
         run();
+        texts();
         more = left < 0;
         left = -1;
     }
@@ -688,6 +870,14 @@ holds "examples/c_plant builds by its own Makefile" make -C "$folder/c_plant" CF
 printf 'the sensor filled 500 times, and the display was refused\nthe journal is legal\n' >"$folder/due_plant"
 for _ in $(seq 20); do
     told "examples/c_plant" 0 "$folder/due_plant" "$folder/nothing" timeout 60 "$folder/c_plant/out/c_plant"
+done
+
+cp -r "$top/examples/c_texts" "$folder/c_texts"
+rm -rf "$folder/c_texts/out"
+holds "examples/c_texts builds by its own Makefile" make -C "$folder/c_texts" CFLAGS="-g $checks"
+printf 'the feeder filled 50 times, and the drain took all of it\nthe journal is legal\n' >"$folder/due_texts"
+for _ in $(seq 20); do
+    told "examples/c_texts" 0 "$folder/due_texts" "$folder/nothing" timeout 60 "$folder/c_texts/out/c_texts"
 done
 
 if [ -n "$tell" ]; then
@@ -778,6 +968,11 @@ END
         '$top/examples/ada_plant/ada_plant.adb' -largs '$library'"
     for _ in $(seq 20); do
         told "examples/ada_plant" 0 "$folder/due_plant" "$folder/nothing" timeout 60 "$folder/ada/ada_plant"
+    done
+    holds "examples/ada_texts builds" sh -c "cd '$folder/ada' && gnatmake -q -gnat12 -gnatwae -I'$top/ada' -I'$top/examples/ada_texts' \
+        '$top/examples/ada_texts/ada_texts.adb' -largs '$library'"
+    for _ in $(seq 20); do
+        told "examples/ada_texts" 0 "$folder/due_texts" "$folder/nothing" timeout 60 "$folder/ada/ada_texts"
     done
 fi
 
@@ -936,6 +1131,73 @@ holds "buffers.c builds" cc $strict -g $checks -pthread -Wl,--wrap=malloc -Wl,--
 holds "buffers of no byte, of one, of fewer, of just as many, of more; refused allocations; calls at once; sizes and offsets" \
     "$folder/buffers"
 tail -n 1 "$folder/said"
+
+# The same library from another folder, over the same proved crates.
+other=$bench/out/c_library
+rm -rf "$other"
+mkdir -p "$other/crates"
+trap 'rm -rf "$folder" "$other"' EXIT
+for crate in "$top"/crates/*; do copy_crate "$crate" "$other/crates"; done
+cp -r "$top/HANDLES" "$top/crates.txt" "$top/include" "$other/"
+rm -rf "$other/include/out"
+holds "the library is built in another folder" make -C "$other/include"
+holds "the archive's checksum is the same from both folders" cmp "$other/include/out/libravenhost.a" "$top/include/out/libravenhost.a"
+
+if [ "${1-}" = instructions ]; then
+    needs valgrind python3
+    cat >"$folder/step.c" <<'END'
+/* So many calls of a function with their ends through the library, on the plant of bench/rv_bench's `step`. */
+#include <ravenhost.h>
+#include <stdlib.h>
+#include <string.h>
+
+static char shape[4096] = "unit U1\ntask Pilot 15\n";
+
+int main(int argc, char **argv)
+{
+    static const char *const objects[] = {"O1", "O2", "O3", "O4"};
+    long count = argc == 2 ? strtol(argv[1], NULL, 10) : 0;
+    rh_host host = rh_none();
+    rh_text told = rh_text_over(NULL, 0);
+    rh_answer answer = {0};
+    rh_target get;
+    size_t pilot, object;
+    int64_t none = 0;
+    for (object = 0; object < 4; object++) {
+        int number;
+        strcat(strcat(strcat(shape, "protected "), objects[object]), " 20\nscalar 0 100 0\nfunction Get 0 100\n");
+        for (number = 1; number < 16; number++) {
+            char name[] = "procedure P00 in 0 100\n";
+            name[11] = (char)('0' + number / 10);
+            name[12] = (char)('0' + number % 10);
+            strcat(shape, name);
+        }
+    }
+    if (rh_create(1048576, 1, &host) != RH_DONE || rh_load_shape(&host, shape, strlen(shape), &told) != RH_ACCEPTED
+        || rh_set_list(&host, "allow * * *\n", 12, &told) != RH_ACCEPTED || rh_find_actor(&host, "U1.Pilot", 8, &pilot) != RH_DONE
+        || rh_find_target(&host, "U1.O1", 5, "Get", 3, &get) != RH_DONE)
+        return 1;
+    for (; count > 0; count--)
+        if (rh_call(&host, pilot, get, &none, 0, &answer) != RH_STARTED
+            || rh_end(&host, pilot, &none, 0, RH_RETURN, &none, 1, &answer) != RH_ENDED)
+            return 1;
+    rh_free(&host);
+    return 0;
+}
+END
+    # shellcheck disable=SC2046,SC2086 # flags
+    holds "step.c builds" cc $strict -O2 "$folder/step.c" $(pkg-config --cflags --libs ravenhost) -o "$folder/step"
+    holds "step.c calls" "$folder/step" 10
+    build_beside rv_bench step 10
+    # counted WORD..: the instructions that a program takes.
+    counted() {
+        valgrind --tool=callgrind --callgrind-out-file=/dev/null "$@" 2>&1 >"$folder/out" | sed -n 's/.*Collected : //p'
+    }
+    by_c=$(($(counted "$folder/step" 3000) - $(counted "$folder/step" 1000)))
+    by_step=$(($(counted "$program" step 3000) - $(counted "$program" step 1000)))
+    echo "instructions of a step: $((by_c / 4000)) through the library, $((by_step / 4000)) by Host::step:" \
+        "$((by_c * 100 / by_step)) hundredths (aim: 115)"
+fi
 
 if [ $faults -gt 0 ]; then
     echo "$faults aren't as due"

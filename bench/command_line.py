@@ -220,7 +220,7 @@ def manuals(asked: Asked) -> None:
         seen = asked.start(*words)
         asked.due(f"{words}", (seen.status, seen.out, seen.err.startswith(b"error: ")), (2, b"", True))
     full = subprocess.run(["bash", "-c", '"$0" manual >/dev/full', str(asked.program)], capture_output=True, timeout=SECONDS, check=False)
-    asked.due("manual on a full disk", (full.returncode, full.stderr), (4, b"ravenhost: No space left on device (os error 28)\n"))
+    asked.due("manual on a full disk", (full.returncode, full.stderr), (4, b"ravenhost: standard output: No space left on device (os error 28)\n"))
     none = asked.start()
     asked.due("no subcommand", (none.status, none.out, none.err), (2, b"", (USAGE / "none").read_bytes()))
 

@@ -3,26 +3,46 @@ import pathlib
 import re
 import subprocess
 import sys
+import time
+from concurrent.futures import ThreadPoolExecutor
 
 import trial
 
 TOP, PROGRAM = pathlib.Path(sys.argv[1]), sys.argv[2]
 ROWS = TOP / "crates" / "rv_rows" / "data"
+LIMIT = 60  # the longest that a program may take for one script, in seconds
+JOBS = 2
+SLOWEST = 3  # of how many scripts it is told how long they took
 
 
 def rows():
-    """The names of the rows that are played without a fault, and have the text of a unit."""
+    """The names of the rows that are played without a fault, and have the text of a unit. (One that is only checked, whole, goes on
+    without end where it is played.)"""
     for script in sorted(ROWS.glob("*.raven")):
-        others = [script.with_suffix(suffix) for suffix in (".said", ".verdict", ".fault")]
+        others = [script.with_suffix(suffix) for suffix in (".said", ".verdict", ".fault", ".whole")]
         if not any(other.exists() for other in others) and b"\n@unit" in b"\n" + script.read_bytes():
             yield script.stem
 
 
+def asked(words, script):
+    """What the program writes for one script, or that it was too slow, and how long it took."""
+    begun = time.monotonic()
+    try:
+        said = subprocess.run([PROGRAM, *words], input=script, capture_output=True, timeout=LIMIT).stdout
+    except subprocess.TimeoutExpired:
+        said = b"no end in %d s\n" % LIMIT
+    return said, time.monotonic() - begun
+
+
 def played(scripts, *words):
     """What the program writes for each of these scripts."""
-    if PROGRAM:
-        return {name: subprocess.run([PROGRAM, *words], input=script, capture_output=True).stdout for name, script in scripts.items()}
-    return trial.written(scripts, words, 3000)
+    if not PROGRAM:
+        return trial.written(scripts, words, 3000)
+    with ThreadPoolExecutor(JOBS) as pool:
+        found = dict(zip(scripts, pool.map(lambda script: asked(words, script), scripts.values())))
+    slowest = sorted(found, key=lambda name: -found[name][1])[:SLOWEST]
+    print(f"{' '.join(words)}, {len(found)} scripts, the slowest: " + ", ".join(f"{name} {found[name][1]:.1f} s" for name in slowest), flush=True)
+    return {name: said for name, (said, _) in found.items()}
 
 
 def audited(script, journal):

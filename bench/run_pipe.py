@@ -78,6 +78,11 @@ def looper(name):
     return LOOPER.replace("Nav", name)
 
 
+def judged_over(script):
+    """What a journal in a file is judged over: the settings and the units of a script, without its list, which an audit refuses."""
+    return script.split("@list")[0].encode()
+
+
 class Run:
     """A run of the program with its input and output in hand."""
 
@@ -557,7 +562,7 @@ def lasting(program):
                     expect_that("what is archived", given_up < upto < number, line)
                     given_up = upto
                 expect_that("the capacity", number - given_up <= capacity, line)
-            done = subprocess.run([program, "audit", "--explain", "--journal", file], input=(sections % capacity).encode(), stdout=subprocess.PIPE,
+            done = subprocess.run([program, "audit", "--explain", "--journal", file], input=judged_over(sections % capacity), stdout=subprocess.PIPE,
                                   stderr=subprocess.PIPE)
             expect_that("the audit of a run that lasts", done.stdout.startswith(f"legal {len(journal)} entries\n".encode()) and done.returncode == 0,
                         (done.stdout[-200:], done.stderr[-200:]))
@@ -595,7 +600,7 @@ def killed_lasting(program, folder, script):
         time.sleep(time_to_go)
         run.process.kill()
         run.process.communicate()
-        done = subprocess.run([program, "audit", "--torn", "--journal", file], input=script.encode(), stdout=subprocess.PIPE, stderr=subprocess.PIPE)
+        done = subprocess.run([program, "audit", "--torn", "--journal", file], input=judged_over(script), stdout=subprocess.PIPE, stderr=subprocess.PIPE)
         expect_that(f"the audit of a run that was killed after {time_to_go} s", re.fullmatch(rb"legal \d+ entries\n", done.stdout), (done.stdout, done.stderr))
 
 

@@ -10,7 +10,8 @@
  * What is proved of hosts, as the contracts of the exports (crates/rv_c_export, over crates/rv_c_host/specs):
  * - An answer is the one that is due to the request on the history behind the handle, and that history goes on by it and no more. So
  *   all that is proved of a host holds (docs/CLAIMS.md, 'The eight promises').
- * - An answer below 0 changes nothing; nor does a text that is refused.
+ * - An answer below 0 changes no entry; nor does a text that is refused. Where memory is refused nothing at all is changed.
+ * - A unit's bodies are those of its text, and rh_go asks what the meaning of the actor's body asks next, by what it was answered.
  * - Of the components of an answer those that it has are written, and the others stay as they were.
  * - No call asks more of a handle than that it is the caller's own: a call on one without a host is RH_NO_HOST.
  *
@@ -134,7 +135,7 @@ enum {
     RH_OUT_OF_MEMORY = -8,
     RH_NO_HOST = -9,      /* the handle is to none */
     RH_HAS_HOST = -10,    /* the handle is to one already */
-    RH_BAD_TEXT = -11,    /* the text is no shape, list or line: rh_text says why */
+    RH_BAD_TEXT = -11,    /* the text is no unit, shape, list or line: rh_text says why */
     RH_BAD_REQUEST = -12, /* more than 4 values or 32 components, or an exit of no number */
     RH_UNKNOWN_NAME = -13,
     RH_BAD_LIMIT = -14    /* a capacity outside 16 .. 1,048,576, or a limit of queues outside 1 .. 8 */
@@ -183,7 +184,12 @@ int32_t rh_create(size_t capacity, size_t queue_limit, rh_host *host);
 /* Lets the host go, if there is one. The handle is to none then. */
 void rh_free(rh_host *host);
 
-/* Loads the shape that a text is (docs/SCRIPTS.md, `@shape`), by the operator. Where the answer isn't RH_ACCEPTED, told may say why. */
+/*
+ * Loads the unit that an Ada text is (docs/UNITS.md), with its bodies, by the operator; or the shape that a text is, without any
+ * (docs/SCRIPTS.md, `@shape`). Where the answer isn't RH_ACCEPTED, told may say why. A unit text is read on the caller's stack, as far
+ * down as it nests: see RH_STACK_BYTES.
+ */
+int32_t rh_load_unit(rh_host *host, const char *text, size_t length, rh_text *told);
 int32_t rh_load_shape(rh_host *host, const char *text, size_t length, rh_text *told);
 
 /* Sets the access list whole, by a text (docs/SCRIPTS.md, `@list`); adds one line at its end; puts one in the place of that of a
@@ -221,6 +227,15 @@ int32_t rh_resume(rh_host *host, size_t actor, rh_answer *answer);
 int32_t rh_settle(rh_host *host, size_t actor, rh_answer *answer);
 int32_t rh_clock(rh_host *host, size_t actor, rh_answer *answer);
 int32_t rh_finish(rh_host *host, size_t actor, rh_answer *answer);
+
+/*
+ * One request of the actor's text: what `go` of a script asks. A task's text is its body; that of a line, whose actor has the number line
+ * + 1, is its handler's body, which rh_fire or rh_go starts. A machine runs it from one call to the next, calls and bodies of operations
+ * included, in memory that the first call behind a load takes; it needs no stack. RH_MISUSE where the text has nothing to ask: there is
+ * none, it has ended, or it has made a million requests. RH_BUSY and RH_WAITING are asked again. Each answer that a text goes on by is
+ * kept as long as the host is, in some 300 bytes. RH_HALTED and RH_FULL end the text; any other answer below 0 leaves it where it was.
+ */
+int32_t rh_go(rh_host *host, size_t actor, rh_answer *answer);
 
 /* An interrupt of a line, 0 .. 9, whose actor has the number line + 1. A delay until a time in ticks. */
 int32_t rh_fire(rh_host *host, uint32_t line, rh_answer *answer);

@@ -127,6 +127,19 @@ static inline int32_t rh_port_call(rh_plant *plant, size_t actor, rh_target targ
     return kind;
 }
 
+/* One request of the actor's text (rh_go), which is asked again while its object is busy or it waits. RH_MISUSE where it has none. */
+static inline int32_t rh_port_go(rh_plant *plant, size_t actor, rh_answer *answer)
+{
+    int32_t kind;
+    pthread_mutex_lock(&plant->lock);
+    while ((kind = rh_go(&plant->host, actor, answer)) == RH_BUSY || kind == RH_WAITING)
+        pthread_cond_wait(&plant->changed, &plant->lock);
+    if (kind == RH_ENDED || kind == RH_ACCEPTED)
+        pthread_cond_broadcast(&plant->changed);
+    pthread_mutex_unlock(&plant->lock);
+    return kind;
+}
+
 /* Waits until a time in ticks, which rh_tick moves. RH_ACCEPTED, RH_WOKEN, or what kept the delay out. */
 static inline int32_t rh_port_delay(rh_plant *plant, size_t actor, int64_t tick, rh_answer *answer)
 {

@@ -1,10 +1,10 @@
 #!/usr/bin/env python3
 """Compares what bodies do in `ravenhost play` with what they do in an Ada program that GNAT compiles.
 
-    compare.py [--bodies N] [--seed S] [--keep FOLDER] [--try]
+    compare.py [--bodies N] [--seed S] [--keep FOLDER] [--program PATH] [--try]
 
-Draws N bodies (500 where it isn't given), each called several times. Without --try the built program plays the scripts; with it
-`rt try` does, before any proof. Statuses: 0 no call differs, 1 one does, 2 usage, 127 a tool is missing.
+Draws N bodies (500 where it isn't given), each called several times. The built program plays the scripts, or the one of a PATH; with
+--try `rt try` does, before any proof. Statuses: 0 no call differs, 1 one does, 2 usage, 127 a tool is missing.
 """
 
 import argparse
@@ -50,10 +50,10 @@ def compiled(units, folder):
     return run([str(sources / "compared")], folder, timeout=600).splitlines()
 
 
-def played(scripts, folder, by_try):
+def played(scripts, folder, program, by_try):
     """The journals of scripts."""
     if not by_try:
-        return [run([str(TOP / "ravenhost"), "play"], folder, input=script) for script in scripts]
+        return [run([str(program), "play"], folder, input=script) for script in scripts]
     journals = trial.written({f"script_{number}": script.encode() for number, script in enumerate(scripts)}, ["play"], 300)
     return ["\n".join(journals[f"script_{number}"].decode().splitlines()) for number in range(len(scripts))]
 
@@ -71,10 +71,11 @@ def without_overruns(due, given):
 
 
 def main():
-    parser = argparse.ArgumentParser(usage="gnat_bodies.sh [--bodies N] [--seed S] [--keep FOLDER] [--try]")
+    parser = argparse.ArgumentParser(usage="gnat_bodies.sh [--bodies N] [--seed S] [--keep FOLDER] [--program PATH] [--try]")
     parser.add_argument("--bodies", type=int, default=500)
     parser.add_argument("--seed", type=int, default=1)
     parser.add_argument("--keep", type=Path)
+    parser.add_argument("--program", type=Path, default=TOP / "ravenhost")
     parser.add_argument("--try", dest="by_try", action="store_true")
     given = parser.parse_args()
     for tool in ("gnatmake", "gnatchop", *(("rt",) if given.by_try else ())):
@@ -86,7 +87,7 @@ def main():
         folder.mkdir(parents=True, exist_ok=True)
         due = compiled(units, folder)
         groups = [units[start : start + UNITS_OF_A_SCRIPT] for start in range(0, len(units), UNITS_OF_A_SCRIPT)]
-        journals = played([programs.script(group) for group in groups], folder, given.by_try)
+        journals = played([programs.script(group) for group in groups], folder, given.program.absolute(), given.by_try)
     said = [line for journal in journals for line in programs.lines_of_journal(journal)]
     sys.exit(tell(due, said))
 

@@ -28,6 +28,17 @@ pub struct AuditedFile<'a> {
     pub is_watched: bool,
 }
 
+/// Stops where it is said how many entries each unit could spend, and no end is explained, by which alone that is asked.
+pub fn unless_idle<R: Eprint>(rt: &R, explains: bool, allowance: Option<u32>) -> Result<(), Stop> {
+    if explains || allowance.is_none() {
+        return Ok(());
+    }
+    let _ = eprintln!(rt;
+        "error: '--quota <N>' needs '--explain'\n\nFor more information, try '--help'."
+    );
+    Err(Stop::Usage)
+}
+
 // What is told of a journal.
 fn unless_legal(is_legal: bool) -> Result<(), Stop> {
     if is_legal {

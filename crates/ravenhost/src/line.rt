@@ -16,9 +16,24 @@ use std::{env, io};
 // What stands below what is wrong with a command line, as clap has it.
 const HINT: &str = "\n\nFor more information, try '--help'.\n";
 
+// Whether a line tells how a number below 0 could be given, which no flag takes.
+fn is_vain_tip(line: &str) -> bool {
+    match line.strip_prefix("  tip: to pass '-") {
+        Some(rest) => rest
+            .as_bytes()
+            .first()
+            .is_some_and(|byte| byte.is_ascii_digit()),
+        None => false,
+    }
+}
+
 // Writes lines to standard error, as they are shown: words of the command line stand in them.
 fn tell_shown<R: Eprint>(rt: &R, text: &str) {
     for line in text.split_inclusive('\n') {
+        if is_vain_tip(line) {
+            let _ = eprintln!(rt; "  tip: no flag takes a number below 0");
+            continue;
+        }
         let _ = match line.strip_suffix('\n') {
             Some(front) => {
                 let shown = Shown { text: front };

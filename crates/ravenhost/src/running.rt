@@ -138,6 +138,17 @@ fn told_of<R: Wait + Clock + Eprint>(
     told_before(rt, alloc, telling, &mut ahead)
 }
 
+// How many list changes the operator has room for where units have a quota, unless that is said.
+const OPERATOR_ROOM: u32 = 64;
+
+// How many have their room kept; none without a quota, since units may then fill the journal.
+fn room_of(words: &RunWords<'_>) -> Option<u32> {
+    match words.quota {
+        Some(_) => Some(words.operator_room.unwrap_or(OPERATOR_ROOM)),
+        None => None,
+    }
+}
+
 // What is asked of an attended run.
 fn attention_of(words: &RunWords<'_>, telling: Telling, terminals: Terminals) -> Attention {
     let typing = if terminals.input {
@@ -148,6 +159,7 @@ fn attention_of(words: &RunWords<'_>, telling: Telling, terminals: Terminals) ->
     Attention {
         period: words.tick.map(|millis| millis as u64),
         quota: words.quota,
+        operator_room: room_of(words),
         halt_below: words.halt_below,
         grace: words.grace,
         lasting: words.lasting,
@@ -242,16 +254,27 @@ where
     }
 }
 
-// Stops where a run that is to last has no file for its journal, or is to end as that fills.
-fn unless_unfit<R: Eprint>(rt: &R, words: &RunWords<'_>) -> Result<(), Stop> {
+// What a run that is to last lacks, or can't have: it needs a file for its journal, and doesn't end as that fills.
+fn unfit_lasting(words: &RunWords<'_>) -> Option<&'static str> {
     if !words.lasting {
-        return Ok(());
+        return None;
     }
-    let unfit = match (words.kept, words.halt_below) {
-        (None, _) => "'--lasting' needs '--journal <FILE>'",
-        (_, Some(_)) => "'--lasting' goes without '--halt-below <N>'",
-        _ if words.quota.is_some() => "'--lasting' goes without '--quota <N>'",
-        _ => return Ok(()),
+    match (words.kept, words.halt_below) {
+        (None, _) => Some("'--lasting' needs '--journal <FILE>'"),
+        (_, Some(_)) => Some("'--lasting' goes without '--halt-below <N>'"),
+        _ if words.quota.is_some() => Some("'--lasting' goes without '--quota <N>'"),
+        _ => None,
+    }
+}
+
+// Stops where the flags of a run don't go together.
+fn unless_unfit<R: Eprint>(rt: &R, words: &RunWords<'_>) -> Result<(), Stop> {
+    let unfit = match unfit_lasting(words) {
+        Some(unfit) => unfit,
+        None if words.operator_room.is_some() && words.quota.is_none() => {
+            "'--operator-room <K>' needs '--quota <N>'"
+        }
+        None => return Ok(()),
     };
     let _ = eprintln!(rt; "error: {unfit}\n\nFor more information, try '--help'.");
     Err(Stop::Usage)

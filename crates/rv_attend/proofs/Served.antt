@@ -21,12 +21,12 @@ use Rattle.rv_run.specs.declared.outputs.KeptFailure.{KeptFailure}
 use Rattle.rv_attend.specs.Attending.{AttendedAll, AttendedBy, AttendedIf, AttendedOne, AttendedUpTo, Attends, EndsFor, EndsOut, GoesAttended, Point, ServesHeard, ServesSo}
 use Rattle.rv_attend.specs.Again.{AskedAgain, InVain, with_control}
 use Rattle.rv_attend.specs.Chores.{Chores}
-use Rattle.rv_attend.specs.Going.{CommandComes, HaltIsDue, Terms, entries_seen}
+use Rattle.rv_attend.specs.Going.{CommandComes, IsLow, Terms, entries_seen}
 use Rattle.rv_attend.specs.Holding.{HeedsTo, Holding, IsPlain, attended, point_of, state_of}
 use Rattle.rv_attend.specs.KeepingRuns.{Stands}
 use Rattle.rv_attend.specs.Lasting.{GoesFor, Halts}
 use Rattle.rv_attend.proofs.Chores.{no_chores}
-use Rattle.rv_attend.proofs.GoingOn.{halt_seen}
+use Rattle.rv_attend.proofs.GoingOn.{low_seen}
 use Rattle.rv_attend.proofs.Growing.{starts_later}
 use Rattle.rv_attend.proofs.Lasted.{next_grown, up_to_lasts}
 use Rattle.rv_attend.proofs.Unread.{next_none}
@@ -173,10 +173,10 @@ ends_out : {C : Type 0} (holds : C → Holding) (terms : Terms) (opened : Filed)
 ends_out holds terms opened m u same hears kept why = record { hears = hears; why = by_why why }
   where
     by_why : Halts (state_of holds m) (state_of holds u) ⊎ IsStopped (holds u.chores).told
-        → HaltIsDue terms (entries_seen u.stage.staff.control) m.stage.staff.control u.stage.staff.control ⊎ IsStopped (holds u.chores).told
+        → IsLow terms (entries_seen u.stage.staff.control) ⊎ IsStopped (holds u.chores).told
     by_why (inl due) =
-        inl (subst (λ (t : Terms). HaltIsDue t (entries_seen u.stage.staff.control) m.stage.staff.control u.stage.staff.control) same
-        (halt_seen (holds u.chores).terms opened (holds u.chores).file m.stage.staff.control u.stage.staff.control (holds u.chores).next kept due))
+        inl (subst (λ (t : Terms). IsLow t (entries_seen u.stage.staff.control)) same
+        (low_seen (holds u.chores).terms opened (holds u.chores).file u.stage.staff.control (holds u.chores).next kept due))
     by_why (inr stopped) = inr stopped
 
 if_on : {C : Type 0} (holds : C → Holding) (terms : Terms) (opened : Filed) (m u n : Moment C) (tended result : Result Goes KeptFailure)

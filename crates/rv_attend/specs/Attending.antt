@@ -11,7 +11,7 @@ use Rattle.rv_staff.specs.Saying.{Known}
 use Rattle.rv_staff.specs.Staffs.{Staffed}
 use Rattle.rv_attend.specs.Again.{ServesAgain}
 use Rattle.rv_attend.specs.Chores.{Chores, ChoresIn}
-use Rattle.rv_attend.specs.Going.{CommandComes, HaltIsDue, Terms, entries_seen}
+use Rattle.rv_attend.specs.Going.{CommandComes, IsLow, Terms, entries_seen}
 use Rattle.rv_run.specs.Beside.{Ended, IsOfRun}
 use Rattle.rv_run.specs.Finishing.{Served}
 use Rattle.rv_run.specs.ServingLines.{ServesNext, most_commands}
@@ -67,10 +67,10 @@ pub record ServesHeard (lasting : Bool) (first between last : Point) (result : R
   pub told : last.told ≡ between.told
   pub unread : result ≡ Ok On → last.stage.left ≡ between.stage.left
 
--- The run ends, since a halt is due by the journal as far as the operator has seen it, or since it was ended from outside.
+-- The run ends, since the journal has too little room as far as the operator has seen it, or since it was ended from outside.
 pub record EndsOut (terms : Terms) (first last : Point) : Type 0 where
   pub hears : HearsOn first.heard last.heard first.stage.input last.stage.input
-  pub why : HaltIsDue terms (entries_seen last.stage.staff.control) first.stage.staff.control last.stage.staff.control ⊎ IsStopped last.told
+  pub why : IsLow terms (entries_seen last.stage.staff.control) ⊎ IsStopped last.told
 
 -- it ends; or it fails, of which no more is said
 abbrev pub EndsFor : Terms → Point → Point → Result Goes KeptFailure → Type 0

@@ -1,5 +1,5 @@
 pub mod Ticking
-pub mod Rooming
+pub mod Reserving
 pub mod Chores
 pub mod Going
 pub mod Again

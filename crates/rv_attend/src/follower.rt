@@ -6,6 +6,7 @@ ghost use Rattle.rv_attend.specs.Going.{HurriesBy, terms};
 use crate::attention::Attention;
 use crate::explaining::Given;
 use crate::filing::Filed;
+use crate::reserve::Reserve;
 use crate::room::Room;
 use crossbeam_channel::Receiver;
 use rv_console::Console;
@@ -44,6 +45,8 @@ pub struct Follower<'a, T, F> {
     // The ticks that a real clock makes due, once it is looked at.
     pub(crate) pace: Option<Pace>,
     pub(crate) room: Room,
+    // What is kept for the operator's list changes.
+    pub(crate) reserve: Reserve,
     // What is shown a person, where there is a console.
     pub(crate) console: Console,
     // What threads tell of their ends, where notes are told.
@@ -82,6 +85,7 @@ impl<'a, T, F> Follower<'a, T, F> {
             units: 0,
             pace: None,
             room: Room::new(alloc, &asked),
+            reserve: Reserve::new(),
             console: Console::new(alloc, asked.columns),
             notices: None,
             given: Given::new(alloc),

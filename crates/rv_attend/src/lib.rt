@@ -18,6 +18,7 @@ mod kept;
 mod least;
 mod notes;
 mod outsiders;
+mod reserve;
 mod room;
 mod spending;
 mod telling;

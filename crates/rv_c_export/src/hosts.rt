@@ -1,18 +1,15 @@
 //! The calls of a host behind its handle, as `rv_c_host` has them.
 
-ghost use Rattle.std.specs.Prelude.{◌≡◌, ◌≢◌, ◌+◌, pos, None, Some, IsSome, MatchOption, length, if◌then◌else◌};
+ghost use Rattle.std.specs.Prelude.{◌≡◌, ◌≢◌, pos, None, IsSome, MatchOption};
 ghost use Rattle.rv_access.specs.declared.change.Change.TheVariants as Changes;
-ghost use Rattle.rv_event.specs.Past.{halted};
-ghost use Rattle.rv_event.specs.declared.entry.Request.TheVariants.{Archive, Clock, DelayUntil, Fire, Halt, Quit, Resume, Settle, Tick};
-ghost use Rattle.rv_history.specs.History.{version};
-ghost use Rattle.rv_history.specs.Legal as legal;
-ghost use Rattle.rv_history.specs.Limits.{limits_with};
-ghost use Rattle.rv_history.specs.Owed.{room};
-ghost use Rattle.rv_history.specs.declared.command.Command.TheVariants as Commands;
+ghost use Rattle.rv_event.specs.declared.entry.Request.TheVariants.{Archive, Clock, DelayUntil, Halt, Quit, Resume, Settle, Tick};
 ghost use Rattle.rv_c_host.specs.Asked as asked;
-ghost use Rattle.rv_c_host.specs.Asked.{Asks, AsksIf, Orders};
+ghost use Rattle.rv_c_host.specs.Asked.{Asks, AsksIf, FiresLine, GoesOn, Orders};
 ghost use Rattle.rv_c_host.specs.Carried.{Carries, FindsActor, FindsTarget, ReadsLine, ReadsList, ReadsShape, TellsWords};
+ghost use Rattle.rv_c_host.specs.Made.{IsNew};
 ghost use Rattle.rv_c_host.specs.Numbers.{has_host, no_host};
+ghost use Rattle.rv_c_host.specs.States.{state};
+ghost use Rattle.rv_c_unit.specs.Units.{LoadsText};
 ghost use Rattle.rv_c_journal.specs.Journals.{Journals};
 ghost use Rattle.rv_c_host.specs.declared.reading.Read.{Read};
 ghost use Rattle.rv_c_host.specs.declared.reading.Read.TheVariants.{Do};
@@ -26,7 +23,7 @@ use std::alloc::Global;
 /// As `rv_c_host::create`.
 #[unsafe(no_mangle)]
 pub extern "C" fn rh_create(alloc: Global, capacity: usize, limit: usize, host: &mut Handle) -> i32
-    ensures made { result ≡ pos 0 → host.new.value ≡ Some (legal.empty (limits_with capacity limit)) }
+    ensures made { result ≡ pos 0 → IsNew capacity limit host.new.value }
     ensures none { result ≡ pos 0 → host.old.value ≡ None }
     ensures other { result ≢ pos 0 → host.new.value ≡ host.old.value }
     ensures held { IsSome host.old.value → result ≡ has_host }
@@ -40,6 +37,20 @@ pub extern "C" fn rh_free(alloc: Global, host: &mut Handle)
     ensures { host.new.value ≡ None }
 {
     rv_c_host::free(alloc, host);
+}
+
+/// As `rv_c_unit::load_unit`.
+#[unsafe(no_mangle)]
+pub extern "C" fn rh_load_unit(
+    alloc: Global,
+    host: &mut Handle,
+    text: &[u8],
+    told: &mut Text<'_>,
+) -> i32
+    ensures loads { LoadsText text.now host.old.value host.new.value result }
+    ensures words { TellsWords told.old told.new }
+{
+    rv_c_unit::load_unit(alloc, host, text, told)
 }
 
 /// As `rv_c_host::load_shape`.
@@ -102,7 +113,7 @@ pub extern "C" fn rh_replace_line(
 /// As `rv_c_host::remove_line`.
 #[unsafe(no_mangle)]
 pub extern "C" fn rh_remove_line(alloc: Global, host: &mut Handle, number: usize) -> i32
-    ensures { Carries (Do (Commands.Change (Changes.Remove number))) host.old.value host.new.value result }
+    ensures { Carries (Do (Changes.Remove number)) host.old.value host.new.value result }
 {
     rv_c_host::remove_line(alloc, host, number)
 }
@@ -223,12 +234,20 @@ pub extern "C" fn rh_finish(alloc: Global, host: &mut Handle, actor: usize, told
     rv_c_host::plain(alloc, host, actor, &Request::Quit, told)
 }
 
-/// An interrupt of a line, whose actor's number is one above its own.
+/// As `rv_c_host::fire`.
 #[unsafe(no_mangle)]
 pub extern "C" fn rh_fire(alloc: Global, host: &mut Handle, line: u32, told: &mut Told) -> i32
-    ensures { Asks (line + 1) Fire host.old.value host.new.value told.old told.new result }
+    ensures { FiresLine line host.old.value host.new.value told.old told.new result }
 {
-    rv_c_host::plain(alloc, host, line as usize + 1, &Request::Fire, told)
+    rv_c_host::fire(alloc, host, line, told)
+}
+
+/// As `rv_c_host::go`.
+#[unsafe(no_mangle)]
+pub extern "C" fn rh_go(alloc: Global, host: &mut Handle, actor: usize, told: &mut Told) -> i32
+    ensures { GoesOn actor host.old.value host.new.value told.old told.new result }
+{
+    rv_c_host::go(alloc, host, actor, told)
 }
 
 /// A delay until a time in ticks.
@@ -264,8 +283,7 @@ pub extern "C" fn rh_journal(
 #[unsafe(no_mangle)]
 pub extern "C" fn rh_state_of(alloc: Global, host: &mut Handle, told: &mut State) -> i32
     ensures state { MatchOption host.old.value ((told.new ≡ told.old) × (result ≡ no_host))
-        (λ h. (told.new ≡ record { used = length h.past; room = room h; version = version h; halted = if halted h.past then 1 else 0 })
-        × (result ≡ pos 0)) }
+        (λ k. (told.new ≡ state k.host) × (result ≡ pos 0)) }
     ensures same { host.new.value ≡ host.old.value }
 {
     rv_c_host::state_of(alloc, host, told)

@@ -1,1 +1,2 @@
 mod Unrecorded
+mod Coming

@@ -9,48 +9,56 @@ use Rattle.rv_access.specs.declared.fault.ListFault.{ListFault}
 use Rattle.rv_event.specs.declared.entry.Answer.{Answer}
 use Rattle.rv_event.specs.declared.entry.Answer.TheVariants.{OutOfMemory}
 use Rattle.rv_history.specs.History.{History}
-use Rattle.rv_history.specs.Steps.{IsAnswer, after_command}
-use Rattle.rv_history.specs.declared.command.Command.{Command}
-use Rattle.rv_history.specs.declared.command.Command.TheVariants as Commands
+use Rattle.rv_history.specs.Steps.{MayLackMemory, after_change, due_change}
+use Rattle.rv_code.specs.Bodies.{without_bodies}
+use Rattle.rv_code.specs.BodyView.{unit_view}
+use Rattle.rv_kept.specs.Keeping.{Loads}
+use Rattle.rv_kept.specs.declared.kept.Kept.{Kept}
 use Rattle.rv_shape.specs.Names.{object_number, operation_number, task_number}
-use Rattle.rv_shape.specs.Shape.{Shape}
 use Rattle.rv_shape.specs.ShapeText.{shape_of}
 use Rattle.rv_text.specs.Words.{words}
 use Rattle.rv_c_text.specs.Laid.{Gets}
 use Rattle.rv_c_text.specs.declared.text.Text.{Text}
 use Rattle.rv_c_host.specs.Numbers.{kind_of, no_host, bad_text, unknown_name}
 use Rattle.rv_c_host.specs.declared.reading.Read.{Read}
-use Rattle.rv_c_host.specs.declared.reading.Read.TheVariants.{Do, Bad, Memory}
+use Rattle.rv_c_host.specs.declared.reading.Read.TheVariants.{Bring, Do, Bad, Memory}
 use Rattle.rv_c_host.specs.declared.target.Target.{Target}
 
--- a text is read as the load of the shape that it is; one that is told to be bad is none, or isn't UTF-8
+-- a text is read as the unit that is the shape of it alone; one that is told to be bad is none, or isn't UTF-8
 abbrev pub ReadsShape : List ℕ → Read → Type 0
-ReadsShape text (Do command) = (shape : Shape) × (shape_of text ≡ Some shape) × (command ≡ Commands.Load shape)
+ReadsShape text (Bring unit) = (shape_of text ≡ Some unit.shape) × (unit_view unit.bodies ≡ without_bodies unit.shape)
+ReadsShape text (Do change) = ⊥
 ReadsShape text (Bad told) = IsUtf8 text → shape_of text ≡ None
 ReadsShape text Memory = ⊤
 
 -- a text is read as the change to the whole list that it is
 abbrev pub ReadsList : List ℕ → Read → Type 0
-ReadsList text (Do command) = (list : List Words) × (list_of text ≡ Ok list) × (command ≡ Commands.Change (Whole list))
+ReadsList text (Bring unit) = ⊥
+ReadsList text (Do change) = (list : List Words) × (list_of text ≡ Ok list) × (change ≡ Whole list)
 ReadsList text (Bad told) = IsUtf8 text → (fault : ListFault) × (list_of text ≡ Err fault)
 ReadsList text Memory = ⊤
 
 -- a text is read as this change by the one line that it is
 abbrev pub ReadsLine : (Words → Change) → List ℕ → Read → Type 0
-ReadsLine change text (Do command) = (line : Words) × (line_of 1 (words text) ≡ Ok line) × (command ≡ Commands.Change (change line))
+ReadsLine change text (Bring unit) = ⊥
+ReadsLine change text (Do read) = (line : Words) × (line_of 1 (words text) ≡ Ok line) × (read ≡ change line)
 ReadsLine change text (Bad told) = IsUtf8 text → (fault : ListFault) × (line_of 1 (words text) ≡ Err fault)
 ReadsLine change text Memory = ⊤
 
--- a command gets an answer that it may get from the host of this history, whose history goes on by it; what is none changes nothing
-abbrev pub Performs : Read → History → Option History → ℤ → Type 0
-Performs (Do command) h new status =
-    (answer : Answer) × IsAnswer h command answer × (new ≡ Some (after_command h command answer)) × (status ≡ kind_of answer)
-Performs (Bad told) h new status = (new ≡ Some h) × (status ≡ bad_text)
-Performs Memory h new status = (new ≡ Some h) × (status ≡ kind_of OutOfMemory)
+-- What was read is carried out: a unit is loaded, with its bodies; a change of the list gets an answer that it may get, and the history
+-- goes on by it. What is none changes nothing.
+abbrev pub Performs : Read → Kept → Option Kept → ℤ → Type 0
+Performs (Bring unit) k new status =
+    (answer : Answer) × (now : Kept) × (new ≡ Some now) × Loads unit.shape (unit_view unit.bodies) k now answer × (status ≡ kind_of answer)
+Performs (Do change) k new status =
+    (answer : Answer) × MayLackMemory (due_change k.host change) answer × (new ≡ Some (record k { host = after_change k.host change answer }))
+    × (status ≡ kind_of answer)
+Performs (Bad told) k new status = (new ≡ Some k) × (status ≡ bad_text)
+Performs Memory k new status = (new ≡ Some k) × (status ≡ kind_of OutOfMemory)
 
--- what was read is carried out, on the history behind a handle, if there is one
-abbrev pub Carries : Read → Option History → Option History → ℤ → Type 0
-Carries read old new status = MatchOption old ((new ≡ old) × (status ≡ no_host)) (λ h. Performs read h new status)
+-- what was read is carried out, on the host behind a handle, if there is one
+abbrev pub Carries : Read → Option Kept → Option Kept → ℤ → Type 0
+Carries read old new status = MatchOption old ((new ≡ old) × (status ≡ no_host)) (λ k. Performs read k new status)
 
 -- the caller gets words for people, and how long they are
 abbrev pub TellsWords : Text → Text → Type 0
@@ -66,9 +74,9 @@ abbrev pub Puts : {X : Type 0} → Option X → X → X → ℤ → Type 0
 Puts found old new status = MatchOption found ((new ≡ old) × (status ≡ unknown_name)) (λ x. (new ≡ x) × (status ≡ pos 0))
 
 -- the number of the task of a name is looked up behind a handle
-abbrev pub FindsActor : List ℕ → Option History → ℕ → ℕ → ℤ → Type 0
+abbrev pub FindsActor : List ℕ → Option Kept → ℕ → ℕ → ℤ → Type 0
 FindsActor name host old new status = MatchOption host ((new ≡ old) × (status ≡ no_host))
-    (λ h. (found : Option ℕ) × IsNumberOf (task_number h.shapes) name found × Puts found old new status)
+    (λ k. (found : Option ℕ) × IsNumberOf (task_number k.host.shapes) name found × Puts found old new status)
 
 -- the numbers of an object and of its operation, by their names
 abbrev pub IsTargetOf : History → List ℕ → List ℕ → Option Target → Type 0
@@ -77,6 +85,6 @@ IsTargetOf h object operation (Some target) =
 IsTargetOf h object operation None = IsUtf8 object → IsUtf8 operation → (number : ℕ) → object_number h.shapes object ≡ Some number
     → operation_number h.shapes number operation ≡ None
 
-abbrev pub FindsTarget : List ℕ → List ℕ → Option History → Target → Target → ℤ → Type 0
+abbrev pub FindsTarget : List ℕ → List ℕ → Option Kept → Target → Target → ℤ → Type 0
 FindsTarget object operation host old new status = MatchOption host ((new ≡ old) × (status ≡ no_host))
-    (λ h. (found : Option Target) × IsTargetOf h object operation found × Puts found old new status)
+    (λ k. (found : Option Target) × IsTargetOf k.host object operation found × Puts found old new status)

@@ -1,3 +1,5 @@
 pub mod Numbers
 pub mod Asked
 pub mod Carried
+pub mod Made
+pub mod States

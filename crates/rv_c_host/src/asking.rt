@@ -3,7 +3,7 @@
 ghost use Rattle.std.specs.Prelude.{◌≡◌};
 ghost use Rattle.rv_event.specs.declared.entry.Request.TheVariants.{DelayUntil};
 ghost use Rattle.rv_c_host.specs.Asked as asked;
-ghost use Rattle.rv_c_host.specs.Asked.{Asks, AsksIf, Orders};
+ghost use Rattle.rv_c_host.specs.Asked.{Asks, AsksIf, FiresLine, GoesOn, Orders};
 
 use crate::numbers::{BAD_REQUEST, NO_HOST, kind_of};
 use crate::target::Target;
@@ -27,12 +27,12 @@ pub fn plain(
 ) -> i32
     ensures { Asks actor request.now handle.old.value handle.new.value told.old told.new result }
 {
-    let Some(mut host) = handle.take(alloc) else {
+    let Some(mut kept) = handle.take(alloc) else {
         return NO_HOST;
     };
     let mut answer = Answer::Started(Scalars::new());
-    host.put_answer(actor, request, &mut answer);
-    handle.put(host);
+    kept.host.put_answer(actor, request, &mut answer);
+    handle.put(kept);
     tell(&answer, told)
 }
 
@@ -40,12 +40,12 @@ pub fn plain(
 pub fn command(alloc: Global, handle: &mut Handle, request: &Request) -> i32
     ensures { Orders request.now handle.old.value handle.new.value result }
 {
-    let Some(mut host) = handle.take(alloc) else {
+    let Some(mut kept) = handle.take(alloc) else {
         return NO_HOST;
     };
     let mut answer = Answer::Started(Scalars::new());
-    host.put_answer(OPERATOR, request, &mut answer);
-    handle.put(host);
+    kept.host.put_answer(OPERATOR, request, &mut answer);
+    handle.put(kept);
     kind_of(&answer)
 }
 
@@ -146,4 +146,28 @@ pub fn delay_until(
     ensures { Asks actor (DelayUntil time) handle.old.value handle.new.value told.old told.new result }
 {
     plain(alloc, handle, actor, &Request::DelayUntil(time), told)
+}
+
+/// An interrupt of a line, whose actor's number is one above its own. The text of its handler begins, if it has one.
+pub fn fire(alloc: Global, handle: &mut Handle, line: u32, told: &mut Told) -> i32
+    ensures { FiresLine line handle.old.value handle.new.value told.old told.new result }
+{
+    let Some(mut kept) = handle.take(alloc) else {
+        return NO_HOST;
+    };
+    let answer = kept.fire(alloc, line);
+    handle.put(kept);
+    tell(&answer, told)
+}
+
+/// One request of an actor's text, as `go` of a script makes it. Misuse where it has none to make.
+pub fn go(alloc: Global, handle: &mut Handle, actor: usize, told: &mut Told) -> i32
+    ensures { GoesOn actor handle.old.value handle.new.value told.old told.new result }
+{
+    let Some(mut kept) = handle.take(alloc) else {
+        return NO_HOST;
+    };
+    let answer = kept.go(alloc, actor);
+    handle.put(kept);
+    tell(&answer, told)
 }

@@ -2,73 +2,56 @@
 
 ghost use Rattle.std.specs.Prelude.{◌≡◌, Some};
 ghost use Rattle.rv_access.specs.declared.change.Change.TheVariants as Changes;
-ghost use Rattle.rv_history.specs.Steps.{IsAnswer, after_command};
-ghost use Rattle.rv_history.specs.declared.command.Command.TheVariants as Commands;
 ghost use Rattle.rv_c_host.specs.Carried.{Carries, Performs, ReadsLine, ReadsList, ReadsShape, TellsWords};
 ghost use Rattle.rv_c_host.specs.declared.reading.Read.{Read};
 ghost use Rattle.rv_c_host.specs.declared.reading.Read.TheVariants.{Do};
 
 use crate::numbers::{BAD_TEXT, NO_HOST, NO_MEMORY, kind_of};
-use crate::reading::{Read, append_read, list_read, replace_read, shape_read};
+use crate::reading::{Read, append_read, list_read, replace_read, shape_read, words_or_none};
 use rv_access::Change;
 use rv_c_text::{Text, tell};
-use rv_event::entry::Answer;
 use rv_handle::Handle;
-use rv_history::command::Command;
 use rv_host::host::Host;
+use rv_kept::Kept;
 use std::alloc::Global;
 
-// Has a command answered.
-fn answer_to(host: &mut Host, command: &Command) -> Answer
-    ensures answer { IsAnswer host.old command.now result }
-    ensures history { host.new ≡ after_command host.old command.now result }
-{
-    match command {
-        Command::Ask(actor, request) => host.step(*actor, *request),
-        Command::Load(shape) => host.load(shape),
-        Command::Change(change) => host.change_list(change),
-    }
-}
-
-// Carries out what was read.
-fn perform(host: &mut Host, read: &Read) -> i32
-    ensures { Performs read.now host.old (Some host.new) result }
+/// Carries out what was read. Gives the kind of the answer, or why there is none.
+pub fn perform(alloc: Global, kept: &mut Kept, read: Read) -> i32
+    ensures { Performs read kept.old (Some kept.new) result }
 {
     match read {
-        Read::Do(command) => kind_of(&answer_to(host, command)),
+        Read::Bring(unit) => kind_of(&kept.load(alloc, unit)),
+        Read::Do(change) => kind_of(&kept.host.change_list(&change)),
         Read::Bad(_) => BAD_TEXT,
         Read::Memory => NO_MEMORY,
     }
 }
 
-// Words for people, where a shape doesn't fit, or a text is none.
-fn words_of(alloc: Global, host: &Host, read: &Read) -> String {
+/// Words for people, where a shape doesn't fit, or a text is none.
+pub fn words_of(alloc: Global, host: &Host, read: &Read) -> String {
     let told = match read {
-        Read::Do(Command::Load(shape)) => match host.catalogue().shape_fits(shape) {
+        Read::Bring(unit) => match host.catalogue().shape_fits(&unit.shape) {
             Some(fault) => format!(in alloc; "shape {fault}"),
             None => Ok(String::new(alloc)),
         },
         Read::Bad(told) => String::from_str(alloc, told.as_str()),
         _ => Ok(String::new(alloc)),
     };
-    match told {
-        Ok(told) => told,
-        Err(_) => String::new(alloc),
-    }
+    words_or_none(alloc, told)
 }
 
 // Carries out what was read, behind a handle, and tells the caller words for people.
-fn carry(alloc: Global, handle: &mut Handle, read: &Read, told: &mut Text<'_>) -> i32
-    ensures carries { Carries read.now handle.old.value handle.new.value result }
+fn carry(alloc: Global, handle: &mut Handle, read: Read, told: &mut Text<'_>) -> i32
+    ensures carries { Carries read handle.old.value handle.new.value result }
     ensures words { TellsWords told.old told.new }
 {
-    let Some(mut host) = handle.take(alloc) else {
+    let Some(mut kept) = handle.take(alloc) else {
         tell(told, b"", 0);
         return NO_HOST;
     };
-    let words = words_of(alloc, &host, read);
-    let status = perform(&mut host, read);
-    handle.put(host);
+    let words = words_of(alloc, &kept.host, &read);
+    let status = perform(alloc, &mut kept, read);
+    handle.put(kept);
     tell(told, words.as_bytes(), 0);
     status
 }
@@ -79,7 +62,7 @@ pub fn load_shape(alloc: Global, handle: &mut Handle, text: &[u8], told: &mut Te
     ensures words { TellsWords told.old told.new }
 {
     let read = shape_read(alloc, text);
-    carry(alloc, handle, &read, told)
+    carry(alloc, handle, read, told)
 }
 
 /// Sets the list that a text is.
@@ -88,7 +71,7 @@ pub fn set_list(alloc: Global, handle: &mut Handle, text: &[u8], told: &mut Text
     ensures words { TellsWords told.old told.new }
 {
     let read = list_read(alloc, text);
-    carry(alloc, handle, &read, told)
+    carry(alloc, handle, read, told)
 }
 
 /// Adds the line that a text is at the end of the list.
@@ -97,7 +80,7 @@ pub fn append_line(alloc: Global, handle: &mut Handle, text: &[u8], told: &mut T
     ensures words { TellsWords told.old told.new }
 {
     let read = append_read(alloc, text);
-    carry(alloc, handle, &read, told)
+    carry(alloc, handle, read, told)
 }
 
 /// Puts the line that a text is in the place of that of a number, from 1.
@@ -112,18 +95,17 @@ pub fn replace_line(
     ensures words { TellsWords told.old told.new }
 {
     let read = replace_read(alloc, number, text);
-    carry(alloc, handle, &read, told)
+    carry(alloc, handle, read, told)
 }
 
 /// Takes the line of a number, from 1, out of the list.
 pub fn remove_line(alloc: Global, handle: &mut Handle, number: usize) -> i32
-    ensures { Carries (Do (Commands.Change (Changes.Remove number))) handle.old.value handle.new.value result }
+    ensures { Carries (Do (Changes.Remove number)) handle.old.value handle.new.value result }
 {
-    let Some(mut host) = handle.take(alloc) else {
+    let Some(mut kept) = handle.take(alloc) else {
         return NO_HOST;
     };
-    let read = Read::Do(Command::Change(Change::Remove(number)));
-    let status = perform(&mut host, &read);
-    handle.put(host);
+    let status = perform(alloc, &mut kept, Read::Do(Change::Remove(number)));
+    handle.put(kept);
     status
 }

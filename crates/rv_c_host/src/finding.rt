@@ -38,11 +38,11 @@ pub fn find_actor(alloc: Global, handle: &mut Handle, name: &[u8], number: &mut 
     ensures finds { FindsActor name.now handle.old.value number.old number.new result }
     ensures same { handle.new.value ≡ handle.old.value }
 {
-    let Some(host) = handle.take(alloc) else {
+    let Some(kept) = handle.take(alloc) else {
         return NO_HOST;
     };
-    let found = actor_named(&host, name);
-    handle.put(host);
+    let found = actor_named(&kept.host, name);
+    handle.put(kept);
     put_number(found, number)
 }
 
@@ -89,10 +89,10 @@ pub fn find_target(
     ensures finds { FindsTarget object.now operation.now handle.old.value target.old target.new result }
     ensures same { handle.new.value ≡ handle.old.value }
 {
-    let Some(host) = handle.take(alloc) else {
+    let Some(kept) = handle.take(alloc) else {
         return NO_HOST;
     };
-    let found = target_named(&host, object, operation);
-    handle.put(host);
+    let found = target_named(&kept.host, object, operation);
+    handle.put(kept);
     put_target(found, target)
 }

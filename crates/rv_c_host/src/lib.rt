@@ -14,12 +14,15 @@ mod target;
 mod telling;
 mod told;
 
-pub use asking::{call, command, delay_until, end, plain};
-pub use carrying::{append_line, load_shape, remove_line, replace_line, set_list};
+pub use asking::{call, command, delay_until, end, fire, go, plain};
+pub use carrying::{
+    append_line, load_shape, perform, remove_line, replace_line, set_list, words_of,
+};
 pub use finding::{find_actor, find_target};
 pub use laws::below_zero_nothing_changes;
 pub use making::{create, free};
 pub use numbers::{NO_HOST, NO_MEMORY};
+pub use reading::{Read, words_or_none};
 pub use state::{State, state_of};
 pub use target::Target;
 pub use told::Told;

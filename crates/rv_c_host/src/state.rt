@@ -1,9 +1,7 @@
 //! What a caller may ask of the state of its host.
 
-ghost use Rattle.std.specs.Prelude.{◌≡◌, pos, if◌then◌else◌, length, MatchOption};
-ghost use Rattle.rv_event.specs.Past.{halted};
-ghost use Rattle.rv_history.specs.History.{version};
-ghost use Rattle.rv_history.specs.Owed.{room};
+ghost use Rattle.std.specs.Prelude.{◌≡◌, pos, MatchOption};
+ghost use Rattle.rv_c_host.specs.States.{state};
 ghost use Rattle.rv_c_host.specs.Numbers.{no_host};
 
 use crate::numbers::NO_HOST;
@@ -27,12 +25,7 @@ pub struct State {
 
 // The state of a host.
 fn told_state(host: &Host) -> State
-    ensures { result ≡ record {
-      used = length host.now.past;
-      room = room host.now;
-      version = version host.now;
-      halted = if halted host.now.past then 1 else 0;
-    } }
+    ensures { result ≡ state host.now }
 {
     let halted = if host.is_halted() { 1 } else { 0 };
     State {
@@ -46,14 +39,13 @@ fn told_state(host: &Host) -> State
 /// Tells the state of the host behind a handle. Gives 0 where there is one.
 pub fn state_of(alloc: Global, handle: &mut Handle, told: &mut State) -> i32
     ensures state { MatchOption handle.old.value ((told.new ≡ told.old) × (result ≡ no_host))
-        (λ h. (told.new ≡ record { used = length h.past; room = room h; version = version h; halted = if halted h.past then 1 else 0 })
-        × (result ≡ pos 0)) }
+        (λ k. (told.new ≡ state k.host) × (result ≡ pos 0)) }
     ensures same { handle.new.value ≡ handle.old.value }
 {
-    let Some(host) = handle.take(alloc) else {
+    let Some(kept) = handle.take(alloc) else {
         return NO_HOST;
     };
-    *told = told_state(&host);
-    handle.put(host);
+    *told = told_state(&kept.host);
+    handle.put(kept);
     0
 }

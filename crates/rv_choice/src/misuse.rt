@@ -16,6 +16,8 @@ pub enum Flag {
     HaltBelow,
     /// How many entries each unit may spend.
     Quota,
+    /// How many entries are kept for the operator's list changes.
+    OperatorRoom,
     /// How long the end of a run waits.
     Grace,
     /// When notes are told.
@@ -42,6 +44,7 @@ impl Flag {
             Flag::Tick => "--tick <MS>",
             Flag::HaltBelow => "--halt-below <N>",
             Flag::Quota => "--quota <N>",
+            Flag::OperatorRoom => "--operator-room <K>",
             Flag::Grace => "--grace <MS>",
             Flag::Notes => "--notes <WHEN>",
             Flag::Color => "--color <WHEN>",
@@ -58,7 +61,7 @@ impl Flag {
         match self {
             Flag::Sync => "each, second or never",
             Flag::Tick | Flag::Grace => "1 to 3600000",
-            Flag::HaltBelow | Flag::Quota | Flag::Rotate => "1 to 1048576",
+            Flag::HaltBelow | Flag::Quota | Flag::OperatorRoom | Flag::Rotate => "1 to 1048576",
             Flag::KeepUnits | Flag::Times => "the name of a file",
             Flag::Notes | Flag::Color => "auto, always or never",
             Flag::Torn => "no word",

@@ -122,6 +122,7 @@ pub fn with_quota(quota: Option<u32>) -> RunWords<'static>
         tick: None,
         halt_below: None,
         quota,
+        operator_room: None,
         stop_by: None,
         console: false,
         tells_end: false,
@@ -152,6 +153,15 @@ pub fn run_words<'a>(words: &ArgMatches<'a>) -> Result<RunWords<'a>, Misuse<'a>>
         Ok(quota) => quota,
         Err(misuse) => return Err(misuse),
     };
+    let operator_room = match given_number(
+        words,
+        Flag::OperatorRoom,
+        "operator-room",
+        MOST_ENTRIES,
+    ) {
+        Ok(operator_room) => operator_room,
+        Err(misuse) => return Err(misuse),
+    };
     let grace = match given_number(words, Flag::Grace, "grace", LONGEST_PERIOD) {
         Ok(grace) => grace,
         Err(misuse) => return Err(misuse),
@@ -161,6 +171,7 @@ pub fn run_words<'a>(words: &ArgMatches<'a>) -> Result<RunWords<'a>, Misuse<'a>>
         tick,
         halt_below,
         quota,
+        operator_room,
         stop_by: stop_of(words),
         console: has_flag(words, "console"),
         tells_end: has_flag(words, "end-status"),

@@ -29,7 +29,7 @@ use Rattle.std_alloc.specs.Box.Ownership.{box_owns}
 use Rattle.rv_handle.proofs.Values.{both, al}
 use Rattle.rv_handle.specs.Held.{held}
 use Rattle.rv_handle.specs.contracts.handle.Handle as handle
-use Rattle.rv_host.specs.contracts.host.Host.{the_row as R}
+use Rattle.rv_kept.specs.contracts.kept.Kept.{the_row as R}
 
 abbrev pub Z : RattleType
 Z = heap.the_row

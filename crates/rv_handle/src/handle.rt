@@ -3,32 +3,32 @@
 ghost use Rattle.std.specs.Prelude.{◌≡◌, Option, Some, None, MatchOption};
 ghost use Rattle.std.specs.Coded.{coded_option};
 ghost use Rattle.rv_handle.specs.Held.{held};
-ghost use Rattle.rv_host.specs.contracts.host.Host.{the_row as host};
+ghost use Rattle.rv_kept.specs.contracts.kept.Kept.{the_row as kept};
 
 use crate::loose::Loose;
-use rv_host::host::Host;
+use rv_kept::Kept;
 use std::alloc::Global;
 use std::marker::Model;
 use std::mem::replace;
 use std::ptr::null_mut;
 
-/// A handle to a host, or to none. In C it is a struct of one pointer, `rh_host` of include/ravenhost.h. Letting one go that is to a host
-/// would leak that: take the host out first.
+/// A handle to a host and the texts of its actors, or to none. In C it is a struct of one pointer, `rh_host` of include/ravenhost.h.
+/// Letting one go that is to a host would leak that: take the host out first.
 #[repr(C)]
 #[derive(Drop)]
 pub struct Handle {
-    // Where the host lies, or null.
+    // Where it lies, or null.
     at: *mut u8,
     alloc: Global,
-    // The history of the host, or None where there is none.
-    pub ghost value: { Option host.Denot } by { coded_option host.coded },
+    // The host's history and the texts, or None where there is none.
+    pub ghost value: { Option kept.Denot } by { coded_option kept.coded },
 }
 
 impl Model for Handle {
     ghost use Rattle.rv_handle.specs.Held.{held};
-    ghost use Rattle.rv_host.specs.contracts.host.Host.{the_row as host};
+    ghost use Rattle.rv_kept.specs.contracts.kept.Kept.{the_row as kept};
 
-    ghost also_owns = { λ h. held host h.alloc h.at h.value };
+    ghost also_owns = { λ h. held kept h.alloc h.at h.value };
 }
 
 impl Handle {
@@ -43,7 +43,7 @@ impl Handle {
     }
 
     // A handle to the host of a box.
-    fn of_loose(loose: Loose<Host, Global>) -> Handle
+    fn of_loose(loose: Loose<Kept, Global>) -> Handle
         ensures { result.value ≡ Some loose.value }
     {
         let Loose { at, alloc } = loose;
@@ -54,7 +54,7 @@ impl Handle {
     }
 
     // The box of the host.
-    fn into_loose(self) -> Option<Loose<Host, Global>>
+    fn into_loose(self) -> Option<Loose<Kept, Global>>
         ensures { MatchOption result (self.value ≡ None) (λ loose. self.value ≡ Some loose.value) }
     {
         let Handle { at, alloc } = self;
@@ -62,15 +62,15 @@ impl Handle {
             None
         } else {
             Some(Loose {
-                at: at.cast::<Host>(),
+                at: at.cast::<Kept>(),
                 alloc,
             })
         }
     }
 
     /// Takes the host out, or None where there is none. The handle is to none from then on.
-    pub fn take(&mut self, alloc: Global) -> Option<Box<Host>>
-        ensures taken { MatchOption result (self.old.value ≡ None) (λ host. self.old.value ≡ Some host.value) }
+    pub fn take(&mut self, alloc: Global) -> Option<Box<Kept>>
+        ensures taken { MatchOption result (self.old.value ≡ None) (λ kept. self.old.value ≡ Some kept.value) }
         ensures empty { self.new.value ≡ None }
     {
         let held = replace(self, Handle::empty(alloc));
@@ -81,9 +81,9 @@ impl Handle {
     }
 
     /// Puts a host in, where there is none.
-    pub fn put(&mut self, host: Box<Host>)
-        ensures { self.new.value ≡ Some host.value }
+    pub fn put(&mut self, kept: Box<Kept>)
+        ensures { self.new.value ≡ Some kept.value }
     {
-        *self = Handle::of_loose(Loose::of(host));
+        *self = Handle::of_loose(Loose::of(kept));
     }
 }

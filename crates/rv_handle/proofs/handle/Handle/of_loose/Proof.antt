@@ -23,7 +23,7 @@ use Rattle.std.specs.contracts.impls.GlobalAllocator.TheImpl.{ghosts}
 use Rattle.std.proofs.raw_atomic.Walks.{proved_at, leaves}
 use Rattle.rv_handle.proofs.Values.{both, Loose, loose_good, loose_out}
 use Rattle.rv_handle.proofs.Handles.{Handle, handle_in}
-use Rattle.rv_host.specs.contracts.host.Host.{the_row as R}
+use Rattle.rv_kept.specs.contracts.kept.Kept.{the_row as R}
 use Rattle.rv_handle.specs.contracts.handle.Handle.of_loose.{ended, clauses}
 use Rattle.rv_handle.specs.contracts.handle.Handle.of_loose.Key.{name as #self}
 use Rattle.rv_handle.proofs.handle.Handle.of_loose.Statement.{statement}
