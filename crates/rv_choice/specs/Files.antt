@@ -1,5 +1,5 @@
 -- The files that a run writes beside its journal, by the words of `run`, and those of a journal that `audit` judges. (own)
-use Rattle.std.specs.Prelude.{◌≡◌, ℕ, Bool, true, ◌||◌, if◌then◌else◌, List, [], codes, Option, Some, None, is_some, option_map, unwrap_or}
+use Rattle.std.specs.Prelude.{◌≡◌, ℕ, Bool, true, false, ◌||◌, if◌then◌else◌, List, [], codes, Option, Some, None, is_some, option_map, unwrap_or}
 use Rattle.std.specs.Str.{bytes_eq}
 use Rattle.clap.specs.Walk.{Row, Text, all_of, first_of}
 use Rattle.clap.specs.Words.{subcommand_of}
@@ -39,8 +39,13 @@ pub record AreBeside (rows : List Row) (files : FileTexts) : Type 0 where
   pub times : files.times ≡ first_of (codes "times") rows
   pub journal : has_any files ≡ true → is_some (first_of (codes "journal") rows) ≡ true
 
+-- these are none where no `run` is given them
+abbrev pub AreGivenTo : (runs : Bool) → List Row → FileTexts → Type 0
+AreGivenTo true rows files = AreBeside rows files
+AreGivenTo false rows files = files ≡ no_texts
+
 abbrev pub AreGiven : Text × List Row → FileTexts → Type 0
-AreGiven found files = if bytes_eq found.0 (codes "run") then AreBeside found.1 files else (files ≡ no_texts)
+AreGiven found files = AreGivenTo (bytes_eq found.0 (codes "run")) found.1 files
 
 -- the files are those that the words of a command line say
 abbrev pub AreFiles : List Text → FileTexts → Type 0
