@@ -1,6 +1,7 @@
 """The room that a run keeps for its operator's list changes (`run --operator-room`), and what is told where it doesn't."""
 import re
 import subprocess
+import time
 from typing import Any
 
 SECONDS = 240
@@ -30,6 +31,17 @@ def needed(units: int, kept: int, lists: int = 1) -> int:
     return 3 * 100 * units + units + units + lists + kept + 1
 
 
+def behind_a_second(hands: Any, words: list[str], sections: bytes, commands: bytes) -> subprocess.CompletedProcess[bytes]:
+    """What a run prints whose commands come a second behind its start, by when its units have spent what they may."""
+    with subprocess.Popen([hands.launcher, *words], stdin=subprocess.PIPE, stdout=subprocess.PIPE, stderr=subprocess.PIPE) as run:
+        assert run.stdin
+        run.stdin.write(sections)
+        run.stdin.flush()
+        time.sleep(1)
+        out, told = run.communicate(commands, timeout=SECONDS)
+    return subprocess.CompletedProcess(words, run.returncode, out, told)
+
+
 def room_that_is_kept(hands: Any) -> None:
     """A run whose capacity doesn't hold its quotas and the operator's room starts nothing; one that just holds them takes all list changes that are kept."""
     for units, kept in ((1, 1), (3, 64), (2, 512)):
@@ -39,7 +51,7 @@ def room_that_is_kept(hands: Any) -> None:
         hands.due(f"a capacity that is one too small for {units} units and {kept} changes", (small.returncode, small.stdout) == (1, b""), small)
         hands.due(f"and told ({units} units)", f" come to {least:,} entries; the capacity is {least - 1:,}\n".encode() in small.stderr, small.stderr)
         changes = b"append deny Elsewhere * *\nremove 2\n" * (kept // 2) + b"append deny Elsewhere * *\n" * (kept % 2)
-        done = hands.asked(words, script(least, units) + changes + b"quit\n")
+        done = behind_a_second(hands, words, script(least, units), changes + b"quit\n")
         hands.due(f"the least capacity for {units} units takes {kept} changes", done.returncode == 0 and done.stdout.startswith(b"accepted 0\n" * kept), (done.returncode, done.stdout[-200:], done.stderr))
         spent = [b"quota: Evil%d has spent its 100 entries; what it asks behind them is answered full" % number for number in range(units)]
         hands.due(f"who has spent its quota is told without notes ({units} units)", all(line in done.stderr for line in spent), done.stderr)
