@@ -291,6 +291,13 @@ fn files_from<'a, R: Files + Eprint>(
     rotate: Option<u32>,
     syncs: bool,
 ) -> Result<Rotating<JournalFiles<'a, R>>, Stop> {
+    let most = match rotate {
+        Some(rotate) => {
+            unless_followed(rt, alloc, name)?;
+            rotate as u64 * MEBIBYTE
+        }
+        None => u64::MAX,
+    };
     let file = journal_file(rt, name)?;
     let files = JournalFiles {
         rt,
@@ -299,13 +306,6 @@ fn files_from<'a, R: Files + Eprint>(
         number: 0,
         syncs,
         file,
-    };
-    let most = match rotate {
-        Some(rotate) => {
-            unless_followed(rt, alloc, name)?;
-            rotate as u64 * MEBIBYTE
-        }
-        None => u64::MAX,
     };
     Ok(Rotating::new(files, most))
 }
