@@ -2,7 +2,6 @@ pub mod Ticking
 pub mod Reserving
 pub mod Chores
 pub mod Going
-pub mod Again
 pub mod Attending
 pub mod KeepingRuns
 pub mod Lasting

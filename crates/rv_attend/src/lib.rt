@@ -4,7 +4,6 @@
 
 mod advising;
 mod archiving;
-mod asking;
 mod attention;
 mod beside;
 mod closing;

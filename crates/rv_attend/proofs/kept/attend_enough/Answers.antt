@@ -23,3 +23,6 @@ returns-in-Err g c = λ first.
 
 pub returns-in-Err-keep_sections : goal.returns-in-Err-keep_sections
 returns-in-Err-keep_sections g c = λ first. inr (inl refl)
+
+pub returns-then-not-is_kept : goal.returns-then-not-is_kept
+returns-then-not-is_kept g c = λ first. inr (inl refl)
