@@ -3,7 +3,7 @@
 
     bench/causes_shown.py [--all]       with --all each sentence is told with its first row
 
-A sentence, or a part of one, is a text in the sources of rv_cause, rv_explain or rv_reason that has a space and no `^`, which the
+A sentence, or a part of one, is a text in the sources of rv_cause, rv_judged, rv_explain or rv_reason that has a space and no `^`, which the
 patterns of words have. A row (crates/rv_rows/data/NAME.explained) shows it where what is said there has its words in order, whatever
 stands for `{..}`; one that tells a line isn't shown by one that tells none, nor the other way round. UNSAID has what no script
 makes the program say: it stands for the end of a search that finds something wherever such a fault is, or for want of memory.
@@ -36,7 +36,7 @@ def said_by_rows() -> dict[str, list[str]]:
 
 def texts() -> Iterator[tuple[str, str]]:
     """Each sentence or part of one, and where it stands."""
-    for crate in ("rv_cause", "rv_explain", "rv_reason"):
+    for crate in ("rv_cause", "rv_judged", "rv_explain", "rv_reason"):
         for file in sorted((CRATES / crate / "src").rglob("*.rt")):
             source = "\n".join("" if line.lstrip().startswith("//") else line for line in file.read_text(encoding="utf-8").splitlines())
             for found in TEXT.finditer(source):
