@@ -25,11 +25,9 @@ pub enum Stop {
     Denotes(Declared),
 }
 
-/// Where a name stops at a point of a text.
-#[tactic(auto, using(crate::proofs::Stops::denotes_the_visible))]
-pub fn stop_of(scope: &Scope, name: &Name) -> Stop
-    ensures stop { result ≡ stop_of_name scope.now (name_view name.now) }
-    ensures visible { (found : Declaration) → result ≡ Stop.Denotes found → visible scope.now (name_view name.now) ≡ Some found }
+// Where a name stops at a point of a text.
+fn stop_at(scope: &Scope, name: &Name) -> Stop
+    ensures { result ≡ stop_of_name scope.now (name_view name.now) }
 {
     let Some(mut found) = scope.direct(name.first.text.as_str()) else {
         return Stop::Unseen;
@@ -41,6 +39,14 @@ pub fn stop_of(scope: &Scope, name: &Name) -> Stop
         }
     }
     Stop::Denotes(found)
+}
+
+/// Where a name stops at a point of a text. What it denotes is what is visible.
+pub fn stop_of(scope: &Scope, name: &Name) -> Stop
+    ensures stop { result ≡ stop_of_name scope.now (name_view name.now) }
+    ensures visible { (found : Declaration) → result ≡ Stop.Denotes found → visible scope.now (name_view name.now) ≡ Some found }
+{
+    stop_at(scope, name)
 }
 
 // Whether a name is seen by itself, or behind what denotes this and a point.

@@ -1,7 +1,7 @@
 use Rattle.std.proofs.Common.{◌≡◌, ◌+◌, drop, map}
 use Rattle.rv_tree.specs.NameView.{identifier_view}
 use Rattle.rv_seen.specs.Names.{stop_behind}
-use Rattle.rv_seen.proofs.names.stop_of.Given as goal
+use Rattle.rv_seen.proofs.names.stop_at.Given as goal
 
 abbrev pub invariant-loop-index : goal.invariant-loop-index
 invariant-loop-index l =
