@@ -22,7 +22,8 @@ UNSAID = frozenset((
     "{0} stands twice", "a name stands twice", "a number is out of range", "an object with a handler has a ceiling of 31 .. 40 (C.3.1)",
     "this can't be used in the profile Ravenscar (D.13)", "{0} is declared here already; give one of them another name (8.3)",
     "{0} is declared further down; put that before this (8.3)", "{0} isn't declared yet; put its declaration before this (8.3)",
-    "{0} has no place in this command", "an interrupt line has a handler already (C.3.1)", "this is no step",
+    "{0} has no place in this command", "{0} denotes nothing that can stand here (8.6)",
+    "an interrupt line has a handler already (C.3.1)", "this is no step",
     "an interrupt line of this unit has a handler already (C.3.1)", "a protected unit with a handler has a priority of 31 .. 40 (C.3.1)"))
 # Texts that aren't said: a form of a line that is compared, a value that is tried, and the form of a further fault.
 OTHER = frozenset(("Milliseconds (1)", "also: {number}:{column}: {sentence}"))
