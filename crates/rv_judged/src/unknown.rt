@@ -135,14 +135,15 @@ fn named_behind<'a>(prefix: Meaning, item: &Declared<'a>, around: &Around<'a>) -
     }
 }
 
+const NOT_KNOWN: &str = "{0} has no {1} that is known here";
+
 // That a library package, whose name ends at a word, hasn't what stands behind it.
 fn no_item<'a>(words: &Words<'_, 'a>, behind: usize, library: &'a str) -> Cause<'a> {
     let word = words.word(behind);
-    let at = words.place(behind);
-    match said_of_name(&OTHER, word) {
-        Some(said) => Cause::plain(at, said),
-        None => Cause::pair(at, "{0} has no {1} that is known here", library, word),
+    if let Some(said) = said_of_name(&OTHER, word) {
+        return Cause::plain(words.place(behind), said);
     }
+    Cause::pair(words.place(behind), NOT_KNOWN, library, word)
 }
 
 // Which part of a name with points isn't there.
