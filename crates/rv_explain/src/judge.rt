@@ -171,7 +171,8 @@ impl<'t, 'a, 'k> Judge<'t, 'a, 'k> {
         let Ok(named) = resolve(alloc, self.tree, self.catalogue) else {
             return Ok(Table::new(alloc));
         };
-        let outline = outline_of(alloc, &named, &mut Faults::new())?;
+        let mut faults = Faults::new();
+        let outline = outline_of(alloc, &named, &mut faults)?;
         let (_, table) = outline.into_parts();
         Ok(table)
     }
