@@ -1,10 +1,8 @@
 -- What bodies ask.
-use Rattle.std.proofs.Common.{◌≡◌, ℕ, zero, suc, ◌≤◌, ℤ, pos, List, [], ◌∷◌, Bool, true, false, cond, Option, Some, None, Result, Ok, Err, refl, sym, subst, replicate, length, arith}
+use Rattle.std.proofs.Common.{◌≡◌, ℕ, zero, suc, ℤ, pos, List, [], ◌∷◌, Bool, true, false, cond, Option, Some, None, Err, refl, replicate, length}
 use Rattle.std.specs.Prelude.{◌&&◌, nat_le}
-use Rattle.std.proofs.lemmas.Bool.Decides.{nat_tests}
 use Rattle.rv_event.specs.declared.entry.Exception.{Exception}
 use Rattle.rv_event.specs.declared.entry.Exception.TheVariants.{ProgramError}
-use Rattle.rv_shape.specs.declared.kind.Component.{Component}
 use Rattle.rv_shape.specs.declared.kind.Kind.{Kind}
 use Rattle.rv_shape.specs.declared.kind.Kind.TheVariants.{Function, Procedure, Entry as EntryKind, Handler as HandlerKind}
 use Rattle.rv_shape.specs.declared.kind.Parameter.{Parameter}
@@ -25,9 +23,9 @@ use Rattle.rv_exec.specs.declared.activation.Activation.{Activation}
 use Rattle.rv_exec.specs.declared.end.Cause.TheVariants as cause
 use Rattle.rv_exec.specs.declared.end.End.{End}
 use Rattle.rv_exec.specs.declared.end.End.TheVariants as end
-use Rattle.rv_exec.specs.Asking.{Asking, ended, and_then}
+use Rattle.rv_exec.specs.Asking.{Asking, and_then}
 use Rattle.rv_exec.specs.Activations.{assigned, bound, opened, given_back}
-use Rattle.rv_exec.specs.Blocks.{elaborated, in_handler, handling, handled_by, handled, block, function_outcome, procedure_outcome, outcome_of, closed, body_meaning, inner_at}
+use Rattle.rv_exec.specs.Blocks.{elaborated, in_handler, handling, handled, block, function_outcome, procedure_outcome, closed, body_meaning, inner_at}
 use Rattle.rv_exec.specs.Bodies.{operation_of}
 use Rattle.rv_exec.specs.Calls.{Outcome, internal}
 use Rattle.rv_exec.specs.Choices.{named, handler_of}
@@ -36,7 +34,7 @@ use Rattle.rv_exec.specs.Statements.{go_on, meanings}
 use Rattle.rv_exec.specs.World.{World}
 use Rattle.rv_asks.specs.Asks.{Asks}
 use Rattle.rv_asks.proofs.Values.{component_ranges}
-use Rattle.rv_asks.proofs.Trees.{Left, IsKept, ReturnIn, EndLeft, RunEnds, asks_then, asks_here, asks_run, asks_next, run_goes}
+use Rattle.rv_asks.proofs.Trees.{IsKept, EndLeft, RunEnds, asks_then, asks_here, asks_run, asks_next, run_goes}
 use Rattle.rv_asks.proofs.Suited.{StatementsSuit, DeclarationsSuit, HandlersSuit, BodySuits}
 use Rattle.rv_asks.proofs.Passed.{GivesSo, SuitsValues, four, wanted}
 use Rattle.rv_asks.proofs.AskedValues.{OutcomeLeft, ValuesIn, OutcomeIn, InnerEnds, near, AskingWorld, value_asks}

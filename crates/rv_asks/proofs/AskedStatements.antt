@@ -1,5 +1,5 @@
 -- What statements ask.
-use Rattle.std.proofs.Common.{◌≡◌, ℕ, zero, suc, ℤ, pos, List, [], ◌∷◌, Bool, true, false, cond, Option, Some, None, Result, Ok, Err, refl}
+use Rattle.std.proofs.Common.{◌≡◌, ℕ, zero, suc, ℤ, pos, List, [], ◌∷◌, Bool, true, false, cond, Option, Some, None, refl}
 use Rattle.std.specs.List.{list_all}
 use Rattle.std.specs.Prelude.{nat_le, length, int_lt, slice_index_or}
 use Rattle.rv_event.specs.declared.entry.Exception.{Exception}
@@ -16,13 +16,12 @@ use Rattle.rv_code.specs.Statements.{Statement, null_statement, assign, choice, 
 use Rattle.rv_fits.proofs.Both.{first_of_both, second_of_both}
 use Rattle.rv_ranged.specs.Ranged.{Stand, place_keeps, target_keeps, result_given}
 use Rattle.rv_exec.specs.declared.activation.Activation.{Activation}
-use Rattle.rv_exec.specs.declared.end.Cause.{Cause}
 use Rattle.rv_exec.specs.declared.end.Cause.TheVariants as cause
 use Rattle.rv_exec.specs.declared.end.End.{End}
 use Rattle.rv_exec.specs.declared.end.End.TheVariants as end
 use Rattle.rv_exec.specs.Asking.{Asking, ended, and_then}
-use Rattle.rv_exec.specs.Operators.{is_true, within}
-use Rattle.rv_exec.specs.Activations.{put_at, settled, assigned, one_less, stepped, put_slot, steps_left, copied_next, copied_back, fits, span, value_before}
+use Rattle.rv_exec.specs.Operators.{is_true}
+use Rattle.rv_exec.specs.Activations.{put_at, settled, assigned, one_less, put_slot, steps_left, copied_next, copied_back, fits, span, value_before}
 use Rattle.rv_exec.specs.Choices.{covered}
 use Rattle.rv_exec.specs.Expressions.{on_value, value, arguments, passing}
 use Rattle.rv_exec.specs.Statements.{abandons, on_step, step, go_on, again, turns, values_over, for_each, exit_where, raised_again, meaning, meanings, first_true, selected}
@@ -30,7 +29,7 @@ use Rattle.rv_exec.specs.World.{World, Run, Got}
 use Rattle.rv_asks.specs.Asks.{Asks}
 use Rattle.rv_asks.proofs.Values.{within_cases, set_fits, set_slot, set_apart}
 use Rattle.rv_asks.proofs.Trees.{Left, IsKept, GotEnds, Any, ReturnIn, EndLeft, RunEnds, asks_if, asks_run, asks_next, asks_again}
-use Rattle.rv_asks.proofs.Suited.{ExpressionSuits, StatementSuits, StatementsSuit, BranchesSuit, AlternativesSuit}
+use Rattle.rv_asks.proofs.Suited.{StatementSuits, StatementsSuit, BranchesSuit, AlternativesSuit}
 use Rattle.rv_asks.proofs.Passed.{GivesSo, suits_passed}
 use Rattle.rv_asks.proofs.AskedValues.{near, AskingWorld, value_asks, arguments_ask, passing_asks}
 

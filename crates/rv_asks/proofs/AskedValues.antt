@@ -1,5 +1,5 @@
 -- What expressions ask.
-use Rattle.std.proofs.Common.{◌≡◌, ℕ, zero, suc, ℤ, pos, negsuc, List, [], ◌∷◌, Bool, true, false, cond, Option, Some, None, Result, Ok, Err, refl, sym, ap, ◌∙◌, subst}
+use Rattle.std.proofs.Common.{◌≡◌, ℕ, zero, suc, ℤ, pos, negsuc, List, [], Bool, true, false, cond, Option, Some, None, Result, Ok, Err, refl, ap, ◌∙◌, subst}
 use Rattle.std.specs.Prelude.{◌&&◌, int_le, neg_ℤ, unsigned_abs, ◌+ℤ◌, ◌-ℤ◌, ◌*ℤ◌, slice_index_or}
 use Rattle.std.specs.Int.RustNames.{int_div, int_rem}
 use Rattle.rv_value.specs.declared.arithmetic.Arith.{Arith}
@@ -24,19 +24,18 @@ use Rattle.rv_code.specs.Expressions as code
 use Rattle.rv_fits.specs.Calls.{such_in}
 use Rattle.rv_fits.specs.Fits.{callee_fits}
 use Rattle.rv_history.specs.Fitting.{all_fit, results}
-use Rattle.rv_ranged.specs.Ranged.{gives, Stand, of_operation, of_target}
+use Rattle.rv_ranged.specs.Ranged.{Stand, of_operation, of_target}
 use Rattle.rv_exec.specs.declared.activation.Activation.{Activation}
-use Rattle.rv_exec.specs.declared.end.Cause.{Cause}
 use Rattle.rv_exec.specs.declared.end.Cause.TheVariants as cause
 use Rattle.rv_exec.specs.Asking.{Asking, ended, and_then}
-use Rattle.rv_exec.specs.Operators.{truth, is_true, checked, in_bounds, within, prefix_of, decides, result_of, equal}
+use Rattle.rv_exec.specs.Operators.{checked, in_bounds, within, prefix_of, decides, result_of}
 use Rattle.rv_exec.specs.Activations.{joined, request_less, spent, refilled}
 use Rattle.rv_exec.specs.Calls.{Outcome, internal}
 use Rattle.rv_exec.specs.Expressions.{on_value, fails, returned, answered, asked_by, called_by, called, passing, given, value, linked, arguments}
 use Rattle.rv_exec.specs.World.{World, GotAll}
 use Rattle.rv_asks.specs.Asks.{Asks}
 use Rattle.rv_asks.proofs.Values.{covered, within_cases, component_ranges}
-use Rattle.rv_asks.proofs.Trees.{Left, IsKept, GotLeft, GotEnds, Any, asks_then, asks_more, asks_if, asks_here, value_goes, asks_value}
+use Rattle.rv_asks.proofs.Trees.{Left, IsKept, GotLeft, GotEnds, Any, asks_then, asks_more, asks_if, value_goes, asks_value}
 use Rattle.rv_asks.proofs.Suited.{ExpressionSuits, ExpressionsSuit, LinksSuit}
 use Rattle.rv_asks.proofs.Passed.{GivesSo, Passed, SuitsValues, passed_none, passed_more, suits_passed, wanted}
 

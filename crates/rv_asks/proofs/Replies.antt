@@ -1,5 +1,5 @@
 -- What is asked of another object, and what comes of it.
-use Rattle.std.proofs.Common.{◌≡◌, ℕ, zero, suc, ◌+◌, ◌-◌, ◌≤◌, ◌<◌, ℤ, pos, List, [], ◌∷◌, length, Bool, true, false, cond, not, ◌||◌, Option, Some, None, refl, sym, ap, ◌∙◌, arith}
+use Rattle.std.proofs.Common.{◌≡◌, ℕ, zero, suc, ◌-◌, ◌≤◌, ◌<◌, ℤ, pos, List, [], ◌∷◌, length, Bool, true, false, cond, not, ◌||◌, Option, Some, None, refl, sym, ap, ◌∙◌, arith}
 use Rattle.std.specs.Prelude.{◌&&◌, nat_lt, int_le, slice_index_or}
 use Rattle.std.proofs.lemmas.Bool.Decides.{nat_tests}
 use Rattle.rv_value.specs.Arithmetic.{is_zero}
@@ -8,7 +8,6 @@ use Rattle.rv_event.specs.declared.entry.Answer.TheVariants as answer
 use Rattle.rv_event.specs.declared.entry.Exception.{Exception}
 use Rattle.rv_event.specs.declared.entry.Exception.TheVariants.{ProgramError}
 use Rattle.rv_event.specs.declared.entry.Request.TheVariants as request
-use Rattle.rv_event.specs.declared.entry.Rule.{Rule}
 use Rattle.rv_event.specs.declared.entry.Rule.TheVariants as rule
 use Rattle.rv_shape.specs.declared.kind.Kind.{Kind}
 use Rattle.rv_shape.specs.declared.kind.Kind.TheVariants.{Function, Procedure, Entry as EntryKind, Handler as HandlerKind}
@@ -29,8 +28,8 @@ use Rattle.rv_exec.specs.declared.end.Asked.{Asked}
 use Rattle.rv_exec.specs.declared.end.Asked.TheVariants as asked
 use Rattle.rv_exec.specs.declared.end.Cause.TheVariants as cause
 use Rattle.rv_exec.specs.declared.end.Reply.TheVariants as reply
-use Rattle.rv_exec.specs.Asking.{Asking, ended, asking}
-use Rattle.rv_exec.specs.Calls.{is_protected, request_of, refusal, stops, gives, can_refuse, replied, resumed, settled, asks, is_past, reached}
+use Rattle.rv_exec.specs.Asking.{ended}
+use Rattle.rv_exec.specs.Calls.{is_protected, request_of, refusal, stops, gives, can_refuse, replied, resumed, settled, asks, reached}
 use Rattle.rv_asks.specs.Asks.{are_of_object, is_good, inside_after, next_after, may_ask, Asks}
 use Rattle.rv_asks.proofs.Values.{component_ranges}
 use Rattle.rv_asks.proofs.Trees.{Left}

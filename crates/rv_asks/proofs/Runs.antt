@@ -1,17 +1,15 @@
 -- Whole runs ask what fits.
-use Rattle.std.proofs.Common.{◌≡◌, ℕ, zero, suc, ◌+◌, ◌-◌, ◌≤◌, ◌<◌, ℤ, pos, List, [], ◌∷◌, length, map, replicate, Bool, true, false, cond, Option, Some, None, Ok, Err, refl, sym, ap, ◌∙◌, subst, arith}
-use Rattle.std.specs.Prelude.{◌&&◌, nat_lt, slice_get}
+use Rattle.std.proofs.Common.{◌≡◌, ℕ, zero, suc, ◌-◌, ◌≤◌, ℤ, pos, List, [], ◌∷◌, length, replicate, Bool, true, false, cond, Option, Some, None, Ok, Err, refl, sym, ap, ◌∙◌, subst, arith}
+use Rattle.std.specs.Prelude.{nat_lt, slice_get}
 use Rattle.rv_event.specs.declared.entry.Answer.{Answer}
 use Rattle.rv_event.specs.declared.entry.Answer.TheVariants as answer
 use Rattle.rv_event.specs.declared.entry.Exception.TheVariants.{ProgramError}
 use Rattle.rv_event.specs.declared.entry.Exit.{Exit}
-use Rattle.rv_event.specs.declared.entry.Exit.TheVariants as exit
 use Rattle.rv_event.specs.declared.entry.Request.TheVariants as request
-use Rattle.rv_shape.specs.declared.kind.Parameter.{Parameter}
 use Rattle.rv_shape.specs.declared.kind.Range.{Range}
 use Rattle.rv_shape.specs.Catalogue.{OperationNumber, Site, Target, Nowhere, OnProtected, OnSuspension, numbered, target}
 use Rattle.rv_shape.specs.Kinds.{is_function}
-use Rattle.rv_shape.specs.Objects.{OperationShape, ProtectedShape}
+use Rattle.rv_shape.specs.Objects.{OperationShape}
 use Rattle.rv_shape.specs.Shape.{Shape}
 use Rattle.rv_code.specs.declared.expression.Callee.{Callee}
 use Rattle.rv_code.specs.Bodies.{Body, UnitBodies}
@@ -28,16 +26,16 @@ use Rattle.rv_exec.specs.Asking.{Asking, ended, asking, and_then}
 use Rattle.rv_exec.specs.Activations.{opened}
 use Rattle.rv_exec.specs.Blocks.{block, outcome_of, inner_at, performed, outer_at, exits, world}
 use Rattle.rv_exec.specs.Bodies.{operation_of, task_of}
-use Rattle.rv_exec.specs.Calls.{Outcome, internal, reached, exit_of, seen, completed, end_of, is_stuck, completes}
+use Rattle.rv_exec.specs.Calls.{Outcome, internal, reached, exit_of, seen, completed, end_of, completes}
 use Rattle.rv_exec.specs.Tasks.{task_setting, quits, over, task_meaning, fired}
-use Rattle.rv_asks.specs.Asks.{AreRanged, Asks, inside_after, next_after, is_good, are_of_object, starts_fit, left_scalars, EndsWell, may_handle, BodiesAskWhatFits, TasksAskWhatFits, LinesAskWhatFits}
+use Rattle.rv_asks.specs.Asks.{AreRanged, Asks, inside_after, next_after, is_good, are_of_object, starts_fit, EndsWell, may_handle, BodiesAskWhatFits, TasksAskWhatFits, LinesAskWhatFits}
 use Rattle.rv_asks.proofs.Values.{component_ranges}
-use Rattle.rv_asks.proofs.Trees.{Left, RunEnds, asks_then, asks_more, asks_here}
+use Rattle.rv_asks.proofs.Trees.{RunEnds, asks_then, asks_more, asks_here}
 use Rattle.rv_asks.proofs.Passed.{SuitsValues, wanted}
-use Rattle.rv_asks.proofs.AskedValues.{OutcomeLeft, ValuesIn, OutcomeIn, InnerEnds, AskingWorld}
+use Rattle.rv_asks.proofs.AskedValues.{OutcomeLeft, ValuesIn, InnerEnds, AskingWorld}
 use Rattle.rv_asks.proofs.AskedBodies.{BodyOf, block_asks, inner_asks}
-use Rattle.rv_asks.proofs.Replies.{spot, Calls, StartsBody, AskedEnds, callee_suits, reached_asks}
-use Rattle.rv_asks.proofs.Found.{AtSite, site_at, home_of, bodies_of, TaskSuits, task_suits}
+use Rattle.rv_asks.proofs.Replies.{spot, StartsBody, AskedEnds, callee_suits, reached_asks}
+use Rattle.rv_asks.proofs.Found.{site_at, home_of, bodies_of, TaskSuits, task_suits}
 
 -- Ends
 

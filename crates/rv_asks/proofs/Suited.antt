@@ -1,5 +1,5 @@
 -- Code whose calls fit and whose values are ranged.
-use Rattle.std.proofs.Common.{◌≡◌, ℕ, Bool, true, List, [], ◌∷◌, Option, Some, None, refl}
+use Rattle.std.proofs.Common.{◌≡◌, Bool, true, List, [], ◌∷◌}
 use Rattle.std.specs.List.{list_all}
 use Rattle.std.specs.Prelude.{◌&&◌, nat_le, length}
 use Rattle.rv_shape.specs.Shape.{Shape}

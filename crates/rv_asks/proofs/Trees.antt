@@ -1,6 +1,5 @@
 -- One thing asked and then another.
-use Rattle.std.proofs.Common.{◌≡◌, ℕ, ℤ, Bool, true, false, cond, List, [], ◌∷◌, Option, Some, None, Result, Ok, Err, refl, sym, subst}
-use Rattle.rv_event.specs.declared.entry.Answer.{Answer}
+use Rattle.std.proofs.Common.{◌≡◌, ℤ, Bool, true, false, cond, List, Option, Some, None, Result, Ok, Err, sym, subst}
 use Rattle.rv_shape.specs.declared.kind.Range.{Range}
 use Rattle.rv_shape.specs.Catalogue.{OperationNumber}
 use Rattle.rv_shape.specs.Kinds.{holds}
@@ -16,7 +15,7 @@ use Rattle.rv_exec.specs.Asking.{Asking, ended, asking, and_then}
 use Rattle.rv_exec.specs.Expressions.{on_value, fails}
 use Rattle.rv_exec.specs.Statements.{abandons, go_on, again}
 use Rattle.rv_exec.specs.World.{Run}
-use Rattle.rv_asks.specs.Asks.{is_good, next_after, inside_after, Asks}
+use Rattle.rv_asks.specs.Asks.{next_after, inside_after, Asks}
 use Rattle.rv_asks.proofs.Values.{KeptSlots, component_ranges}
 
 -- Where runs end

@@ -1,11 +1,11 @@
 -- Values that lie in their ranges, when more units are loaded, and when the bodies of one more stand behind the others.
-use Rattle.std.proofs.Common.{◌≡◌, ℕ, suc, ◌+◌, List, [], ◌∷◌, ◌++◌, length, map, Bool, true, false, Option, Some, None, refl, sym, ap, ◌∙◌, arith}
+use Rattle.std.proofs.Common.{◌≡◌, ℕ, suc, List, [], ◌∷◌, ◌++◌, length, map, Bool, true, false, Option, Some, None, refl, sym, ap, ◌∙◌, arith}
 use Rattle.std.specs.List.{list_all}
 use Rattle.std.specs.Prelude.{◌&&◌, nat_le}
 use Rattle.std.proofs.lemmas.List.{map-append}
 use Rattle.rv_shape.specs.declared.object.Object.{Object}
 use Rattle.rv_shape.specs.declared.object.Object.TheVariants.{Protected, Suspension}
-use Rattle.rv_shape.specs.Catalogue.{Target, Nowhere, OnProtected, OnSuspension, UnitObject, all_objects, objects_of, at_unit_object, place, target}
+use Rattle.rv_shape.specs.Catalogue.{Target, UnitObject, all_objects, objects_of, at_unit_object, place, target}
 use Rattle.rv_shape.specs.Objects.{OperationShape, ProtectedShape}
 use Rattle.rv_shape.specs.Shape.{Shape}
 use Rattle.rv_shape.proofs.Added.{objects_append}
@@ -14,7 +14,7 @@ use Rattle.rv_code.specs.declared.expression.Callee.{Callee}
 use Rattle.rv_code.specs.declared.expression.Callee.TheVariants as callee
 use Rattle.rv_code.specs.Expressions.{Expression, literal, variable, component, prefixed, chain, within, call, Expressions, no_expressions, and_expression, Links, no_links, and_link}
 use Rattle.rv_code.specs.Statements.{Statement, null_statement, assign, choice, selection, while_loop, for_loop, exit_when, returns, returns_value, raises, reraises, calls, Statements, no_statements, and_statement, Branches, no_branches, and_branch, Alternatives, no_alternatives, and_alternative}
-use Rattle.rv_code.specs.Bodies.{Declaration, Handler, Body, UnitBodies}
+use Rattle.rv_code.specs.Bodies.{Declaration, Body, UnitBodies}
 use Rattle.rv_ranged.specs.Ranged.{Stand, of_target, take, suit, expression_ranged, expressions_ranged, links_ranged, target_keeps, result_given, statement_ranged, statements_ranged, branches_ranged, alternatives_ranged, declaration_ranged, handler_ranged, body_ranged, stand_of, heads, operation_ranged, operations_ranged, object_ranged, objects_ranged, task_stand, task_ranged, ranges_fit, catalogue_ranged}
 
 -- Two tests that both hold

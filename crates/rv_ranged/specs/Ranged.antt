@@ -1,6 +1,6 @@
 -- Whether the values that bodies ask with, keep and give back lie in their ranges, as the form of the code shows it (ISO/IEC
 -- 8652:2012, 3.2.2, 6.4.1, 6.5).
-use Rattle.std.specs.Prelude.{ℕ, ℤ, pos, Bool, true, false, ◌&&◌, ◌||◌, not, nat_le, int_le, if◌then◌else◌, List, [], ◌∷◌, length, map, Option, Some, None, slice_get}
+use Rattle.std.specs.Prelude.{ℤ, pos, Bool, true, false, ◌&&◌, ◌||◌, not, nat_le, int_le, if◌then◌else◌, List, [], ◌∷◌, length, map, Option, Some, None, slice_get}
 use Rattle.std.specs.List.{filter, list_all}
 use Rattle.rv_shape.specs.declared.kind.Component.{Component}
 use Rattle.rv_shape.specs.declared.kind.Kind.{Kind}
@@ -13,7 +13,7 @@ use Rattle.rv_shape.specs.declared.kind.ValueType.{ValueType}
 use Rattle.rv_shape.specs.declared.kind.ValueType.TheVariants.{Integer, Boolean, Time, TimeSpan}
 use Rattle.rv_shape.specs.declared.object.Object.{Object}
 use Rattle.rv_shape.specs.declared.object.Object.TheVariants.{Protected, Suspension}
-use Rattle.rv_shape.specs.Catalogue.{Target, OnProtected, numbered, target, UnitObject, all_objects}
+use Rattle.rv_shape.specs.Catalogue.{Target, OnProtected, numbered, target, all_objects}
 use Rattle.rv_shape.specs.Fits.{lowest, highest}
 use Rattle.rv_shape.specs.Kinds.{holds, goes_in, is_function}
 use Rattle.rv_shape.specs.Objects.{OperationShape, ProtectedShape}
