@@ -122,8 +122,8 @@ pub record BodiesFit (log : List Event) : Type 0 where
   pub calls : calls_fit (catalogue_of log) (bodies_at log) ≡ true
   pub ranges : catalogue_ranged (catalogue_of log) (bodies_at log) ≡ true
 
--- The bodies that a port is lent are those of all units loaded then, whose calls fit these units; none where there were too
--- many holders of them. (own)
+-- The bodies that a port is lent are those of all units loaded then, whose calls fit these units, and whose values lie in their
+-- ranges; none where there were too many holders of them. (own)
 abbrev pub IsLent : List Event → Option Code.UnitBodies → Type 0
 IsLent log None = Unit {0}
 IsLent log (Some bodies) = (bodies ≡ bodies_at log) × BodiesFit log
