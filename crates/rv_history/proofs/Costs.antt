@@ -42,7 +42,7 @@ high j n e = grind (arith, nat_tests)
 
 new_due : (h : History) (j : ℕ) → Legal h → actors h.shapes ≤ j → dues h.past j ≡ 1
 new_due h j l beyond =
-    let free : stance j h.past ≡ Free = beyond_free h.limits h.past h.shapes h.lists j l beyond in
+    let free : stance h.shapes j h.past ≡ Free = beyond_free h.limits h.past h.shapes h.lists j l beyond in
     λ i. surcharge (free i) + (if high j (length (all_tasks h.shapes)) beyond i then 0 else unfinished (free i))
 
 more_actors : (shapes : List Shape) (s : Shape) → actors (shapes ++ s ∷ []) ≡ actors shapes + length s.tasks

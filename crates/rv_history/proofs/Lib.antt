@@ -1,6 +1,8 @@
 -- What recorded answers say, and lists of bodies
 pub mod Answered
 pub mod Stances
+pub mod Restarts
+pub mod Before
 pub mod Bodies
 pub mod Handled
 pub mod Sums

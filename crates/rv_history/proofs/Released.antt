@@ -20,7 +20,7 @@ use Rattle.rv_event.specs.declared.entry.Next.TheVariants.{Nothing, HandedTo, Dr
 use Rattle.rv_event.specs.declared.entry.Recorded.{Recorded}
 use Rattle.rv_event.specs.declared.entry.Recorded.TheVariants.{Suspended, Delayed, Accepted}
 use Rattle.rv_event.specs.declared.entry.Request.{Request}
-use Rattle.rv_event.specs.declared.entry.Request.TheVariants.{Call, Complete, Settle, Resume, DelayUntil, Clock, Fire, Quit, Tick, Halt, Archive}
+use Rattle.rv_event.specs.declared.entry.Request.TheVariants.{Call, Complete, Settle, Resume, DelayUntil, Clock, Fire, Quit, Tick, Halt, Archive, Restart}
 use Rattle.rv_event.specs.declared.entry.Stance.{Stance}
 use Rattle.rv_event.specs.declared.entry.Stance.TheVariants.{HandedOver, DroppedBy, WaitsOn}
 use Rattle.rv_history.specs.declared.limits.Limits.{Limits}
@@ -85,32 +85,32 @@ touches h b r o w a e there = refl
 
 -- Until it is released it is the waiter
 
-abbrev pub Outcome : ℕ → ℕ → List Entry → Type 0
-Outcome a o past = ((released a o past ≡ false) × (waiter o past ≡ Some a)) ⊎ IsReleased a o past
+abbrev pub Outcome : List Shape → ℕ → ℕ → List Entry → Type 0
+Outcome shapes a o past = ((released a o past ≡ false) × (waiter o past ≡ Some a)) ⊎ IsReleased shapes a o past
 
-since_apart : (a : ℕ) (e : Entry) (past : List Entry) → is_apart a e ≡ true → since a (e ∷ past) ≡ e ∷ since a past
-since_apart a e past apart = ap (λ s. if is_some s then [] else e ∷ since a past) (unsaid a e apart)
+since_apart : (shapes : List Shape) (a : ℕ) (e : Entry) (past : List Entry) → is_apart shapes a e ≡ true → since a (e ∷ past) ≡ e ∷ since a past
+since_apart shapes a e past apart = ap (λ s. if is_some s then [] else e ∷ since a past) (unsaid shapes a e apart)
 
-released_more : (a o : ℕ) (e : Entry) (past : List Entry) → is_apart a e ≡ true → released a o (e ∷ past) ≡ (is_set (touch o e) || released a o past)
-released_more a o e past apart = ap (list_any (λ x. is_set (touch o x))) (since_apart a e past apart)
+released_more : (shapes : List Shape) (a o : ℕ) (e : Entry) (past : List Entry) → is_apart shapes a e ≡ true → released a o (e ∷ past) ≡ (is_set (touch o e) || released a o past)
+released_more shapes a o e past apart = ap (list_any (λ x. is_set (touch o x))) (since_apart shapes a e past apart)
 
-apart_step : (a o : ℕ) (e : Entry) (past : List Entry) → is_apart a e ≡ true → (waiter o past ≡ Some a → waits (touch o e) ≡ false) → Outcome a o past → Outcome a o (e ∷ past)
-apart_step a o e past apart calm (inr r) = inr (record {
+apart_step : (shapes : List Shape) (a o : ℕ) (e : Entry) (past : List Entry) → is_apart shapes a e ≡ true → (waiter o past ≡ Some a → waits (touch o e) ≡ false) → Outcome shapes a o past → Outcome shapes a o (e ∷ past)
+apart_step shapes a o e past apart calm (inr r) = inr (record {
   later = e ∷ r.later;
   set = r.set;
   earlier = r.earlier;
   split = ap (λ es. e ∷ es) r.split;
   sets = r.sets;
   waited = r.waited;
-  silent = all_more (is_apart a) e (r.later ++ r.set ∷ []) apart r.silent;
+  silent = all_more (is_apart shapes a) e (r.later ++ r.set ∷ []) apart r.silent;
 })
-apart_step a o e past apart calm (inl was) = by_touch (touch o e) refl
+apart_step shapes a o e past apart calm (inl was) = by_touch (touch o e) refl
   where
-    by_touch : (t : Touch) → touch o e ≡ t → Outcome a o (e ∷ past)
+    by_touch : (t : Touch) → touch o e ≡ t → Outcome shapes a o (e ∷ past)
     by_touch (Waits n) is = absurd (off (sym (calm was.1) ∙ ap waits is))
-    by_touch Sets is = inr (record { later = []; set = e; earlier = past; split = refl; sets = is; waited = was.1; silent = all_more (is_apart a) e [] apart refl })
-    by_touch Clears is = inl (released_more a o e past apart ∙ ap (λ t. is_set t || released a o past) is ∙ was.0, ap (λ t. waiter_after t (waiter o past)) is ∙ was.1)
-    by_touch Untouched is = inl (released_more a o e past apart ∙ ap (λ t. is_set t || released a o past) is ∙ was.0, ap (λ t. waiter_after t (waiter o past)) is ∙ was.1)
+    by_touch Sets is = inr (record { later = []; set = e; earlier = past; split = refl; sets = is; waited = was.1; silent = all_more (is_apart shapes a) e [] apart refl })
+    by_touch Clears is = inl (released_more shapes a o e past apart ∙ ap (λ t. is_set t || released a o past) is ∙ was.0, ap (λ t. waiter_after t (waiter o past)) is ∙ was.1)
+    by_touch Untouched is = inl (released_more shapes a o e past apart ∙ ap (λ t. is_set t || released a o past) is ∙ was.0, ap (λ t. waiter_after t (waiter o past)) is ∙ was.1)
 
 -- the entry by which it waits
 record Suspends (o : ℕ) (r : Request) (w : Recorded) : Type 0 where
@@ -136,6 +136,7 @@ suspends_by b Quit w o e = absurd (cc)
 suspends_by b (Tick n) w o e = absurd (cc)
 suspends_by b Halt w o e = absurd (cc)
 suspends_by b (Archive n) w o e = absurd (cc)
+suspends_by b (Restart u) w o e = absurd (cc)
 
 named_not : (next : Next) (a o : ℕ) (s : Option Stance) (t : Stance) → is_named a (named_in next) ≡ true → or_else (first_of (if_named a next) s) t ≡ WaitsOn o → ⊥
 named_not Nothing a o s t is e = off is
@@ -146,28 +147,57 @@ named_not (Dropped n line) a o s t is e =
     let f : DroppedBy line ≡ WaitsOn o = sym (ap (λ b. or_else (first_of (if b then Some (DroppedBy line) else None) s) t) is) ∙ e in
     cc
 
-own_waits : (a o : ℕ) (b : ℕ) (r : Request) (w : Recorded) (past : List Entry) → names a (Asked b r w) ≡ false → is_own a (Asked b r w) ≡ true → Suspends o r w → Outcome a o (Asked b r w ∷ past)
-own_waits a o b r w past none own s = inl (
+own_waits : (shapes : List Shape) (a o : ℕ) (b : ℕ) (r : Request) (w : Recorded) (past : List Entry) → names a (Asked b r w) ≡ false → is_own a (Asked b r w) ≡ true → Suspends o r w → Outcome shapes a o (Asked b r w ∷ past)
+own_waits shapes a o b r w past none own s = inl (
   ap (λ t. list_any (λ x. is_set (touch o x)) (if is_some t then [] else Asked b r w ∷ since a past)) (own_said a (Asked b r w) none own),
   (λ i. waiter_after (touch o (Asked b (s.call i) (s.word i))) (waiter o past))
       ∙ ap (λ t. waiter_after (if t then Waits b else Untouched) (waiter o past)) (itself o)
       ∙ ap (λ n. Some n) (same_number b a own),
 )
 
-pub outcome : (c : Limits) (past : List Entry) (shapes : List Shape) (lists : List (List Words)) (a o : ℕ) → IsLegal c past shapes lists → stance a past ≡ WaitsOn o → Outcome a o past
+-- by the shapes of later too
+released_loaded : (c : Limits) (past : List Entry) (old more : List Shape) (lists : List (List Words)) (a o : ℕ) → IsLegal c past old lists → IsReleased old a o past → IsReleased (old ++ more) a o past
+released_loaded c past old more lists a o l r =
+    let parts : past ≡ (r.later ++ r.set ∷ []) ++ r.earlier = r.split ∙ sym (append_assoc r.later (r.set ∷ []) r.earlier) in
+    let legal : IsLegal c ((r.later ++ r.set ∷ []) ++ r.earlier) old lists = subst (λ (es : List Entry). IsLegal c es old lists) parts l in
+    record {
+      later = r.later;
+      set = r.set;
+      earlier = r.earlier;
+      split = r.split;
+      sets = r.sets;
+      waited = r.waited;
+      silent = apart_loaded c (r.later ++ r.set ∷ []) r.earlier old more lists a legal ∙ r.silent;
+    }
+
+outcome_loaded : (c : Limits) (past : List Entry) (shapes old : List Shape) (shape : Shape) (lists : List (List Words)) (a o : ℕ) → shapes ≡ old ++ shape ∷ [] → IsLegal c past old lists → Outcome old a o past → Outcome shapes a o past
+outcome_loaded c past shapes old shape lists a o whole l (inl was) = inl was
+outcome_loaded c past shapes old shape lists a o whole l (inr r) = inr (subst (λ (ss : List Shape). IsReleased ss a o past) (sym whole) (released_loaded c past old (shape ∷ []) lists a o l r))
+
+pub outcome : (c : Limits) (past : List Entry) (shapes : List Shape) (lists : List (List Words)) (a o : ℕ) → IsLegal c past shapes lists → stance shapes a past ≡ WaitsOn o → Outcome shapes a o past
 outcome c [] shapes lists a o l at = absurd (cc)
-outcome c (Load ∷ past) shapes lists a o l at = apart_step a o Load past refl (λ w. refl) (outcome c past l.0 lists a o l.3 at)
-outcome c (ListChange ∷ past) shapes lists a o l at = apart_step a o ListChange past refl (λ w. refl) (outcome c past shapes l.0 a o l.3 at)
-outcome c (Asked b r w ∷ past) shapes lists a o l at = by_tests (names a (Asked b r w)) (is_own a (Asked b r w)) refl refl (λ was. outcome c past shapes lists a o l.0 was)
+outcome c (Load ∷ past) shapes lists a o l at =
+    let before : stance l.0 a past ≡ WaitsOn o = sym (stance_loaded c past l.0 (l.1 ∷ []) lists a l.3) ∙ ap (λ (ss : List Shape). stance ss a past) (sym l.2) ∙ at in
+    apart_step shapes a o Load past refl (λ w. refl) (outcome_loaded c past shapes l.0 l.1 lists a o l.2 l.3 (outcome c past l.0 lists a o l.3 before))
+outcome c (ListChange ∷ past) shapes lists a o l at = apart_step shapes a o ListChange past refl (λ w. refl) (outcome c past shapes l.0 a o l.3 at)
+outcome c (Asked b r w ∷ past) shapes lists a o l at = by_renewal (renews_task shapes a (Asked b r w)) refl (λ was. outcome c past shapes lists a o l.0 was)
   where
-    by_tests : (n m : Bool) → names a (Asked b r w) ≡ n → is_own a (Asked b r w) ≡ m → (stance a past ≡ WaitsOn o → Outcome a o past) → Outcome a o (Asked b r w ∷ past)
-    by_tests true m named own rest = absurd (named_not (next_of (Asked b r w)) a o (if_own a (Asked b r w)) (stance a past) named at)
-    by_tests false true named own rest =
-        own_waits a o b r w past named own (suspends_by b r w o (sym (ap (λ s. or_else s (stance a past)) (own_said a (Asked b r w) named own)) ∙ at))
-    by_tests false false named own rest =
-        let apart = apart_of a (Asked b r w) own named in
+    by_tests : (n m : Bool) → names a (Asked b r w) ≡ n → is_own a (Asked b r w) ≡ m → renews_task shapes a (Asked b r w) ≡ false → or_else (said a (Asked b r w)) (stance shapes a past) ≡ WaitsOn o →
+        (stance shapes a past ≡ WaitsOn o → Outcome shapes a o past) → Outcome shapes a o (Asked b r w ∷ past)
+    by_tests true m named own calm is rest = absurd (named_not (next_of (Asked b r w)) a o (if_own a (Asked b r w)) (stance shapes a past) named is)
+    by_tests false true named own calm is rest =
+        own_waits shapes a o b r w past named own (suspends_by b r w o (sym (ap (λ s. or_else s (stance shapes a past)) (own_said a (Asked b r w) named own)) ∙ is))
+    by_tests false false named own calm is rest =
+        let apart = apart_of shapes a (Asked b r w) own named calm in
         let h : History = record { limits = c; past = past; shapes = shapes; lists = lists } in
-        apart_step a o (Asked b r w) past apart (λ there. touches h b r o w a l.1 there) (rest (sym (ap (λ s. or_else s (stance a past)) (unsaid a (Asked b r w) apart)) ∙ at))
+        apart_step shapes a o (Asked b r w) past apart (λ there. touches h b r o w a l.1 there) (rest (sym (stance_apart shapes a (Asked b r w) past apart) ∙ at))
+
+    by_renewal : (t : Bool) → renews_task shapes a (Asked b r w) ≡ t → (stance shapes a past ≡ WaitsOn o → Outcome shapes a o past) → Outcome shapes a o (Asked b r w ∷ past)
+    by_renewal true renews rest =
+        let free : Free ≡ WaitsOn o = sym (renewed_stance shapes a (Asked b r w) past renews) ∙ at in
+        absurd (cc)
+    by_renewal false calm rest =
+        by_tests (names a (Asked b r w)) (is_own a (Asked b r w)) refl refl calm (sym (calm_stance shapes a (Asked b r w) past calm) ∙ at) rest
 
 -- A Set_True since then releases it
 
@@ -184,10 +214,10 @@ set_releases a o (e ∷ later) set earlier silent sets =
 
 -- What its resume is answered
 
-resume_answer : (h : History) (a o : ℕ) → Legal h → IsSolvent h → stance a h.past ≡ WaitsOn o → out h a Resume ≡ or_waiting h (released a o h.past)
+resume_answer : (h : History) (a o : ℕ) → Legal h → IsSolvent h → stance h.shapes a h.past ≡ WaitsOn o → out h a Resume ≡ or_waiting h (released a o h.past)
 resume_answer h a o l solvent at = resume_due h a (WaitsOn o) l solvent at refl
 
-pub woken_exactly : (h : History) (a o : ℕ) → Legal h → IsSolvent h → stance a h.past ≡ WaitsOn o → (out h a Resume ≡ Answers.Woken None) ↔ IsReleased a o h.past
+pub woken_exactly : (h : History) (a o : ℕ) → Legal h → IsSolvent h → stance h.shapes a h.past ≡ WaitsOn o → (out h a Resume ≡ Answers.Woken None) ↔ IsReleased a o h.past
 woken_exactly h a o l solvent at = (to, from)
   where
     to : out h a Resume ≡ Answers.Woken None → IsReleased a o h.past
@@ -235,13 +265,13 @@ set_true_leaves h a o p vs unit name at =
 -- Who waits
 
 -- two that wait on one object, and aren't released, are one
-pub one_waits : (h : History) (a b o : ℕ) → Legal h → stance a h.past ≡ WaitsOn o → stance b h.past ≡ WaitsOn o → released a o h.past ≡ false → released b o h.past ≡ false → a ≡ b
+pub one_waits : (h : History) (a b o : ℕ) → Legal h → stance h.shapes a h.past ≡ WaitsOn o → stance h.shapes b h.past ≡ WaitsOn o → released a o h.past ≡ false → released b o h.past ≡ false → a ≡ b
 one_waits h a b o l at bt none nobody_set =
     let first = waiter_of h a o l at none in
     let second = waiter_of h b o l bt nobody_set in
     some_number a b (sym first ∙ second)
   where
-    waiter_of : (h : History) (a o : ℕ) → Legal h → stance a h.past ≡ WaitsOn o → released a o h.past ≡ false → waiter o h.past ≡ Some a
+    waiter_of : (h : History) (a o : ℕ) → Legal h → stance h.shapes a h.past ≡ WaitsOn o → released a o h.past ≡ false → waiter o h.past ≡ Some a
     waiter_of h a o l at none = by_outcome (outcome h.limits h.past h.shapes h.lists a o l at)
       where
         by_outcome : Outcome a o h.past → waiter o h.past ≡ Some a
