@@ -1,5 +1,5 @@
 -- One that waits on a suspension object is that object's waiter until a Set_True there, which releases it.
-use Rattle.std.proofs.Common.{◌≡◌, ◌⊎◌, inl, inr, ℕ, List, [], ◌∷◌, ◌++◌, Some, None, Option, Bool, true, false, ap, sym, ◌∙◌, refl}
+use Rattle.std.proofs.Common.{◌≡◌, ◌⊎◌, inl, inr, ℕ, List, [], ◌∷◌, ◌++◌, Some, None, Option, Bool, true, false, ap, sym, ◌∙◌, refl, subst, append_assoc}
 use Rattle.std.specs.Prelude.{ℤ, ◌==◌, ◌||◌, not, ◌↔◌, is_some, pos, if◌then◌else◌}
 use Rattle.std.specs.List.{list_all, list_any}
 use Rattle.rv_access.specs.Words.{Words}
@@ -10,7 +10,7 @@ use Rattle.rv_shape.specs.declared.object.Object.TheVariants.{Protected, Suspens
 use Rattle.rv_shape.specs.Catalogue.{UnitObject, OnSuspension, at_object, at_operation, at_suspension, at_unit_object, first_of, numbered, place, suspension_operations, target}
 use Rattle.rv_shape.specs.declared.suspension.SuspensionOperation.{SuspensionOperation}
 use Rattle.rv_shape.specs.declared.suspension.SuspensionOperation.TheVariants.{SetTrue, SetFalse, CurrentState, SuspendUntilTrue}
-use Rattle.rv_event.specs.Past.{Touch, Waits, Sets, Clears, Untouched, accepted_touch, if_named, if_own, is_named, is_own, is_set, named_in, names, next_of, or_else, released, since, stance, stance_of, state, state_after, touch, touch_of, waiter, waiter_after}
+use Rattle.rv_event.specs.Past.{Touch, Waits, Sets, Clears, Untouched, accepted_touch, if_named, if_own, is_named, is_own, is_set, named_in, names, next_of, or_else, released, since, stance, stance_of, state, state_after, touch, touch_of, waiter, waiter_after, renews_object, renews_task, said}
 use Rattle.rv_event.specs.Recorded.{recorded}
 use Rattle.rv_event.specs.declared.entry.Answer.TheVariants as Answers
 use Rattle.rv_event.specs.declared.entry.Entry.{Entry}
@@ -22,7 +22,7 @@ use Rattle.rv_event.specs.declared.entry.Recorded.TheVariants.{Suspended, Delaye
 use Rattle.rv_event.specs.declared.entry.Request.{Request}
 use Rattle.rv_event.specs.declared.entry.Request.TheVariants.{Call, Complete, Settle, Resume, DelayUntil, Clock, Fire, Quit, Tick, Halt, Archive, Restart}
 use Rattle.rv_event.specs.declared.entry.Stance.{Stance}
-use Rattle.rv_event.specs.declared.entry.Stance.TheVariants.{HandedOver, DroppedBy, WaitsOn}
+use Rattle.rv_event.specs.declared.entry.Stance.TheVariants.{HandedOver, DroppedBy, WaitsOn, Free}
 use Rattle.rv_history.specs.declared.limits.Limits.{Limits}
 use Rattle.rv_history.specs.Due.{or_waiting, out}
 use Rattle.rv_history.specs.Frame.{is_apart}
@@ -33,9 +33,11 @@ use Rattle.rv_history.specs.Rules.{Aim}
 use Rattle.rv_history.specs.Suspension.{IsReleased}
 use Rattle.rv_history.proofs.Answered.{off}
 use Rattle.rv_history.proofs.Ending.{some_number}
-use Rattle.rv_history.proofs.Frame.{all_more, all_parts, apart_of, own_said, unsaid}
+use Rattle.rv_history.proofs.Frame.{all_more, all_parts, apart_of, own_said, stance_apart, unsaid}
 use Rattle.rv_history.proofs.Resumes.{resume_due, woken_ready}
-use Rattle.rv_history.proofs.Stances.{itself, same_number}
+use Rattle.rv_history.proofs.Restarts.{stance_loaded}
+use Rattle.rv_history.proofs.Silent.{apart_loaded}
+use Rattle.rv_history.proofs.Stances.{calm_stance, itself, renewed_stance, same_number}
 use Rattle.rv_history.proofs.Tells.{word_tells}
 
 -- Where a call is answered Suspended nobody waits there
@@ -205,31 +207,31 @@ pub or_more : (b c : Bool) → c ≡ true → (b || c) ≡ true
 or_more true c e = refl
 or_more false c e = e
 
-pub set_releases : (a o : ℕ) (later : List Entry) (set : Entry) (earlier : List Entry) → list_all (is_apart a) (later ++ set ∷ []) ≡ true → touch o set ≡ Sets → released a o (later ++ set ∷ earlier) ≡ true
-set_releases a o [] set earlier silent sets =
-    released_more a o set earlier (all_parts (is_apart a) set [] silent).0 ∙ ap (λ t. is_set t || released a o earlier) sets
-set_releases a o (e ∷ later) set earlier silent sets =
-    let parts = all_parts (is_apart a) e (later ++ set ∷ []) silent in
-    released_more a o e (later ++ set ∷ earlier) parts.0 ∙ or_more (is_set (touch o e)) (released a o (later ++ set ∷ earlier)) (set_releases a o later set earlier parts.1 sets)
+pub set_releases : (shapes : List Shape) (a o : ℕ) (later : List Entry) (set : Entry) (earlier : List Entry) → list_all (is_apart shapes a) (later ++ set ∷ []) ≡ true → touch o set ≡ Sets → released a o (later ++ set ∷ earlier) ≡ true
+set_releases shapes a o [] set earlier silent sets =
+    released_more shapes a o set earlier (all_parts (is_apart shapes a) set [] silent).0 ∙ ap (λ t. is_set t || released a o earlier) sets
+set_releases shapes a o (e ∷ later) set earlier silent sets =
+    let parts = all_parts (is_apart shapes a) e (later ++ set ∷ []) silent in
+    released_more shapes a o e (later ++ set ∷ earlier) parts.0 ∙ or_more (is_set (touch o e)) (released a o (later ++ set ∷ earlier)) (set_releases shapes a o later set earlier parts.1 sets)
 
 -- What its resume is answered
 
 resume_answer : (h : History) (a o : ℕ) → Legal h → IsSolvent h → stance h.shapes a h.past ≡ WaitsOn o → out h a Resume ≡ or_waiting h (released a o h.past)
 resume_answer h a o l solvent at = resume_due h a (WaitsOn o) l solvent at refl
 
-pub woken_exactly : (h : History) (a o : ℕ) → Legal h → IsSolvent h → stance h.shapes a h.past ≡ WaitsOn o → (out h a Resume ≡ Answers.Woken None) ↔ IsReleased a o h.past
+pub woken_exactly : (h : History) (a o : ℕ) → Legal h → IsSolvent h → stance h.shapes a h.past ≡ WaitsOn o → (out h a Resume ≡ Answers.Woken None) ↔ IsReleased h.shapes a o h.past
 woken_exactly h a o l solvent at = (to, from)
   where
-    to : out h a Resume ≡ Answers.Woken None → IsReleased a o h.past
+    to : out h a Resume ≡ Answers.Woken None → IsReleased h.shapes a o h.past
     to e = by_outcome (outcome h.limits h.past h.shapes h.lists a o l at)
       where
-        by_outcome : Outcome a o h.past → IsReleased a o h.past
+        by_outcome : Outcome h.shapes a o h.past → IsReleased h.shapes a o h.past
         by_outcome (inl was) = absurd (off (sym was.0 ∙ woken_ready h (released a o h.past) (sym (resume_answer h a o l solvent at) ∙ e)))
         by_outcome (inr r) = r
 
-    from : IsReleased a o h.past → out h a Resume ≡ Answers.Woken None
+    from : IsReleased h.shapes a o h.past → out h a Resume ≡ Answers.Woken None
     from r =
-        let yes : released a o h.past ≡ true = ap (released a o) r.split ∙ set_releases a o r.later r.set r.earlier r.silent r.sets in
+        let yes : released a o h.past ≡ true = ap (released a o) r.split ∙ set_releases h.shapes a o r.later r.set r.earlier r.silent r.sets in
         resume_answer h a o l solvent at ∙ ap (or_waiting h) yes
 
 -- What a Set_True leaves
@@ -257,10 +259,10 @@ sets h a o p vs v unit name at =
     (λ i. if itself o i then accepted_touch (numbered suspension_operations p) else Untouched) ∙ ap accepted_touch (operation_is p (place h.shapes o) unit name SetTrue at)
 
 pub set_true_leaves : (h : History) (a o p : ℕ) (vs : List ℤ) (unit name : List ℕ) → target h.shapes o p ≡ OnSuspension unit name SetTrue →
-    let next = (after h a (Call o p vs) (Answers.Accepted (pos 0))).past in (waiter o next ≡ None) × (state o next ≡ not (is_some (waiter o h.past)))
+    let next = (after h a (Call o p vs) (Answers.Accepted (pos 0))).past in (waiter o next ≡ None) × (state h.shapes o next ≡ not (is_some (waiter o h.past)))
 set_true_leaves h a o p vs unit name at =
     let t = sets h a o p vs (pos 0) unit name at in
-    (ap (λ k. waiter_after k (waiter o h.past)) t, ap (λ k. state_after k (waiter o h.past) (state o h.past)) t)
+    (ap (λ k. waiter_after k (waiter o h.past)) t, ap (λ k. state_after k (waiter o h.past) (state h.shapes o h.past)) t)
 
 -- Who waits
 
@@ -274,16 +276,20 @@ one_waits h a b o l at bt none nobody_set =
     waiter_of : (h : History) (a o : ℕ) → Legal h → stance h.shapes a h.past ≡ WaitsOn o → released a o h.past ≡ false → waiter o h.past ≡ Some a
     waiter_of h a o l at none = by_outcome (outcome h.limits h.past h.shapes h.lists a o l at)
       where
-        by_outcome : Outcome a o h.past → waiter o h.past ≡ Some a
+        by_outcome : Outcome h.shapes a o h.past → waiter o h.past ≡ Some a
         by_outcome (inl was) = was.1
-        by_outcome (inr r) = absurd (off (sym none ∙ ap (released a o) r.split ∙ set_releases a o r.later r.set r.earlier r.silent r.sets))
+        by_outcome (inr r) = absurd (off (sym none ∙ ap (released a o) r.split ∙ set_releases h.shapes a o r.later r.set r.earlier r.silent r.sets))
 
 -- while one waits the state is False
-pub waited_false : (o : ℕ) (past : List Entry) → is_some (waiter o past) ≡ true → state o past ≡ false
-waited_false o [] e = absurd (off e)
-waited_false o (x ∷ past) e = by_touch (touch o x) e (waited_false o past)
+pub waited_false : (shapes : List Shape) (o : ℕ) (past : List Entry) → is_some (waiter o past) ≡ true → state shapes o past ≡ false
+waited_false shapes o [] e = absurd (off e)
+waited_false shapes o (x ∷ past) e = by_renewal (renews_object shapes o x) (by_touch (touch o x) e (waited_false shapes o past))
   where
-    by_touch : (t : Touch) → is_some (waiter_after t (waiter o past)) ≡ true → (is_some (waiter o past) ≡ true → state o past ≡ false) → state_after t (waiter o past) (state o past) ≡ false
+    by_renewal : (b : Bool) → state_after (touch o x) (waiter o past) (state shapes o past) ≡ false → (if b then false else state_after (touch o x) (waiter o past) (state shapes o past)) ≡ false
+    by_renewal true kept = refl
+    by_renewal false kept = kept
+
+    by_touch : (t : Touch) → is_some (waiter_after t (waiter o past)) ≡ true → (is_some (waiter o past) ≡ true → state shapes o past ≡ false) → state_after t (waiter o past) (state shapes o past) ≡ false
     by_touch (Waits n) f rest = refl
     by_touch Sets f rest = absurd (off f)
     by_touch Clears f rest = refl

@@ -69,6 +69,7 @@ pub fn charged(seen: &Seen, actor: usize, request: &Request) -> Option<usize>
         }
         Request::Fire => handler_unit(seen.catalogue, actor.saturating_sub(1)),
         Request::Complete(_, _) | Request::Settle | Request::Resume | Request::Quit => None,
-        Request::Tick(_) | Request::Halt | Request::Archive(_) => None,
+        Request::Tick(_) | Request::Halt => None,
+        Request::Archive(_) | Request::Restart(_) => None,
     }
 }

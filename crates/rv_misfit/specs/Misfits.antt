@@ -8,7 +8,7 @@ use Rattle.rv_access.specs.declared.change.Change.TheVariants.{Whole, Append, Re
 use Rattle.rv_event.specs.declared.entry.Mode.TheVariants.{Idle, InBody}
 use Rattle.rv_event.specs.declared.entry.Request.{Request}
 use Rattle.rv_event.specs.declared.entry.Request.TheVariants as Requests
-use Rattle.rv_event.specs.declared.entry.Request.TheVariants.{Archive, DelayUntil, Fire, Quit, Tick, Halt}
+use Rattle.rv_event.specs.declared.entry.Request.TheVariants.{Archive, DelayUntil, Fire, Quit, Restart, Tick, Halt}
 use Rattle.rv_history.specs.Fitting.{all_fit, idle_line, idle_task, is_operator, is_tick, is_time, may_call, ranges_in}
 use Rattle.rv_history.specs.Legal.{line_limit}
 use Rattle.rv_shape.specs.Catalogue as shapes
@@ -81,6 +81,7 @@ may_ask who Quit = finishes who
 may_ask who (Tick ticks) = is_operator who && is_tick ticks
 may_ask who Halt = is_operator who
 may_ask who (Archive number) = is_operator who
+may_ask who (Restart unit) = is_operator who
 may_ask who request = has_bodies who
 
 -- why the operator, or a task or a line, never asks this
