@@ -2,7 +2,7 @@
 use Rattle.std.specs.Prelude.{◌≡◌, ◌≢◌, ℕ, false, if◌then◌else◌, List, Option, Some, None, length, slice_index_or}
 use Rattle.rv_shape.specs.Shape.{Shape}
 use Rattle.rv_shape.specs.Units.{object_unit}
-use Rattle.rv_event.specs.Past.{Touch, Waits, Sets, Clears, Untouched, is_restarted, state, state_after, waiter, waiter_after}
+use Rattle.rv_event.specs.Past.{Touch, Waits, Sets, Clears, Untouched, is_restarted, state, state_after, touch, waiter, waiter_after}
 use Rattle.rv_event.specs.declared.entry.Entry.{Entry}
 use Rattle.rv_event.specs.declared.entry.Entry.TheVariants.{Asked}
 use Rattle.rv_event.specs.declared.entry.Request.TheVariants.{Call}
@@ -34,6 +34,10 @@ suspension_after touch before =
 -- the suspension object of a number after these entries
 abbrev pub suspension_at : List Shape → ℕ → List Entry → Suspension
 suspension_at shapes object past = record { state = state shapes object past; waiter = waiter object past; released = None }
+
+-- the same after one more entry, what a restart does aside
+abbrev pub touched_at : List Shape → ℕ → List Entry → Entry → Suspension
+touched_at shapes object past entry = suspension_after (touch object entry) (suspension_at shapes object past)
 
 -- the suspension object of each number is as the entries leave it
 abbrev pub AreSuspensions : List Shape → List Entry → List Suspension → Type 0

@@ -1,6 +1,6 @@
 //! The suspension objects, each as the entries so far leave it (D.10).
 
-ghost use Rattle.std.specs.Prelude.{◌≡◌, ◌<◌, [], ◌∷◌, ℕ, List, Some, None, length, replicate, IfOk};
+ghost use Rattle.std.specs.Prelude.{◌≡◌, ◌<◌, [], ◌∷◌, ℕ, List, Some, None, length, replicate, slice_index_or, IfOk};
 ghost use Rattle.rv_event.specs.Lent.{whole};
 ghost use Rattle.rv_event.specs.Past as past;
 ghost use Rattle.rv_event.specs.declared.entry.Entry.{Entry};
@@ -10,7 +10,7 @@ ghost use Rattle.rv_history.specs.Legal.{Legal};
 ghost use Rattle.rv_suspend.specs.Suspension.{Suspension, initially};
 ghost use Rattle.rv_waiting.specs.Limits.{most_places};
 ghost use Rattle.rv_waiting.specs.Suspensions as suspensions;
-ghost use Rattle.rv_waiting.specs.Suspensions.{AreRenewed, AreSuspensions, HasOneRenewed, suspension_after, touch_of_deed};
+ghost use Rattle.rv_waiting.specs.Suspensions.{AreRenewed, AreSuspensions, HasOneRenewed, suspension_after, touch_of_deed, touched_at};
 ghost use Rattle.rv_shape.specs.Catalogue.{all_objects};
 ghost use Rattle.rv_shape.specs.Shape.{Shape};
 ghost use Rattle.rv_shape.specs.Units.{is_unit, object_unit};
@@ -113,6 +113,7 @@ fn renew_one(items: &mut Vec<SuspensionObject>, catalogue: &Catalogue, unit: usi
 }
 
 // The objects of a unit that is restarted are False, if one is (own). Who waits goes on waiting.
+#[tactic(auto, using(crate::proofs::Suspending::none_renewed, crate::proofs::Suspending::first_renewed, crate::proofs::Suspending::one_renewed, crate::proofs::Suspending::all_renewed))]
 fn renew(items: &mut Vec<SuspensionObject>, catalogue: &Catalogue, unit: Option<usize>)
     requires { length (all_objects catalogue.now) < length items.old.items }
     ensures { AreRenewed catalogue.now unit items.old.items items.new.items }
@@ -205,16 +206,35 @@ impl Suspensions {
         !self.is_waiter(actor, object)
     }
 
+    // What an entry more does to the object that it is a call of.
+    fn carry(&mut self, entry: &EntryRef)
+        requires { (object : ℕ) → suspensions.called (whole entry.now) ≡ Some object → object < most_places }
+        ensures { (shapes : List Shape) (history : List Entry) → AreSuspensions shapes history self.old → (object : ℕ) →
+            slice_index_or self.new object initially ≡ touched_at shapes object history (whole entry.now) }
+    {
+        if let Some(object) = called(entry) {
+            carry_out(&mut self.items[object], deed_of(entry));
+        }
+    }
+
+    // The objects of a unit that is restarted are False, if one is.
+    #[tactic(auto, using(crate::proofs::Suspending::renewed_collected))]
+    fn renew(&mut self, catalogue: &Catalogue, unit: Option<usize>)
+        requires { length (all_objects catalogue.now) < most_places }
+        ensures { AreRenewed catalogue.now unit self.old self.new }
+    {
+        renew(&mut self.items, catalogue, unit);
+    }
+
     /// One entry more.
+    #[tactic(auto, using(crate::proofs::Suspending::renewed_are))]
     pub fn note(&mut self, catalogue: &Catalogue, entry: &EntryRef)
         requires called { (object : ℕ) → suspensions.called (whole entry.now) ≡ Some object → object < most_places }
         requires room { length (all_objects catalogue.now) < most_places }
         ensures { (history : List Entry) → AreSuspensions catalogue.now history self.old →
             AreSuspensions catalogue.now (whole entry.now ∷ history) self.new }
     {
-        if let Some(object) = called(entry) {
-            carry_out(&mut self.items[object], deed_of(entry));
-        }
-        renew(&mut self.items, catalogue, restarts(entry));
+        self.carry(entry);
+        self.renew(catalogue, restarts(entry));
     }
 }
