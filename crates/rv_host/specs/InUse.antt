@@ -17,7 +17,10 @@ abbrev pub has_use : History → ℕ → Bool
 has_use h object =
     excluded h object false || (opens_at_first h.shapes object && nat_lt 0 (length (queue object h.past)))
 
+-- it is an object of the unit, and is so
+abbrev pub has_use_at : History → ℕ → ℕ → Bool
+has_use_at h unit object = is_unit unit (object_unit h.shapes object) && has_use h object
+
 -- an object of the unit is so
 abbrev pub any_object : History → ℕ → Bool
-any_object h unit =
-    any_below (suc (length (all_objects h.shapes))) (λ object. is_unit unit (object_unit h.shapes object) && has_use h object)
+any_object h unit = any_below (suc (length (all_objects h.shapes))) (has_use_at h unit)

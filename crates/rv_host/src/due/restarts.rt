@@ -60,6 +60,7 @@ fn is_there(seen: &Seen, unit: usize, actor: usize) -> bool
 }
 
 // Whether a task of a unit isn't gone.
+#[tactic(auto, using(crate::proofs::Used::none_more, crate::proofs::Used::one_found))]
 fn has_tasks(seen: &Seen, unit: usize) -> bool
     requires { IsSeen seen.now }
     ensures { result ≡ uses.any_below (actors (history_of seen.now).shapes) (uses.is_there (history_of seen.now) unit) }
@@ -96,6 +97,7 @@ fn is_used(seen: &Seen, object: usize) -> bool
 }
 
 // Whether an object of a unit is so.
+#[tactic(auto, using(crate::proofs::Used::none_more, crate::proofs::Used::one_found))]
 fn has_objects(seen: &Seen, unit: usize) -> bool
     requires { IsSeen seen.now }
     ensures { result ≡ any_object (history_of seen.now) unit }
@@ -109,7 +111,7 @@ fn has_objects(seen: &Seen, unit: usize) -> bool
 }
 
 /// What is decided of a restart that fits.
-#[tactic(auto, using(crate::proofs::Used::used_so))]
+#[tactic(auto, using(crate::proofs::Used::used_by_tasks, crate::proofs::Used::used_so))]
 pub fn due_restart(seen: &Seen, unit: usize) -> Decision
     requires { IsSeen seen.now }
     ensures { answer_with None result ≡ (if uses.in_use (history_of seen.now) unit then answers.Busy else due.nothing_more) }
