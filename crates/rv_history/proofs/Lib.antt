@@ -45,6 +45,8 @@ pub mod Pays
 pub mod Ends
 pub mod NeverFull
 pub mod Costs
+pub mod Resting
+pub mod Renewing
 -- Resumes, suspension and the clock
 pub mod Resumes
 pub mod Released

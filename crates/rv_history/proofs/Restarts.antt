@@ -32,7 +32,7 @@ use Rattle.rv_history.specs.Owed.{actors}
 use Rattle.rv_history.proofs.Answered.{answered, both, off}
 use Rattle.rv_history.proofs.Stances.{same_number}
 
-neither : (b c : Bool) → (b || c) ≡ false → (b ≡ false) × (c ≡ false)
+pub neither : (b c : Bool) → (b || c) ≡ false → (b ≡ false) × (c ≡ false)
 neither true c e = absurd (off (sym e))
 neither false c e = (refl, e)
 
@@ -69,7 +69,7 @@ unused h a u w e =
 
 -- Tasks
 
-none_below : (n : ℕ) (test : ℕ → Bool) (j : ℕ) → any_below n test ≡ false → j < n → test j ≡ false
+pub none_below : (n : ℕ) (test : ℕ → Bool) (j : ℕ) → any_below n test ≡ false → j < n → test j ≡ false
 none_below zero test j e less = absurd (omega (arith, less))
 none_below (suc n) test j e less = by_test (j == n) refl (none_below n test j (neither (test n) (any_below n test) e).1)
   where
@@ -79,7 +79,7 @@ none_below (suc n) test j e less = by_test (j == n) refl (none_below n test j (n
         let other : j ≢ n = grind (arith, nat_tests) in
         rest (omega (arith, less, other))
 
-gone_is : (s : Stance) → not (is_gone s) ≡ false → s ≡ Gone
+pub gone_is : (s : Stance) → not (is_gone s) ≡ false → s ≡ Gone
 gone_is Gone e = refl
 gone_is s e = absurd (off (sym e))
 
