@@ -23,6 +23,7 @@ use Rattle.rv_history.specs.Due.{out}
 use Rattle.rv_history.specs.Fitting.{awaits, is_settling}
 use Rattle.rv_history.specs.Frame.{is_apart}
 use Rattle.rv_history.specs.History.{History}
+use Rattle.rv_history.specs.InUse.{is_gone}
 use Rattle.rv_history.specs.Legal.{IsLegal, Legal}
 use Rattle.rv_history.specs.Owed.{actors}
 use Rattle.rv_history.proofs.Answered.{off, Answered, answered}

@@ -108,15 +108,15 @@ stance_unnamed next j a s t e = ap (λ o. or_else (first_of o (if a == j then So
 free_then : (h : History) (a : ℕ) (r : Request) (w : Recorded) (j : ℕ) → AllWait h.shapes h.past (waiting h.past) → recorded (out h a r) ≡ Some w → stance h.shapes j h.past ≡ Free → ((a == j) ≡ true → stance_of (Asked a r w) ≡ Free) → stance h.shapes j (Asked a r w ∷ h.past) ≡ Free
 free_then h a r w j all e free own = by_renewal (renews_task h.shapes j (Asked a r w)) refl
   where
+    by_test : (b : Bool) → (a == j) ≡ b → (if b then stance_of (Asked a r w) else stance h.shapes j h.past) ≡ Free
+    by_test true is = own is
+    by_test false is = free
+
     by_renewal : (b : Bool) → renews_task h.shapes j (Asked a r w) ≡ b → stance h.shapes j (Asked a r w ∷ h.past) ≡ Free
     by_renewal true renews = renewed_stance h.shapes j (Asked a r w) h.past renews
     by_renewal false calm =
         calm_stance h.shapes j (Asked a r w) h.past calm
         ∙ stance_unnamed (next_of (Asked a r w)) j a (stance_of (Asked a r w)) (stance h.shapes j h.past) (names_other h a r w j all e (ap is_waiting free)) ∙ by_test (a == j) refl
-
-    by_test : (b : Bool) → (a == j) ≡ b → (if b then stance_of (Asked a r w) else stance h.shapes j h.past) ≡ Free
-    by_test true is = own is
-    by_test false is = free
 
 -- The bodies that left their objects unsettled
 
