@@ -75,7 +75,7 @@ each_listed u [] = refl
 each_listed u (p ∷ ps) = each_first (length ps) (λ k. of_unit u (slice_get (p ∷ ps) k)) ∙ ap (λ n. of_unit u (Some p) + n) (each_listed u ps)
 
 total_join : (u : ℕ) (ps qs : List Place) → total u (ps ++ qs) ≡ total u ps + total u qs
-total_join u [] qs = refl
+total_join u [] qs = omega arith
 total_join u (p ∷ ps) qs = omega (arith, total_join u ps qs)
 
 total_own : (u n part parts : ℕ) → (n == u) ≡ true → total u (places_from n part parts) ≡ parts
