@@ -1,5 +1,5 @@
 -- After a halt only ends, resumes and quits add entries, and one that has quit adds none.
-use Rattle.std.proofs.Common.{◌≡◌, ℕ, List, [], ◌∷◌, ◌++◌, Bool, true, false, ap, sym, ◌∙◌, refl}
+use Rattle.std.proofs.Common.{◌≡◌, ℕ, List, [], ◌∷◌, ◌++◌, Bool, true, false, sym, refl}
 use Rattle.std.specs.Prelude.{ℤ, ◌&&◌, ◌||◌, not}
 use Rattle.std.specs.List.{list_all, list_any}
 use Rattle.rv_access.specs.Words.{Words}

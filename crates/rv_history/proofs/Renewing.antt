@@ -1,11 +1,11 @@
 -- What a restart costs: one, and the tasks of its unit, each of which owes its quit again.
-use Rattle.std.proofs.Common.{◌≡◌, ◌≢◌, ℕ, zero, suc, ◌+◌, ◌-◌, ◌<◌, ◌≤◌, List, [], ◌∷◌, ◌++◌, length, Some, None, Option, Bool, true, false, ℤ, arith, ap, sym, ◌∙◌, refl}
+use Rattle.std.proofs.Common.{◌≡◌, ℕ, zero, suc, ◌+◌, ◌-◌, ◌<◌, ◌≤◌, List, [], ◌∷◌, ◌++◌, length, Some, None, Option, Bool, true, false, ℤ, arith, ap, sym, ◌∙◌, refl}
 use Rattle.std.specs.Prelude.{nat_lt, ◌==◌, ◌&&◌, ◌||◌, ◌↔◌, not, slice_get, if◌then◌else◌}
 use Rattle.std.specs.List.{list_any}
 use Rattle.std.specs.Option.{option_map}
 use Rattle.std.proofs.lemmas.Bool.Decides.{nat_tests}
 use Rattle.std.proofs.lemmas.List.{length-map}
-use Rattle.rv_shape.specs.Catalogue.{all_tasks, first_task, numbered, tasks_of}
+use Rattle.rv_shape.specs.Catalogue.{all_tasks, numbered, tasks_of}
 use Rattle.rv_shape.specs.Places.{places, places_from}
 use Rattle.rv_shape.specs.Shape.{Shape}
 use Rattle.rv_shape.specs.Units.{is_unit, task_unit}
@@ -17,12 +17,11 @@ use Rattle.rv_event.specs.declared.entry.Entry.{Entry}
 use Rattle.rv_event.specs.declared.entry.Entry.TheVariants.{Asked}
 use Rattle.rv_event.specs.declared.entry.Recorded.TheVariants.{Accepted}
 use Rattle.rv_event.specs.declared.entry.Request.TheVariants.{Restart}
-use Rattle.rv_event.specs.declared.entry.Stance.{Stance}
 use Rattle.rv_event.specs.declared.entry.Stance.TheVariants.{Free, Gone}
 use Rattle.rv_history.specs.History.{History}
 use Rattle.rv_history.specs.InUse.{any_below, in_use, is_at, is_gone, is_there, would_enter}
 use Rattle.rv_history.specs.Legal.{Legal}
-use Rattle.rv_history.specs.Owed.{IsSolvent, actors, dues, each, halt_due, has_room, owed, room, surcharge, unfinished}
+use Rattle.rv_history.specs.Owed.{IsSolvent, actors, dues, each, halt_due, has_room, owed, room}
 use Rattle.rv_history.proofs.Answered.{off}
 use Rattle.rv_history.proofs.Frame.{apart_of, own_said, stance_apart}
 use Rattle.rv_history.proofs.Pays.{dues_by}

@@ -1,12 +1,12 @@
 -- Restarts that are recorded: what is in use isn't renewed by one, and who begins anew had gone.
-use Rattle.std.proofs.Common.{◌≡◌, ◌≢◌, ◌⊎◌, inl, inr, ℕ, zero, suc, ◌+◌, ◌<◌, ◌≤◌, List, [], ◌∷◌, ◌++◌, length, Some, None, Option, Bool, true, false, cond, arith, ap, sym, ◌∙◌, refl, append_assoc}
-use Rattle.std.specs.Prelude.{ℤ, ◌==◌, ◌&&◌, ◌||◌, not, if◌then◌else◌}
+use Rattle.std.proofs.Common.{◌≡◌, ◌≢◌, ◌⊎◌, inl, inr, ℕ, zero, suc, ◌+◌, ◌<◌, List, [], ◌∷◌, ◌++◌, Some, Bool, true, false, cond, arith, ap, sym, ◌∙◌, refl, append_assoc}
+use Rattle.std.specs.Prelude.{◌==◌, ◌&&◌, ◌||◌, not, if◌then◌else◌}
 use Rattle.std.specs.List.{filter, list_any}
 use Rattle.std.proofs.lemmas.Bool.Decides.{nat_tests}
 use Rattle.rv_access.specs.Words.{Words}
 use Rattle.rv_shape.specs.Catalogue.{initial, place, who}
 use Rattle.rv_shape.specs.Shape.{Shape}
-use Rattle.rv_shape.specs.Units.{is_loaded, is_unit, object_unit, task_unit}
+use Rattle.rv_shape.specs.Units.{is_loaded, is_unit, object_unit}
 use Rattle.rv_shape.proofs.UnitsStay.{object_stays, task_below, task_stays}
 use Rattle.rv_event.specs.Past.{is_unsettled, or_else, queue, renews_object, renews_task, said, stance, state, state_after, touch, under_way, unsettled, waiter, waiting}
 use Rattle.rv_event.specs.Recorded.{recorded}

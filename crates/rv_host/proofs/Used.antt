@@ -1,21 +1,18 @@
 -- Object by object it is asked whether a unit is in use, and so it is.
-use Rattle.std.proofs.Common.{◌≡◌, ℕ, zero, suc, ◌+◌, ◌<◌, ◌≤◌, List, [], ◌∷◌, length, Some, None, Bool, true, false, arith, ap, sym, ◌∙◌, refl}
-use Rattle.std.specs.Prelude.{◌==◌, ◌&&◌, ◌||◌, not, nat_lt, cond, filter, if◌then◌else◌}
+use Rattle.std.proofs.Common.{◌≡◌, ℕ, zero, suc, ◌+◌, ◌<◌, List, [], ◌∷◌, length, Bool, true, false, arith, ap, sym, ◌∙◌, refl}
+use Rattle.std.specs.Prelude.{◌==◌, ◌&&◌, ◌||◌, nat_lt, cond, filter}
 use Rattle.std.specs.List.{list_any}
 use Rattle.std.proofs.lemmas.Bool.Decides.{nat_tests}
-use Rattle.rv_shape.specs.Catalogue.{all_objects, shares, target}
+use Rattle.rv_shape.specs.Catalogue.{all_objects}
 use Rattle.rv_shape.specs.Units.{is_unit, object_unit}
 use Rattle.rv_shape.proofs.UnitsStay.{object_within}
-use Rattle.rv_event.specs.Past.{is_unsettled, queue, under_way, unsettled, waiting}
-use Rattle.rv_event.specs.declared.entry.Answer.{Answer}
-use Rattle.rv_event.specs.declared.entry.Answer.TheVariants.{Busy}
+use Rattle.rv_event.specs.Past.{is_unsettled, under_way, unsettled, waiting}
 use Rattle.rv_event.specs.declared.entry.Body.{Body}
-use Rattle.rv_history.specs.Due.{nothing_more}
 use Rattle.rv_history.specs.Exclusion.{conflicts}
 use Rattle.rv_history.specs.History.{History}
 use Rattle.rv_history.specs.InUse.{any_below, in_use, is_at, is_there, would_enter}
 use Rattle.rv_history.specs.Owed.{actors}
-use Rattle.rv_host.specs.InUse.{any_object, has_use, has_use_at, opens_at_first}
+use Rattle.rv_host.specs.InUse.{any_object, has_use_at, opens_at_first}
 
 -- numbers below one
 

@@ -1,5 +1,5 @@
 -- Whether a unit is in use, object by object (own).
-use Rattle.std.specs.Prelude.{ℕ, suc, ◌&&◌, ◌||◌, Bool, false, List, [], ◌∷◌, length, nat_lt}
+use Rattle.std.specs.Prelude.{ℕ, suc, ◌&&◌, ◌||◌, Bool, false, List, length, nat_lt}
 use Rattle.rv_shape.specs.Catalogue.{all_objects, initial, place}
 use Rattle.rv_shape.specs.Shape.{Shape}
 use Rattle.rv_shape.specs.Units.{is_unit, object_unit}

@@ -1,6 +1,6 @@
 -- On a legal history the operator is idle: it holds nothing, has nothing to settle, and waits for nothing.
-use Rattle.std.proofs.Common.{◌≡◌, ℕ, Bool, true, false, List, [], ◌∷◌, None, refl, ap, sym, ◌∙◌, cond}
-use Rattle.std.specs.Prelude.{length, ◌==◌, slice_get}
+use Rattle.std.proofs.Common.{◌≡◌, List, [], ◌∷◌, None, refl, ap, ◌∙◌, cond}
+use Rattle.std.specs.Prelude.{◌==◌, slice_get}
 use Rattle.std.specs.List.{filter}
 use Rattle.rv_event.specs.Past.{held, mode, mode_by, or_settling, stance, to_settle, under_way, unsettled}
 use Rattle.rv_event.specs.declared.entry.Body.{Body}
@@ -12,7 +12,6 @@ use Rattle.rv_history.specs.Legal.{Legal}
 use Rattle.rv_history.specs.Orderly.{Each}
 use Rattle.rv_history.proofs.Callers.{IsManned, Manned, legal_manned}
 use Rattle.rv_history.proofs.Resting.{legal_free}
-use Rattle.rv_shape.specs.Catalogue.{who}
 use Rattle.rv_shape.specs.Shape.{Shape}
 
 none_of : (bodies : List Body) → Each IsManned bodies → filter (λ body. body.actor == 0) bodies ≡ []

@@ -1,5 +1,5 @@
 -- Where it is told that a request of a step never fits, it fits its actor on no history over these units.
-use Rattle.std.proofs.Common.{◌≡◌, ℕ, ◌+◌, Bool, true, false, List, [], ◌∷◌, ℤ, Some, refl, ap, sym, ◌∙◌}
+use Rattle.std.proofs.Common.{◌≡◌, ℕ, ◌+◌, Bool, true, false, List, [], ◌∷◌, ℤ, Some, None, refl, ap, sym, ◌∙◌}
 use Rattle.std.specs.Prelude.{length, nat_lt, not, ◌-◌, ◌&&◌, if◌then◌else◌}
 use Rattle.std.proofs.lemmas.Bool.{and_left, and_right, false≢true}
 use Rattle.rv_event.specs.Past.{halted, held, mode}

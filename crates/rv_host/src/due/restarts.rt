@@ -1,7 +1,6 @@
 //! Whether a unit is in use, so that it isn't restarted (own).
 
-ghost use Rattle.std.specs.Prelude.{◌≡◌, ◌||◌, ◌&&◌, ◌<◌, ◌-◌, if◌then◌else◌, not};
-ghost use Rattle.rv_event.specs.Past as past;
+ghost use Rattle.std.specs.Prelude.{◌≡◌, ◌&&◌, ◌-◌, if◌then◌else◌};
 ghost use Rattle.rv_event.specs.declared.entry.Answer.TheVariants as answers;
 ghost use Rattle.rv_history.specs.Due as due;
 ghost use Rattle.rv_history.specs.InUse as uses;
@@ -9,7 +8,6 @@ ghost use Rattle.rv_history.specs.Owed.{actors};
 ghost use Rattle.rv_host.specs.Decisions.{answer_with};
 ghost use Rattle.rv_host.specs.InUse.{any_object, has_use, opens_at_first};
 ghost use Rattle.rv_host.specs.Seen.{IsSeen, history_of};
-ghost use Rattle.rv_shape.specs.Catalogue as catalogues;
 ghost use Rattle.rv_shape.specs.Units.{is_unit, object_unit, task_unit};
 
 use crate::decision::Decision;
