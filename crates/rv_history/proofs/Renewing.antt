@@ -174,7 +174,7 @@ due_behind h u v j l away = by_unit (is_unit u (task_unit h.shapes j)) refl
     by_unit true is =
         let task : nat_lt j 11 ≡ false = above_lines h.shapes u j is in
         let gone : stance h.shapes j h.past ≡ Gone = gone_is (stance h.shapes j h.past)
-            (sym (ap (λ b. b && not (is_gone (stance h.shapes j h.past))) is) ∙ none_below (actors h.shapes) (is_there h u) j away (task_below h.shapes u j is)) in
+        (sym (ap (λ b. b && not (is_gone (stance h.shapes j h.past))) is) ∙ none_below (actors h.shapes) (is_there h u) j away (task_below h.shapes u j is)) in
         let free : stance h.shapes j (e ∷ h.past) ≡ Free = renewed_stance h.shapes j e h.past is in
         let owes : dues h.shapes (e ∷ h.past) j ≡ 1 = λ i. dues_by (free i) (task i) in
         let owed_none : dues h.shapes h.past j ≡ 0 = λ i. dues_by (gone i) (task i) in

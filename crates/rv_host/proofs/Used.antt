@@ -32,6 +32,7 @@ one_found n (suc m) test less here = by_test (n == m) refl (one_found n m test)
     by_test false is before =
         let behind : n < m = grind (arith, nat_tests, is, less) in
         ap (λ t. test m || t) (before behind here) ∙ either (test m)
+
     either : (t : Bool) → (t || true) ≡ true
     either true = refl
     either false = refl
@@ -70,9 +71,11 @@ any_at (suc n) k p = ap (λ t. (p n && (k == n)) || t) (any_at n k p) ∙ by_tes
     last : (a : Bool) (b c : Bool) → b ≡ false → c ≡ true → ((a && true) || (a && b)) ≡ (a && c)
     last true b c before upto = sym upto
     last false b c before upto = refl
+
     other : (a d : Bool) (b c : Bool) → b ≡ c → ((a && false) || (d && b)) ≡ (d && c)
     other true d b c same = ap (λ t. d && t) same
     other false d b c same = ap (λ t. d && t) same
+
     by_test : (b : Bool) → (k == n) ≡ b → ((p n && (k == n)) || (p k && nat_lt k n)) ≡ (p k && nat_lt k (suc n))
     by_test true is =
         let same : n ≡ k = grind (arith, nat_tests, is) in
@@ -129,26 +132,34 @@ objects_so h unit =
     ∙ any_or n (λ o. (of o && on o (under_way h.shapes h.past)) || (of o && on o (unsettled h.shapes h.past))) (λ o. enters o && on o (waiting h.past))
     ∙ ap (λ t. t || any_below n (λ o. enters o && on o (waiting h.past))) (any_or n (λ o. of o && on o (under_way h.shapes h.past)) (λ o. of o && on o (unsettled h.shapes h.past)))
     ∙ (λ i. (any_listed n of (λ (b : Body). b.object) (under_way h.shapes h.past) known i || any_listed n of (λ (b : Body). b.object) (unsettled h.shapes h.past) known i)
-        || any_listed n enters (λ (b : Body). b.object) (waiting h.past) known_enters i)
+    || any_listed n enters (λ (b : Body). b.object) (waiting h.past) known_enters i)
   where
     n : ℕ
     n = suc (length (all_objects h.shapes))
+
     of : ℕ → Bool
     of o = is_unit unit (object_unit h.shapes o)
+
     enters : ℕ → Bool
     enters o = is_unit unit (object_unit h.shapes o) && opens_at_first h.shapes o
+
     on : ℕ → List Body → Bool
     on o bodies = list_any (λ (b : Body). b.object == o) bodies
+
     known : (b : Body) → of b.object ≡ true → b.object < n
     known b is = omega (arith, object_within h.shapes unit b.object is)
+
     first : (a b : Bool) → (a && b) ≡ true → a ≡ true
     first true b e = refl
     first false b e = e
+
     known_enters : (b : Body) → enters b.object ≡ true → b.object < n
     known_enters b is = known b (first (of b.object) (opens_at_first h.shapes b.object) is)
+
     spread : (p a b q c : Bool) → (p && ((a || b) || (q && c))) ≡ (((p && a) || (p && b)) || ((p && q) && c))
     spread true a b q c = refl
     spread false a b q c = refl
+
     each : (o : ℕ) → has_use_at h unit o ≡ (((of o && on o (under_way h.shapes h.past)) || (of o && on o (unsettled h.shapes h.past))) || (enters o && on o (waiting h.past)))
     each o =
         (λ i. of o && ((holders h o i || is_unsettled h.shapes o h.past) || (opens_at_first h.shapes o && some_queued (waiting h.past) o i)))

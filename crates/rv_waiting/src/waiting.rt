@@ -164,7 +164,13 @@ impl Waiting {
 
     /// One entry more, with the last queued call of the actor that it names as handed the object or
     /// dropped, and the version of the list before it.
-    pub fn note(&mut self, catalogue: &Catalogue, entry: &EntryRef, named: Option<Body>, version: usize)
+    pub fn note(
+        &mut self,
+        catalogue: &Catalogue,
+        entry: &EntryRef,
+        named: Option<Body>,
+        version: usize,
+    )
         requires next { (h : History) × IsNext h (whole entry.now) named version self.old }
         requires room { length (all_objects catalogue.now) < most_places }
         ensures { (h : History) → h.shapes ≡ catalogue.now → IsNext h (whole entry.now) named version self.old →

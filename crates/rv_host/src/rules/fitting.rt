@@ -210,7 +210,8 @@ fn fits_mode(seen: &Seen, actor: usize, request: &Request, mode: Mode) -> bool
         Request::Tick(ticks) => is_operator(seen.catalogue, actor) && is_tick(*ticks),
         Request::Halt => is_operator(seen.catalogue, actor),
         Request::Archive(number) => is_operator(seen.catalogue, actor) && is_archive(seen, *number),
-        Request::Restart(unit) => is_operator(seen.catalogue, actor) && is_loaded(seen.catalogue, *unit),
+        Request::Restart(unit) => is_operator(seen.catalogue, actor)
+            && is_loaded(seen.catalogue, *unit),
     }
 }
 
