@@ -93,7 +93,7 @@ carries_later : (old new : Known) (v w : Passing) (order : Option Order) (result
 carries_later old new v w (Some order) result obeys = obeys_later old new v w order result obeys
 carries_later old new v w None result says = same_later v w says.0
 
-serves_later : (old new : Known) (v w : Passing) (line : List (List ℕ)) (result : Result Next LineFault) → Serves old new v w line result → Later v w
+pub serves_later : (old new : Known) (v w : Passing) (line : List (List ℕ)) (result : Result Next LineFault) → Serves old new v w line result → Later v w
 serves_later old new v w line result (inl none) = same_later v w none.0
 serves_later old new v w line result (inr carries) = carries_later old new v w (order_of line) result carries
 

@@ -4,6 +4,7 @@
 
 mod advising;
 mod archiving;
+mod asking;
 mod attention;
 mod beside;
 mod closing;
@@ -11,11 +12,13 @@ mod console;
 mod due;
 mod ending;
 mod explaining;
+mod filing;
 mod follower;
 mod kept;
 mod least;
 mod notes;
 mod outsiders;
+mod reserve;
 mod room;
 mod spending;
 mod telling;
@@ -26,5 +29,6 @@ mod waiting;
 
 pub use archiving::LASTING_BUDGET;
 pub use attention::{Attention, Typing};
+pub use filing::{Beside, Filed};
 pub use follower::Follower;
 pub use kept::run_kept;

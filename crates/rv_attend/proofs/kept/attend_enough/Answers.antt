@@ -20,3 +20,6 @@ pub returns-in-Err : goal.returns-in-Err
 returns-in-Err g c = λ first.
     let kept = nothing_kept (g.F.Write.contents c.args.follower.now.keeper.file) _ c.args.session.staff.control _ refl first in
     inr (inr (fails_first _ _ _ _ c.begin.new.session.staff c.begin.new.follower.keeper.next c.in-Err.failure c.in-Err.ensures.lasting c.begin.ensures.begins (c.in-Err.ensures.keeps _ kept)))
+
+pub returns-in-Err-keep_sections : goal.returns-in-Err-keep_sections
+returns-in-Err-keep_sections g c = λ first. inr (inl refl)

@@ -1,0 +1,107 @@
+"""The room that a run keeps for its operator's list changes (`run --operator-room`), and what is told where it doesn't."""
+import re
+import subprocess
+import time
+from typing import Any
+
+SECONDS = 240
+CLOCK = """with Ada.Real_Time;
+package {name} is
+   task T with Priority => 5;
+end {name};
+package body {name} is
+   task body T is
+      X : Ada.Real_Time.Time := Ada.Real_Time.Clock;
+   begin
+      loop
+         X := Ada.Real_Time.Clock;
+      end loop;
+   end T;
+end {name};
+"""
+
+
+def script(capacity: int, units: int, lists: str = "@list\nallow * * *\n") -> bytes:
+    """So many units that read the clock for ever, in a journal of a capacity."""
+    return (f"@host.toml\ncapacity = {capacity}\nbudget = 1000000\n" + "".join("@unit\n" + CLOCK.format(name=f"Evil{number}") for number in range(units)) + lists + "@run\n").encode()
+
+
+# What 100 entries for each of so many units of a task, a list and so many list changes need.
+def needed(units: int, kept: int, lists: int = 1) -> int:
+    return 3 * 100 * units + units + units + lists + kept + 1
+
+
+def behind_a_second(hands: Any, words: list[str], sections: bytes, commands: bytes) -> subprocess.CompletedProcess[bytes]:
+    """What a run prints whose commands come a second behind its start, by when its units have spent what they may."""
+    with subprocess.Popen([hands.launcher, *words], stdin=subprocess.PIPE, stdout=subprocess.PIPE, stderr=subprocess.PIPE) as run:
+        assert run.stdin
+        run.stdin.write(sections)
+        run.stdin.flush()
+        time.sleep(1)
+        out, told = run.communicate(commands, timeout=SECONDS)
+    return subprocess.CompletedProcess(words, run.returncode, out, told)
+
+
+def room_that_is_kept(hands: Any) -> None:
+    """A run whose capacity doesn't hold its quotas and the operator's room starts nothing; one that just holds them takes all list changes that are kept."""
+    for units, kept in ((1, 1), (3, 64), (2, 512)):
+        least = needed(units, kept)
+        words = ["run", "--quota", "100", *(["--operator-room", str(kept)] if kept != 64 else [])]
+        small = hands.asked(words, script(least - 1, units) + b"quit\n")
+        hands.due(f"a capacity that is one too small for {units} units and {kept} changes", (small.returncode, small.stdout) == (1, b""), small)
+        hands.due(f"and told ({units} units)", f" come to {least:,} entries; the capacity is {least - 1:,}\n".encode() in small.stderr, small.stderr)
+        changes = b"append deny Elsewhere * *\nremove 2\n" * (kept // 2) + b"append deny Elsewhere * *\n" * (kept % 2)
+        done = behind_a_second(hands, words, script(least, units), changes + b"quit\n")
+        hands.due(f"the least capacity for {units} units takes {kept} changes", done.returncode == 0 and done.stdout.startswith(b"accepted 0\n" * kept), (done.returncode, done.stdout[-200:], done.stderr))
+        spent = [b"quota: Evil%d has spent its 100 entries; what it asks behind them is answered full" % number for number in range(units)]
+        hands.due(f"who has spent its quota is told without notes ({units} units)", all(line in done.stderr for line in spent), done.stderr)
+    whole = hands.asked(["run", "--quota", "100"], script(needed(1, 64, 2), 1, "@list\nallow * * *\n@list\ndeny A * *\n") + b"quit\n")
+    hands.due("each list of the sections counts", whole.returncode == 0, whole)
+    whole = hands.asked(["run", "--quota", "100"], script(needed(1, 64, 2) - 1, 1, "@list\nallow * * *\n@list\ndeny A * *\n") + b"quit\n")
+    hands.due("and one entry fewer is too small", whole.returncode == 1, whole)
+
+
+def ticks_that_leave_room(hands: Any) -> None:
+    """A clock that is followed stands still where more ticks would leave less than is kept, which a note says once; list changes go on."""
+    with subprocess.Popen([hands.launcher, "run", "--quota", "100", "--operator-room", "8", "--tick", "1", "--notes", "always"], stdin=subprocess.PIPE, stdout=subprocess.PIPE,
+                          stderr=subprocess.PIPE) as run:
+        assert run.stdin and run.stdout and run.stderr
+        run.stdin.write(script(needed(1, 8) + 20, 1))
+        run.stdin.flush()
+        said = b""
+        while b"the clock stands still" not in said:
+            line = run.stderr.readline()
+            assert line, said
+            said += line
+        out, told = run.communicate(b"append deny A * *\n" * 8 + b"journal 1\nquit\n", timeout=SECONDS)
+    hands.due("eight list changes behind the last tick", (run.returncode, out.startswith(b"accepted 0\n" * 8)) == (0, True), (run.returncode, out[:200]))
+    hands.due("it is told once", (said + told).count(b"the clock stands still") == 1, said + told)
+    entries = re.search(rb"^entries (\d+)$", out, re.MULTILINE)
+    hands.due("the ticks are those that fit", entries is not None and int(entries.group(1)) <= needed(1, 8) + 20, out[-100:])
+
+
+def commands_that_leave_less(hands: Any) -> None:
+    """A load or ticks that leave less than is kept are told before they are answered."""
+    unit = CLOCK.format(name="More").encode()
+    done = hands.asked(["run", "--quota", "100", "--notes", "always"], script(needed(1, 64), 1) + b"load\n" + unit + b"@end\ntick 5\nquit\n")
+    for what in (b"note: less room is kept for list changes behind this load: ", b"note: less room is kept for list changes behind this tick: "):
+        hands.due(what.decode(), done.stderr.count(what) == 1, done.stderr)
+    ample = hands.asked(["run", "--quota", "100", "--notes", "always"], script(4096, 1) + b"load\n" + unit + b"@end\ntick 5\nquit\n")
+    hands.due("where they leave enough nothing is told", b"less room" not in ample.stderr, ample.stderr)
+
+
+def words_that_are_vain(hands: Any) -> None:
+    """A quota that says nothing, a number below 0, an empty script, and a stream that fails, each told."""
+    for words, why in ((["audit", "--quota", "9"], b"'--quota <N>' needs '--explain'"), (["run", "--operator-room", "9"], b"'--operator-room <K>' needs '--quota <N>'"),
+                       (["run", "--grace", "-5"], b"  tip: no flag takes a number below 0\n")):
+        done = hands.asked(words, b"")
+        hands.due(f"{words}", done.returncode == 2 and why in done.stderr and b"use '-- -5'" not in done.stderr, done)
+    empty = hands.folder / hands.file("empty", b"")
+    for words in (["play"], ["check"], ["run"]):
+        done = hands.asked([*words, str(empty), "--notes", "always"], b"")
+        hands.due(f"{words} of an empty file", b" is empty\n" in done.stderr, done)
+    done = hands.asked(["play"], b"@list\nallow * * *\n", streams=">/dev/full")
+    hands.due("a full output is named", (done.returncode, done.stderr.startswith(b"ravenhost: standard output")) == (4, True), done)
+
+
+ROOM_CASES = (room_that_is_kept, ticks_that_leave_room, commands_that_leave_less, words_that_are_vain)
