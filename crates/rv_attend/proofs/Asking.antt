@@ -10,8 +10,7 @@ use Rattle.rv_input.specs.Coming.{Reading}
 use Rattle.rv_port.specs.Traces.{Passing}
 use Rattle.rv_run.specs.Commanding.{Behind, Commands, Follows, IsDone}
 use Rattle.rv_run.specs.Staging.{Outcome, Stage, stage}
-use Rattle.rv_shell.specs.Orders.{order_of}
-use Rattle.rv_shell.specs.Serving.{Carries, Prints, RequestsOrWorn, Serves, Writes}
+use Rattle.rv_shell.specs.Serving.{Carries, Obeys, Prints, RequestsOrWorn, Serves, Writes}
 use Rattle.rv_shell.specs.declared.order.Order.{Order}
 use Rattle.rv_shell.specs.declared.order.Order.TheVariants as Orders
 use Rattle.rv_shell.specs.declared.shell.LineFault.{LineFault}
@@ -22,7 +21,7 @@ use Rattle.rv_shell.proofs.Serving.{asks_by}
 use Rattle.rv_staff.specs.Saying.{Known}
 use Rattle.rv_staff.specs.Staffs.{Staffed, Workers}
 use Rattle.rv_text.specs.Words.{words}
-use Rattle.rv_attend.specs.Again.{AskedAgain, Asks, HeedsPlainly, InVain, IsRequest}
+use Rattle.rv_attend.specs.Again.{AskedAgain, Asks, HeedsPlainly, InVain, IsRequest, TakesRoom}
 use Rattle.rv_attend.specs.Chores.{Chores}
 use Rattle.rv_attend.proofs.Chores.{chores_in_later}
 use Rattle.rv_attend.proofs.Growing.{commands_later, later_on, same_later, serves_later}
@@ -43,57 +42,73 @@ said_request : (old new : Known) (v w : Passing) (ask : Ask) (text : List ℕ) (
 said_request old new v w ask text next result requests prints =
     asks_by old new v w ask requests.answer result requests.told (as_text old new text _ result requests.written.0 prints)
 
-said_order : (old new : Known) (v w : Passing) (order : Option Order) (text : List ℕ) (next : Next) (result : Result Next LineFault) → IsRequest order
-    → Carries (Some []) (Some text) v w order (Ok next) → Prints old new text result → Carries old new v w order result
-said_order old new v w (Some (Orders.Change (Ok change))) text next result is carries prints = said_request old new v w (Ask.Change change) text next result carries prints
-said_order old new v w (Some (Orders.Change (Err fault))) text next result is carries prints = (carries.0, as_text old new text _ result carries.1.0 prints)
-said_order old new v w (Some (Orders.Tick ticks)) text next result is carries prints = said_request old new v w (Ask.Step (asks.Tick ticks)) text next result carries prints
-said_order old new v w (Some order) text next result is carries prints = absurd is
-said_order old new v w None text next result is carries prints = absurd is
+said_order : (old new : Known) (v w : Passing) (order : Order) (text : List ℕ) (next : Next) (result : Result Next LineFault) → IsRequest order
+    → Obeys (Some []) (Some text) v w order (Ok next) → Prints old new text result → Obeys old new v w order result
+said_order old new v w (Orders.Change (Ok change)) text next result is carries prints = said_request old new v w (Ask.Change change) text next result carries prints
+said_order old new v w (Orders.Change (Err fault)) text next result is carries prints = (carries.0, as_text old new text _ result carries.1.0 prints)
+said_order old new v w (Orders.Tick ticks) text next result is carries prints = said_request old new v w (Ask.Step (asks.Tick ticks)) text next result carries prints
+said_order old new v w order text next result is carries prints = absurd is
 
-pub said_again : (old new : Known) (v w : Passing) (line text : List ℕ) (next : Next) (result : Result Next LineFault) → IsRequest (order_of (words line))
+pub said_again : (old new : Known) (v w : Passing) (line text : List ℕ) (next : Next) (result : Result Next LineFault) → TakesRoom line
     → Asks v w line text (Ok next) → Prints old new text result → Serves old new v w (words line) result
-said_again old new v w line text next result is (inl lacks) prints = absurd (cc lacks.2)
-said_again old new v w line text next result is (inr carries) prints = inr (said_order old new v w (order_of (words line)) text next result is carries prints)
+said_again old new v w line text next result is asked prints = by_serves asked.serves
+  where
+    by_serves : Serves (Some []) (Some text) v w (words line) (Ok next) → Serves old new v w (words line) result
+    by_serves (inl lacks) = absurd (cc lacks.2)
+    by_serves (inr carries) =
+        let obeys = subst (λ (o : Option Order). Carries (Some []) (Some text) v w o (Ok next)) is.read carries in
+        inr (subst (λ (o : Option Order). Carries old new v w o result) (sym is.read) (said_order old new v w is.order text next result is.request obeys prints))
 
-worn_order : (old : Known) (v w : Passing) (order : Option Order) (text : List ℕ) → IsRequest order → Carries (Some []) (Some text) v w order (Err Worn)
-    → Carries old old v w order (Err Worn)
-worn_order old v w (Some (Orders.Change (Ok change))) text is none = (none.0, refl)
-worn_order old v w (Some (Orders.Change (Err fault))) text is none = absurd none.1
-worn_order old v w (Some (Orders.Tick ticks)) text is none = (none.0, refl)
-worn_order old v w (Some order) text is none = absurd is
-worn_order old v w None text is none = absurd is
+worn_order : (old : Known) (v w : Passing) (order : Order) (text : List ℕ) → IsRequest order → Obeys (Some []) (Some text) v w order (Err Worn)
+    → Obeys old old v w order (Err Worn)
+worn_order old v w (Orders.Change (Ok change)) text is none = (none.0, refl)
+worn_order old v w (Orders.Change (Err fault)) text is none = absurd none.1
+worn_order old v w (Orders.Tick ticks) text is none = (none.0, refl)
+worn_order old v w order text is none = absurd is
 
-pub worn_again : (old : Known) (v w : Passing) (line text : List ℕ) → IsRequest (order_of (words line)) → Asks v w line text (Err Worn)
+pub worn_again : (old : Known) (v w : Passing) (line text : List ℕ) → TakesRoom line → Asks v w line text (Err Worn)
     → Serves old old v w (words line) (Err Worn)
-worn_again old v w line text is (inl lacks) = absurd (cc lacks.2)
-worn_again old v w line text is (inr carries) = inr (worn_order old v w (order_of (words line)) text is carries)
+worn_again old v w line text is asked = by_serves asked.serves
+  where
+    by_serves : Serves (Some []) (Some text) v w (words line) (Err Worn) → Serves old old v w (words line) (Err Worn)
+    by_serves (inl lacks) = absurd (cc lacks.2)
+    by_serves (inr carries) =
+        let obeys = subst (λ (o : Option Order). Carries (Some []) (Some text) v w o (Err Worn)) is.read carries in
+        inr (subst (λ (o : Option Order). Carries old old v w o (Err Worn)) (sym is.read) (worn_order old v w is.order text is.request obeys))
 
-unsaid_order : (old : Known) (v w : Passing) (order : Option Order) (text : List ℕ) → IsRequest order → Carries (Some []) (Some text) v w order (Err NoMemory)
-    → Carries old old v w order (Err NoMemory)
-unsaid_order old v w (Some (Orders.Change (Ok change))) text is asked = record { answer = asked.answer; told = asked.told; written = refl }
-unsaid_order old v w (Some (Orders.Change (Err fault))) text is asked = (asked.0, refl)
-unsaid_order old v w (Some (Orders.Tick ticks)) text is asked = record { answer = asked.answer; told = asked.told; written = refl }
-unsaid_order old v w (Some order) text is asked = absurd is
-unsaid_order old v w None text is asked = absurd is
+unsaid_order : (old : Known) (v w : Passing) (order : Order) (text : List ℕ) → IsRequest order → Obeys (Some []) (Some text) v w order (Err NoMemory)
+    → Obeys old old v w order (Err NoMemory)
+unsaid_order old v w (Orders.Change (Ok change)) text is asked = record { answer = asked.answer; told = asked.told; written = refl }
+unsaid_order old v w (Orders.Change (Err fault)) text is asked = (asked.0, refl)
+unsaid_order old v w (Orders.Tick ticks) text is asked = record { answer = asked.answer; told = asked.told; written = refl }
+unsaid_order old v w order text is asked = absurd is
 
-pub unsaid_again : (old : Known) (v w : Passing) (line text : List ℕ) → IsRequest (order_of (words line)) → Asks v w line text (Err NoMemory)
+pub unsaid_again : (old : Known) (v w : Passing) (line text : List ℕ) → TakesRoom line → Asks v w line text (Err NoMemory)
     → Serves old old v w (words line) (Err NoMemory)
-unsaid_again old v w line text is (inl lacks) = inl (lacks.0, refl, refl, lacks.3)
-unsaid_again old v w line text is (inr carries) = inr (unsaid_order old v w (order_of (words line)) text is carries)
+unsaid_again old v w line text is asked = by_serves asked.serves
+  where
+    by_serves : Serves (Some []) (Some text) v w (words line) (Err NoMemory) → Serves old old v w (words line) (Err NoMemory)
+    by_serves (inl lacks) = inl (lacks.0, refl, refl, lacks.3)
+    by_serves (inr carries) =
+        let obeys = subst (λ (o : Option Order). Carries (Some []) (Some text) v w o (Err NoMemory)) is.read carries in
+        inr (subst (λ (o : Option Order). Carries old old v w o (Err NoMemory)) (sym is.read) (unsaid_order old v w is.order text is.request obeys))
 
-unkept_order : (old : Known) (v w : Passing) (order : Option Order) (text : List ℕ) (error : _) → IsRequest order → Carries (Some []) (Some text) v w order (Err (Write error))
-    → Carries old old v w order (Err NoMemory)
-unkept_order old v w (Some (Orders.Change (Ok change))) text error is asked = record { answer = asked.answer; told = asked.told; written = refl }
-unkept_order old v w (Some (Orders.Change (Err fault))) text error is asked = (asked.0, refl)
-unkept_order old v w (Some (Orders.Tick ticks)) text error is asked = record { answer = asked.answer; told = asked.told; written = refl }
-unkept_order old v w (Some order) text error is asked = absurd is
-unkept_order old v w None text error is asked = absurd is
+unkept_order : (old : Known) (v w : Passing) (order : Order) (text : List ℕ) (error : _) → IsRequest order → Obeys (Some []) (Some text) v w order (Err (Write error))
+    → Obeys old old v w order (Err NoMemory)
+unkept_order old v w (Orders.Change (Ok change)) text error is asked = record { answer = asked.answer; told = asked.told; written = refl }
+unkept_order old v w (Orders.Change (Err fault)) text error is asked = (asked.0, refl)
+unkept_order old v w (Orders.Tick ticks) text error is asked = record { answer = asked.answer; told = asked.told; written = refl }
+unkept_order old v w order text error is asked = absurd is
 
-pub unkept_again : (old : Known) (v w : Passing) (line text : List ℕ) (error : _) → IsRequest (order_of (words line)) → Asks v w line text (Err (Write error))
+pub unkept_again : (old : Known) (v w : Passing) (line text : List ℕ) (error : _) → TakesRoom line → Asks v w line text (Err (Write error))
     → Serves old old v w (words line) (Err NoMemory)
-unkept_again old v w line text error is (inl lacks) = absurd (cc lacks.2)
-unkept_again old v w line text error is (inr carries) = inr (unkept_order old v w (order_of (words line)) text error is carries)
+unkept_again old v w line text error is asked = by_serves asked.serves
+  where
+    by_serves : Serves (Some []) (Some text) v w (words line) (Err (Write error)) → Serves old old v w (words line) (Err NoMemory)
+    by_serves (inl lacks) = absurd (cc lacks.2)
+    by_serves (inr carries) =
+        let obeys = subst (λ (o : Option Order). Carries (Some []) (Some text) v w o (Err (Write error))) is.read carries in
+        inr (subst (λ (o : Option Order). Carries old old v w o (Err NoMemory)) (sym is.read) (unkept_order old v w is.order text error is.request obeys))
 
 -- Behind it the run goes on
 
@@ -128,7 +143,7 @@ asked_again first last again old said new line next result crew before serves go
 vain_later : (v w : Passing) (line : List ℕ) → (w ≡ v) ⊎ InVain v w line → Later v w
 vain_later v w line (inl same) = same_later v w same
 vain_later v w line (inr vain) =
-    later_on v vain.asked w (serves_later (Some []) (Some _) v vain.asked (words line) (Ok Go) vain.asks) (chores_in_later true vain.asked w vain.gives_up)
+    later_on v vain.asked w (serves_later (Some []) (Some _) v vain.asked (words line) (Ok Go) vain.asks.serves) (chores_in_later true vain.asked w vain.gives_up)
 
 pub again_later : (v again w : Passing) (old new : Known) (line : List ℕ) (next : Result Next LineFault) → (again ≡ v) ⊎ InVain v again line
     → Serves old new again w (words line) next → Later v w

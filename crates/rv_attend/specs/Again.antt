@@ -19,14 +19,20 @@ abbrev pub full_line : List ℕ
 full_line = codes "full\n"
 
 -- a change of the list, or ticks
-abbrev pub IsRequest : Option Order → Type 0
-IsRequest (Some (Orders.Change change)) = Unit {0}
-IsRequest (Some (Orders.Tick ticks)) = Unit {0}
+abbrev pub IsRequest : Order → Type 0
+IsRequest (Orders.Change change) = Unit {0}
+IsRequest (Orders.Tick ticks) = Unit {0}
 IsRequest order = ⊥
 
+-- a command line asks one of these
+pub record TakesRoom (line : List ℕ) : Type 0 where
+  pub order : Order
+  pub read : order_of (words line) ≡ Some order
+  pub request : IsRequest order
+
 -- A command line is carried out, and this would be said of it, of which nobody is told.
-abbrev pub Asks : Passing → Passing → List ℕ → List ℕ → Result Next LineFault → Type 0
-Asks v w line text next = Serves (Some []) (Some text) v w (words line) next
+pub record Asks (v w : Passing) (line text : List ℕ) (next : Result Next LineFault) : Type 0 where
+  pub serves : Serves (Some []) (Some text) v w (words line) next
 
 -- There is no room for a command, and then entries are given up that the file has, if there are enough.
 pub record InVain (v w : Passing) (line : List ℕ) : Type 0 where

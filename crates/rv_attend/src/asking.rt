@@ -1,13 +1,12 @@
 //! Where a run lasts, a command for which there is no room is asked again behind an archive.
 
 ghost use Rattle.std.specs.Prelude.{◌≡◌, ◌⊎◌, [], List, ℕ, Ok, Some, IfNone, IfOk, IfSome, true};
-ghost use Rattle.rv_attend.specs.Again.{AskedAgain, Asks, InVain, IsRequest, full_line};
+ghost use Rattle.rv_attend.specs.Again.{AskedAgain, Asks, InVain, TakesRoom, full_line};
 ghost use Rattle.rv_attend.specs.Chores.{ChoresIn};
 ghost use Rattle.rv_follow.specs.Following.{Later};
 ghost use Rattle.rv_input.specs.Coming.{Reading};
 ghost use Rattle.rv_port.specs.Traces.{Passing};
 ghost use Rattle.rv_run.specs.Staging.{stage};
-ghost use Rattle.rv_shell.specs.Orders.{order_of};
 ghost use Rattle.rv_shell.specs.Serving.{Prints, Serves};
 ghost use Rattle.rv_shell.specs.declared.shell.Next.TheVariants.{Go};
 ghost use Rattle.rv_staff.specs.Saying.{Known};
@@ -45,7 +44,7 @@ impl Asked {
 
 // Whether a command line takes room that may come again: a change of the list, or ticks.
 fn is_request(alloc: Global, line: &str) -> bool
-    ensures { result ≡ true → IsRequest (order_of (words line.now)) }
+    ensures { result ≡ true → TakesRoom line.now }
 {
     matches!(order_of(alloc, line), Ok(Order::Change(_) | Order::Tick(_)))
 }
@@ -77,6 +76,7 @@ fn make_room<T: Wait, F>(rt: &T, staff: &mut Staff, follower: &mut Follower<'_, 
 }
 
 // Carries a command line out, and once more behind an archive where there was no room.
+#[tactic(none)]
 fn ask_again<T: Wait, F>(
     rt: &T,
     session: &mut Session,
@@ -111,8 +111,9 @@ fn put<W: Write>(writer: &mut W, text: &[u8]) -> Result<Next, LineFault>
 }
 
 // What a command came to, once it is said. What there was no memory to keep is as an answer that there is none for.
+#[tactic(none)]
 fn told<W: Write>(asked: Asked, writer: &mut W) -> Result<Next, LineFault>
-    ensures serves { (v w : Passing) → (line : List ℕ) → IsRequest (order_of (words line)) → Asks v w line asked.text.items asked.next
+    ensures serves { (v w : Passing) → (line : List ℕ) → TakesRoom line → Asks v w line asked.text.items asked.next
         → Serves (W.contents writer.old) (W.contents writer.new) v w (words line) result }
     ensures go { IfOk result (λ next. next ≡ Go) }
 {
@@ -126,6 +127,7 @@ fn told<W: Write>(asked: Asked, writer: &mut W) -> Result<Next, LineFault>
 
 /// Carries out a command that takes room, where the run lasts: where there is none, entries are given up that the file has, and it is asked
 /// again. None of another command, which is carried out as in any run.
+#[tactic(none)]
 pub(crate) fn answer_request<T: Wait, W: Write, F>(
     rt: &T,
     session: &mut Session,
