@@ -10,9 +10,10 @@ pub struct Cause<'a> {
     pub at: usize,
     /// The byte of another place that the sentence speaks of, whose line is `{line}` in it.
     pub other: Option<usize>,
-    // The sentence; `{0}` to `{5}` in it stand for the words.
+    // The sentence; `{0}` to `{5}` in it stand for the words, and `{low}` and `{high}` for the bounds.
     said: &'static str,
     words: [&'a str; 6],
+    bounds: (i64, i64),
     // Names that end it, if there are any.
     ending: Option<Ending<'a>>,
 }
@@ -63,29 +64,16 @@ fn put_word(text: &mut String, word: &str) -> Result<(), AllocError> {
     Ok(())
 }
 
+// Adds a bound of a range to a sentence.
+fn put_bound(alloc: Global, text: &mut String, bound: i64) -> Result<(), AllocError> {
+    let number = format!(in alloc; "{bound}")?;
+    text.push_str(number.as_str())
+}
+
 // Adds the number of a line to a sentence.
 fn put_line(alloc: Global, text: &mut String, line: usize) -> Result<(), AllocError> {
     let number = format!(in alloc; "{line}")?;
     text.push_str(number.as_str())
-}
-
-// Adds a part of a sentence: the first, or one that begins with a hole.
-fn put_part(
-    alloc: Global,
-    text: &mut String,
-    words: &[&str; 6],
-    line: usize,
-    part: &str,
-) -> Result<(), AllocError> {
-    let Some((hole, behind)) = part.split_once('}') else {
-        return text.push_str(part);
-    };
-    if hole == "line" {
-        put_line(alloc, text, line)?;
-    } else {
-        put_word(text, filling(words, hole))?;
-    }
-    text.push_str(behind)
 }
 
 impl<'a> Cause<'a> {
@@ -96,8 +84,42 @@ impl<'a> Cause<'a> {
             other: None,
             said,
             words,
+            bounds: (0, 0),
             ending: None,
         }
+    }
+
+    /// The same with the bounds of a range: `{low}` and `{high}` in it stand for them.
+    pub fn with_bounds(self, low: i64, high: i64) -> Cause<'a> {
+        Cause {
+            at: self.at,
+            other: self.other,
+            said: self.said,
+            words: self.words,
+            bounds: (low, high),
+            ending: self.ending,
+        }
+    }
+
+    // Adds a part of the sentence: the first, or one that begins with a hole. The other place stands in the line of a number.
+    fn put_part(
+        &self,
+        alloc: Global,
+        text: &mut String,
+        line: usize,
+        part: &str,
+    ) -> Result<(), AllocError> {
+        let Some((hole, behind)) = part.split_once('}') else {
+            return text.push_str(part);
+        };
+        let (low, high) = self.bounds;
+        match hole {
+            "line" => put_line(alloc, text, line)?,
+            "low" => put_bound(alloc, text, low)?,
+            "high" => put_bound(alloc, text, high)?,
+            _ => put_word(text, filling(&self.words, hole))?,
+        }
+        text.push_str(behind)
     }
 
     /// A sentence with three words at most.
@@ -128,6 +150,7 @@ impl<'a> Cause<'a> {
             other: self.other,
             said: self.said,
             words: self.words,
+            bounds: self.bounds,
             ending: Some(Ending {
                 before,
                 near,
@@ -143,6 +166,7 @@ impl<'a> Cause<'a> {
             other: Some(other),
             said: self.said,
             words: self.words,
+            bounds: self.bounds,
             ending: self.ending,
         }
     }
@@ -156,7 +180,7 @@ impl<'a> Cause<'a> {
     ) -> Result<String, AllocError> {
         let mut text = String::new(alloc);
         for part in self.said.split('{') {
-            put_part(alloc, &mut text, &self.words, line, part)?;
+            self.put_part(alloc, &mut text, line, part)?;
         }
         if let Some(ending) = self.ending {
             ending.put(&mut text, known)?;

@@ -172,8 +172,8 @@ fn sort_of_list(words: &Words<'_, '_>, colon: usize, around: &Around<'_>) -> Sor
     Sort::Variable
 }
 
-// The subtype or type of a list whose colon stands so many words behind: the last part of its name.
-pub(crate) fn mark_of_list<'a>(words: &Words<'_, 'a>, colon: usize) -> &'a str {
+/// The subtype or type of a list whose colon stands so many words behind: the last part of its name.
+pub fn mark_of_list<'a>(words: &Words<'_, 'a>, colon: usize) -> &'a str {
     let mut behind = colon.saturating_add(1);
     for _ in 0..2 {
         if is_listed(&["constant", "in", "out"], words.word(behind)) {
@@ -291,9 +291,9 @@ impl<'a> Known<'a> {
         Ok(())
     }
 
-    /// What a simple name means to a word: of what has the name and is seen there, the nearest; of several the last, as a parameter in
-    /// its body.
-    pub fn meaning(&self, name: &str, around: &Around<'_>) -> Option<&Declared<'a>> {
+    /// What has a simple name and stands around a word, before it or behind it: the nearest; of several the last, as a parameter in its
+    /// body.
+    pub fn standing(&self, name: &str, around: &Around<'_>) -> Option<&Declared<'a>> {
         let mut found = None;
         let mut best = 0;
         for item in self.items.as_slice() {
@@ -321,42 +321,10 @@ impl<'a> Known<'a> {
         self.find(Group::Units, name).is_some()
     }
 
-    // A component or an operation of a protected unit or an object whose name stands so many words behind.
-    fn member(
-        &self,
-        whole: &Declared<'_>,
-        words: &Words<'_, '_>,
-        behind: usize,
-    ) -> Option<(&Declared<'a>, usize)> {
-        let members = Group::Members(whole.unit, whole.operations_home());
-        Some((self.find(members, words.word(behind))?, behind))
-    }
-
-    /// What the name that stands at a word denotes, as far as it is seen there, and how many words behind its last part stands.
-    pub fn denoted(
-        &self,
-        words: &Words<'_, '_>,
-        around: &Around<'_>,
-    ) -> Option<(&Declared<'a>, usize)> {
-        let first = words.word(0);
-        if !words.is(1, ".") {
-            return Some((self.meaning(first, around)?, 0));
-        }
-        if !self.has_unit(first) {
-            return self.member(self.meaning(first, around)?, words, 2);
-        }
-        let item = self.find(Group::Package(first), words.word(2))?;
-        let is_shown = !item.is_hidden || is_same_name(first, around.unit);
-        if is_shown && words.is(3, ".") {
-            return self.member(item, words, 4);
-        }
-        Some((item, 2))
-    }
-
-    /// What a text declares at a place.
-    pub fn declared_at(&self, unit: &str, place: usize) -> Option<&Declared<'a>> {
+    /// What the text that is explained declares at a place.
+    pub fn own_at(&self, place: usize) -> Option<&Declared<'a>> {
         for item in self.items.as_slice() {
-            if item.at == place && is_same_name(item.unit, unit) {
+            if item.at == place && item.is_own {
                 return Some(item);
             }
         }
@@ -364,8 +332,8 @@ impl<'a> Known<'a> {
     }
 
     /// What is declared before a place by the name that is declared there, in the same region.
-    pub fn before(&self, unit: &str, place: usize) -> Option<&Declared<'a>> {
-        let later = self.declared_at(unit, place)?;
+    pub fn before(&self, place: usize) -> Option<&Declared<'a>> {
+        let later = self.own_at(place)?;
         for item in self.items.as_slice() {
             if item.at < later.at && item.is_beside(later) && item.is_named(later.name) {
                 return Some(item);
@@ -383,6 +351,15 @@ impl<'a> Known<'a> {
             }
         }
         count
+    }
+
+    /// All names.
+    pub fn names(&self, alloc: Global) -> Result<Vec<&'a str>, AllocError> {
+        let mut names = Vec::new(alloc);
+        for item in self.items.as_slice() {
+            names.push(item.name)?;
+        }
+        Ok(names)
     }
 
     /// Of the names of a group the one that is nearest to a word; empty where none is near.
@@ -415,12 +392,8 @@ impl<'a> Known<'a> {
     }
 }
 
-// Of names the one that is nearest to a word; empty where none is near.
-pub(crate) fn near_among<'a>(
-    alloc: Global,
-    word: &str,
-    names: &[&'a str],
-) -> Result<&'a str, AllocError> {
+/// Of names the one that is nearest to a word; empty where none is near. Err where memory was refused.
+pub fn near_among<'a>(alloc: Global, word: &str, names: &[&'a str]) -> Result<&'a str, AllocError> {
     match nearest(alloc, word, names)? {
         Some(name) => Ok(name),
         None => Ok(""),

@@ -11,6 +11,7 @@ mod excerpt;
 mod explanation;
 mod finding;
 mod grammar;
+mod judge;
 mod lexical;
 mod line;
 mod lists;

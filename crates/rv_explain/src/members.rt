@@ -6,6 +6,7 @@ use rv_cause::cause::Cause;
 use rv_cause::declared::{Declared, is_a};
 use rv_cause::known::{Group, Known};
 use rv_cause::words::Words;
+use rv_judged::judged::Judged;
 use rv_text::is_same_name;
 
 const ASSIGNED: &str = "; what is assigned is a variable or a component (5.2)";
@@ -60,11 +61,10 @@ pub(crate) fn unknown<'a>(
 /// That a constant of a library package is written, if the name is one with points that nothing of the script declares.
 pub(crate) fn constant_written<'a>(
     words: &Words<'_, 'a>,
-    around: &Around<'a>,
-    known: &Known<'a>,
+    judged: &Judged<'_, '_, '_, 'a>,
 ) -> Option<Cause<'a>> {
     let last = words.last_part();
-    if last == 0 || known.denoted(words, around).is_some() {
+    if last == 0 || judged.denoted(words).is_some() {
         return None;
     }
     Some(words.cause(last, "{0} is a constant, which isn't written (3.3)"))

@@ -1,46 +1,28 @@
 //! The cause of a fault of a unit text.
 
-use crate::also::{Also, also_of};
 use crate::attached::attached_in;
 use crate::ceilings::ceiling_too_low;
 use crate::explanation::{Explanation, of_part};
 use crate::grammar::Stop;
+use crate::judge::{Judge, NO_MEMORY, Seen, of_judge, seen_at};
 use crate::parts::{catalogue_before, known_before, texts_before};
 use crate::places::place_of;
 use crate::taken::line_taken;
-use crate::wanted::wanted_types;
-use crate::{lexical, members, shapes};
-use rv_cause::around::Around;
-use rv_cause::cases::told;
+use crate::{lexical, shapes};
 use rv_cause::cause::Cause;
 use rv_cause::known::Known;
 use rv_cause::words::Words;
-use rv_cause::{grammar, names, nulls, restrictions, types, unknown};
+use rv_cause::{grammar, nulls};
 use rv_fault::Part;
-use rv_further::further;
 use rv_lex::fault::LexFault;
 use rv_lex::lexer::tokens;
 use rv_lex::token::Token;
-use rv_names::NameFault;
-use rv_parse::ParseFault;
+use rv_parse::{ParseFault, parse};
 use rv_reason::reason_of;
-use rv_restrict::Restriction;
 use rv_script::unit_text::unit_text;
 use rv_shape::fault::ShapeFault;
-use rv_static::TypeFault;
 use rv_unit::UnitFault;
 use std::alloc::{AllocError, Global};
-
-// A unit text at a place, and what is declared.
-#[derive(Clone, Copy)]
-struct Seen<'t, 'a, 'k> {
-    tokens: &'t [Token<'a>],
-    words: Words<'t, 'a>,
-    around: Around<'a>,
-    known: &'k Known<'a>,
-}
-
-const NO_MEMORY: &str = "memory was refused";
 
 const NOT_ASCII: &str = "characters that aren't ASCII stand in comments only (2.1)";
 
@@ -91,105 +73,6 @@ fn of_grammar<'a>(
     }
 }
 
-// What is said of a word that breaks a restriction.
-fn said_of_restriction(restriction: Restriction) -> &'static str {
-    match restriction {
-        Restriction::NoAbortStatements => {
-            "there is no abort statement in the profile Ravenscar (D.7)"
-        }
-        Restriction::NoRequeueStatements => {
-            "there is no requeue statement in the profile Ravenscar (D.7)"
-        }
-        Restriction::NoSelectStatements => {
-            "there is no select statement in the profile Ravenscar (D.7)"
-        }
-        Restriction::NoRelativeDelay => {
-            "a task delays until a time: write delay until Clock + Milliseconds (..) (D.7)"
-        }
-        Restriction::NoLocalProtectedObjects => {
-            "protected objects are declared in the package or its body, not in a block (D.7)"
-        }
-        Restriction::NoTaskHierarchy => {
-            "tasks are declared in the package or its body, not in a block (D.7)"
-        }
-        Restriction::MaxProtectedEntries => {
-            "{1} is a second entry of its protected unit; one is the most (D.7)"
-        }
-        Restriction::MaxTaskEntries => "{1} is an entry of a task; tasks have none (D.7)",
-        Restriction::SimpleBarriers => restrictions::BARRIER,
-        Restriction::NoDynamicPriorities => restrictions::PRIORITY,
-        Restriction::NoDependence => "this can't be used in the profile Ravenscar (D.13)",
-    }
-}
-
-// The cause of a broken restriction.
-fn of_restriction<'a>(
-    alloc: Global,
-    seen: &Seen<'_, 'a, '_>,
-    restriction: Restriction,
-) -> Result<Cause<'a>, AllocError> {
-    let words = &seen.words;
-    match restriction {
-        Restriction::SimpleBarriers => {
-            restrictions::barrier(alloc, words, &seen.around, seen.known)
-        }
-        Restriction::NoDynamicPriorities => {
-            Ok(restrictions::dynamic_priority(words, &seen.around))
-        }
-        Restriction::NoDependence => Ok(restrictions::library_unit(words, &seen.around)),
-        _ => Ok(told(words, &seen.around, said_of_restriction(restriction))),
-    }
-}
-
-// The cause of a fault of names.
-fn of_names<'a>(
-    alloc: Global,
-    seen: &Seen<'_, 'a, '_>,
-    fault: NameFault,
-) -> Result<Cause<'a>, AllocError> {
-    let words = &seen.words;
-    match fault {
-        NameFault::Unknown(_) => match members::unknown(words, &seen.around, seen.known) {
-            Some(cause) => Ok(cause),
-            None => unknown::unknown(alloc, words, &seen.around, seen.known),
-        },
-        NameFault::Duplicate(_) => Ok(names::duplicate(words, &seen.around, seen.known)),
-        NameFault::NotVisible(_) => {
-            Ok(names::not_visible(seen.tokens, words, &seen.around, seen.known))
-        }
-        NameFault::WrongKind(_) => Ok(names::wrong_kind(words, &seen.around, seen.known)),
-        NameFault::EndName(_) => Ok(names::end_name(seen.tokens, words)),
-        NameFault::NoMemory => Ok(Cause::plain(0, NO_MEMORY)),
-    }
-}
-
-// The cause of a fault of types.
-fn of_types<'a>(
-    alloc: Global,
-    text: &str,
-    seen: &Seen<'_, 'a, '_>,
-    fault: TypeFault,
-) -> Result<Cause<'a>, AllocError> {
-    let words = &seen.words;
-    match fault {
-        TypeFault::Mismatch(_) => {
-            let (operand, whole) = wanted_types(alloc, text, words)?;
-            Ok(types::mismatch(words, &seen.around, seen.known, operand, whole))
-        }
-        TypeFault::NotStatic(_) => Ok(types::not_static(words)),
-        TypeFault::ConstantWritten(_) => {
-            match members::constant_written(words, &seen.around, seen.known) {
-                Some(cause) => Ok(cause),
-                None => Ok(types::constant_written(words, &seen.around, seen.known)),
-            }
-        }
-        TypeFault::BadMode(_) => Ok(types::bad_mode(words, &seen.around, seen.known)),
-        TypeFault::TooLarge(_) => Ok(types::too_large(words, &seen.around, seen.known)),
-        TypeFault::BadChoice(_) => Ok(types::bad_choice(words)),
-        TypeFault::NoMemory => Ok(Cause::plain(0, NO_MEMORY)),
-    }
-}
-
 // What is said of a fault of a unit text's shape.
 fn said_of_shape(fault: ShapeFault) -> &'static str {
     match fault {
@@ -224,20 +107,6 @@ fn of_shape<'a>(seen: &Seen<'_, 'a, '_>, fault: ShapeFault) -> Cause<'a> {
     Cause::of(at, said_of_shape(fault), name)
 }
 
-// A unit text seen from a place.
-fn seen_at<'t, 'a, 'k>(
-    tokens: &'t [Token<'a>],
-    known: &'k Known<'a>,
-    place: usize,
-) -> Seen<'t, 'a, 'k> {
-    Seen {
-        tokens,
-        words: Words::at(tokens, place),
-        around: Around::of(tokens, place),
-        known,
-    }
-}
-
 // The place of a text's package.
 fn package_place(tokens: &[Token<'_>]) -> usize {
     for token in tokens {
@@ -248,24 +117,21 @@ fn package_place(tokens: &[Token<'_>]) -> usize {
     0
 }
 
-// The cause of a fault of a text that has words.
+// The cause of a fault of a text that has words, other than of what its names denote.
 fn cause_of<'a>(
     alloc: Global,
     text: &'a str,
     tokens: &[Token<'a>],
     known: &Known<'a>,
     fault: UnitFault,
-) -> Result<Cause<'a>, AllocError> {
+) -> Cause<'a> {
     let place = place_of(fault).unwrap_or(package_place(tokens));
     let seen = seen_at(tokens, known, place);
     match fault {
-        UnitFault::Lex(fault) => Ok(of_words(alloc, text, fault)),
-        UnitFault::Parse(fault) => Ok(of_grammar(alloc, text, &seen, fault)),
-        UnitFault::Restriction(violation) => of_restriction(alloc, &seen, violation.restriction),
-        UnitFault::Names(fault) => of_names(alloc, &seen, fault),
-        UnitFault::Types(fault) => of_types(alloc, text, &seen, fault),
-        UnitFault::Shape(fault) => Ok(of_shape(&seen, fault)),
-        UnitFault::NoMemory => Ok(Cause::plain(0, NO_MEMORY)),
+        UnitFault::Lex(fault) => of_words(alloc, text, fault),
+        UnitFault::Parse(fault) => of_grammar(alloc, text, &seen, fault),
+        UnitFault::Shape(fault) => of_shape(&seen, fault),
+        _ => Cause::plain(0, NO_MEMORY),
     }
 }
 
@@ -308,26 +174,29 @@ fn of_attached<'a>(
     }
 }
 
-// The further faults of names of the text of a part, behind its first.
-fn further_of<'a>(
+// What is said of a fault of a text of these words whose names are looked up, at a place.
+fn of_derived<'a, 't>(
     alloc: Global,
-    script: &str,
-    part: &Part<'_>,
-    text: &'a str,
-    tokens: &[Token<'a>],
-    known: &Known<'a>,
-    first: NameFault,
-) -> Result<Vec<Also>, AllocError> {
+    script: &'a str,
+    part: &Part<'a>,
+    text: &'t str,
+    tokens: &[Token<'t>],
+    known: &Known<'t>,
+    place: usize,
+    fault: UnitFault,
+) -> Result<Explanation<'a>, AllocError> {
     let catalogue = catalogue_before(alloc, script, part.line)?;
-    let found = further(alloc, text, tokens, &catalogue, known, first)?;
-    let mut told = Vec::new(alloc);
-    for fault in found.as_slice() {
-        if let Some(place) = rv_further::place_of(*fault) {
-            let cause = of_names(alloc, &seen_at(tokens, known, place), *fault)?;
-            told.push(also_of(alloc, part, &cause, known)?)?;
-        }
-    }
-    Ok(told)
+    let Ok(tree) = parse(alloc, text) else {
+        return of_part(alloc, part, &Cause::plain(0, NO_MEMORY), known);
+    };
+    let judge = Judge {
+        text,
+        tokens,
+        known,
+        tree: &tree,
+        catalogue: &catalogue,
+    };
+    of_judge(alloc, part, &judge, place, fault)
 }
 
 // What is said of a fault of a text of these words, where this is known.
@@ -340,20 +209,21 @@ fn of_known<'a, 't>(
     known: &Known<'t>,
     fault: UnitFault,
 ) -> Result<Explanation<'a>, AllocError> {
-    if let UnitFault::Shape(fault) = fault {
-        if let Some(told) = of_attached(alloc, script, part, tokens, fault)? {
-            return Ok(told);
-        }
-    }
-    let cause = cause_of(alloc, text, tokens, known, fault)?;
-    let told = of_part(alloc, part, &cause, known)?;
     match fault {
-        UnitFault::Names(first) => {
-            let also = further_of(alloc, script, part, text, tokens, known, first)?;
-            Ok(told.with_also(also))
+        UnitFault::Restriction(_) | UnitFault::Names(_) | UnitFault::Types(_) => {
+            if let Some(place) = place_of(fault) {
+                return of_derived(alloc, script, part, text, tokens, known, place, fault);
+            }
         }
-        _ => Ok(told),
+        UnitFault::Shape(fault) => {
+            if let Some(told) = of_attached(alloc, script, part, tokens, fault)? {
+                return Ok(told);
+            }
+        }
+        _ => {}
     }
+    let cause = cause_of(alloc, text, tokens, known, fault);
+    of_part(alloc, part, &cause, known)
 }
 
 /// What is said of a fault of the unit text of a part.

@@ -1,6 +1,7 @@
 //! What the predefined library packages declare.
 
-use crate::words::is_among;
+use rv_cause::words::is_among;
+use rv_scope::Library;
 
 /// The predefined names that are near to a word's spelling, to look among.
 pub const NAMES: [&str; 17] = [
@@ -78,34 +79,6 @@ const ENDS: [Names; 5] = [
     },
 ];
 
-// What predefined names of the language denote.
-const SORTS: [Names; 6] = [
-    Names {
-        names: "Constraint_Error|Program_Error|Access_Denied",
-        said: "an exception",
-    },
-    Names {
-        names: "True|False|Default_Priority",
-        said: "a constant",
-    },
-    Names {
-        names: "Int_0|Int_1|Int_2|Int_3|Int_4|Int_5|Int_6|Int_7|Int_8|Int_9",
-        said: "a constant",
-    },
-    Names {
-        names: "Clock|Milliseconds|Current_State",
-        said: "a function",
-    },
-    Names {
-        names: "Set_True|Set_False|Suspend_Until_True",
-        said: "a procedure",
-    },
-    Names {
-        names: "Integer|Natural|Positive|Boolean|Time|Time_Span|Priority|Interrupt_Priority|Any_Priority",
-        said: "a subtype",
-    },
-];
-
 // What is said of a name, case ignored.
 fn said_of_name(all: &[Names], name: &str) -> Option<&'static str> {
     for one in all {
@@ -126,7 +99,16 @@ pub fn ends_with(word: &str) -> Option<&'static str> {
     said_of_name(&ENDS, word)
 }
 
-/// What a predefined name of the language denotes, in words.
-pub fn words_of(name: &str) -> Option<&'static str> {
-    said_of_name(&SORTS, name)
+/// The whole name of a library package.
+pub fn name_of(library: Library) -> &'static str {
+    match library {
+        Library::Standard => "Standard",
+        Library::System => "System",
+        Library::Ada => "Ada",
+        Library::RealTime => "Ada.Real_Time",
+        Library::SynchronousTaskControl => "Ada.Synchronous_Task_Control",
+        Library::Interrupts => "Ada.Interrupts",
+        Library::InterruptNames => "Ada.Interrupts.Names",
+        Library::Host => "Host",
+    }
 }

@@ -1,9 +1,9 @@
 //! Procedures that can't be attached to a line (C.3.1).
 
-use crate::around::Around;
-use crate::cases::told;
-use crate::cause::Cause;
-use crate::words::Words;
+use rv_cause::around::Around;
+use rv_cause::cases::told;
+use rv_cause::cause::Cause;
+use rv_cause::words::Words;
 
 const NO_LINE: &str = "an interrupt line has to stand here: Int_0 .. Int_9 (C.3.2)";
 

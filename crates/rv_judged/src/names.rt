@@ -1,14 +1,17 @@
 //! Names that aren't seen where they stand, or denote what can't stand there.
 
-use crate::around::Around;
-use crate::cases::{Case, Within, first_of, told};
-use crate::cause::Cause;
-use crate::declared::{Declared, Sort, is_a, phrase};
 use crate::handlers::is_attached;
-use crate::known::{Group, Known};
+use crate::judged::{Judged, words_of_sort};
 use crate::library;
-use crate::words::{Words, is_among};
+use rv_cause::around::Around;
+use rv_cause::cases::{Case, Within, first_of, told};
+use rv_cause::cause::Cause;
+use rv_cause::declared::{Declared, Sort, is_a, phrase};
+use rv_cause::known::{Group, Known};
+use rv_cause::words::{Words, is_among};
 use rv_lex::token::Token;
+use rv_scope::Declared as Meaning;
+use rv_seen::Stop;
 use rv_text::is_same_name;
 
 // What has no body, and what can't stand where it does.
@@ -175,26 +178,54 @@ fn library_of<'a>(words: &Words<'_, 'a>) -> Option<&'a str> {
     }
 }
 
+// Why the part of a name behind these words isn't seen, where what stands before it denotes this.
+fn unseen_behind<'a>(
+    words: &Words<'_, 'a>,
+    behind: usize,
+    prefix: Meaning,
+    around: &Around<'a>,
+    judged: &Judged<'_, '_, '_, 'a>,
+) -> Option<Cause<'a>> {
+    let whole = judged.item(prefix)?;
+    let parts = match prefix {
+        Meaning::OwnUnit | Meaning::Unit(_) => Group::Package(whole.unit),
+        _ => Group::Members(whole.unit, whole.operations_home()),
+    };
+    let item = judged.known.find(parts, words.word(behind))?;
+    Some(unseen_part(item, words.place(behind), around))
+}
+
+// Why a name isn't seen, as the texts have it.
+fn unseen_name<'a>(
+    words: &Words<'_, 'a>,
+    around: &Around<'a>,
+    judged: &Judged<'_, '_, '_, 'a>,
+) -> Option<Cause<'a>> {
+    if let Stop::Part(number, prefix) = judged.stop {
+        let behind = number.saturating_mul(2);
+        return unseen_behind(words, behind, prefix, around, judged);
+    }
+    let item = judged.known.standing(words.word(0), around)?;
+    Some(unseen(item, words.place(0)))
+}
+
 /// Why a name isn't seen where it stands.
 pub fn not_visible<'a>(
     tokens: &[Token<'_>],
     words: &Words<'_, 'a>,
     around: &Around<'a>,
-    known: &Known<'a>,
+    judged: &Judged<'_, '_, '_, 'a>,
 ) -> Cause<'a> {
     let word = words.word(0);
     if words.was(1, "body") {
         return words.cause(0, "the body of {0} stands before its declaration (3.11.1)");
     }
-    if known.has_unit(word) && !is_same_name(word, around.unit) && !is_in_context(tokens, word) {
+    let is_unit = judged.known.has_unit(word) && !is_same_name(word, around.unit);
+    if is_unit && !is_in_context(tokens, word) {
         return words.cause(0, "{0} needs: with {0}; (10.1.2)");
     }
-    if let Some((item, behind)) = known.denoted(words, around) {
-        let at = words.place(behind);
-        if behind > 0 {
-            return unseen_part(item, at, around);
-        }
-        return unseen(item, at);
+    if let Some(cause) = unseen_name(words, around, judged) {
+        return cause;
     }
     match library_of(words) {
         Some(library) => needs_library(tokens, words.place(0), word, library),
@@ -367,28 +398,37 @@ fn wanted<'w>(words: &Words<'_, '_>, around: &Around<'_>, behind: usize) -> &'w 
 }
 
 // That a part of a protected type is named behind that, outside its body.
-fn of_type<'a>(words: &Words<'_, 'a>, around: &Around<'a>, known: &Known<'a>) -> Option<Cause<'a>> {
-    let item = known.meaning(words.word(0), around)?;
-    if item.mark != "type" || !words.is(1, ".") || is_same_name(item.name, around.home) {
+fn of_type<'a>(words: &Words<'_, 'a>, judged: &Judged<'_, '_, '_, 'a>) -> Option<Cause<'a>> {
+    let Stop::Part(number, prefix) = judged.stop else {
         return None;
-    }
+    };
+    let behind = number.saturating_sub(1).saturating_mul(2);
     let said = "; what it declares is named behind one of its objects (9.4)";
-    Some(is_a(words.place(0), item, said))
+    Some(is_a(words.place(behind), judged.item(prefix)?, said))
 }
 
 // That what a name denotes can't stand here.
-fn bad_sort<'a>(words: &Words<'_, 'a>, around: &Around<'a>, known: &Known<'a>) -> Cause<'a> {
-    if let Some(cause) = of_type(words, around, known) {
+fn bad_sort<'a>(
+    words: &Words<'_, 'a>,
+    around: &Around<'a>,
+    judged: &Judged<'_, '_, '_, 'a>,
+) -> Cause<'a> {
+    if let Some(cause) = of_type(words, judged) {
         return cause;
     }
-    if let Some((item, behind)) = known.denoted(words, around) {
-        return is_a(words.place(behind), item, wanted(words, around, behind));
-    }
     let last = words.last_part();
-    let word = words.word(last);
-    match library::words_of(word) {
-        Some(sort) => phrase(words.place(last), word, sort, wanted(words, around, last)),
-        None => words.cause(0, "{0} denotes nothing that can stand here (8.6)"),
+    let at = words.place(last);
+    if let Some((item, _)) = judged.denoted(words) {
+        return is_a(at, item, wanted(words, around, last));
+    }
+    match judged.stop {
+        Stop::Denotes(found) => phrase(
+            at,
+            words.word(last),
+            words_of_sort(found.sort()),
+            wanted(words, around, last),
+        ),
+        _ => words.cause(0, "{0} denotes nothing that can stand here (8.6)"),
     }
 }
 
@@ -398,18 +438,22 @@ pub(crate) fn is_body(words: &Words<'_, '_>, around: &Around<'_>) -> bool {
 }
 
 /// Why what stands at a word can't stand there.
-pub fn wrong_kind<'a>(words: &Words<'_, 'a>, around: &Around<'a>, known: &Known<'a>) -> Cause<'a> {
+pub fn wrong_kind<'a>(
+    words: &Words<'_, 'a>,
+    around: &Around<'a>,
+    judged: &Judged<'_, '_, '_, 'a>,
+) -> Cause<'a> {
     if let Some(cause) = first_of(&WRONG_KINDS, words, around) {
         return cause;
     }
     if is_body(words, around) {
-        return bad_body(words, around, known);
+        return bad_body(words, around, judged.known);
     }
     if around.unit.is_empty() {
         let said = "{0} is a unit; use takes library packages only: write {0}. before its names";
         return words.cause(0, said);
     }
-    bad_sort(words, around, known)
+    bad_sort(words, around, judged)
 }
 
 /// What is there twice.
@@ -417,7 +461,7 @@ pub fn duplicate<'a>(words: &Words<'_, 'a>, around: &Around<'a>, known: &Known<'
     if let Some(cause) = first_of(&DUPLICATES, words, around) {
         return cause;
     }
-    match known.before(around.unit, words.place(0)) {
+    match known.before(words.place(0)) {
         Some(first) => told(words, around, TWICE_IN).with_other(first.at),
         None => told(words, around, TWICE),
     }

@@ -1,13 +1,13 @@
 //! Restrictions that are broken, in the words of the text.
 
-use crate::around::Around;
-use crate::cause::Cause;
-use crate::declared::{Sort, is_a};
-use crate::forms::is_listed;
-use crate::known::Known;
+use crate::judged::Judged;
 use crate::library;
 use crate::unknown::unknown;
-use crate::words::Words;
+use rv_cause::around::Around;
+use rv_cause::cause::Cause;
+use rv_cause::declared::{Sort, is_a};
+use rv_cause::forms::is_listed;
+use rv_cause::words::Words;
 use std::alloc::{AllocError, Global};
 
 // What is said of a library unit that the profile doesn't allow.
@@ -31,17 +31,17 @@ pub fn barrier<'a>(
     alloc: Global,
     words: &Words<'_, 'a>,
     around: &Around<'a>,
-    known: &Known<'a>,
+    judged: &Judged<'_, '_, '_, 'a>,
 ) -> Result<Cause<'a>, AllocError> {
     if !words.is(1, "is") {
         return Ok(words.cause(0, BARRIER));
     }
-    match known.denoted(words, around) {
+    match judged.denoted(words) {
         Some((item, _)) if item.sort != Sort::Component => {
             let behind = "; a barrier is a component of its protected unit, or constants (D.7)";
             Ok(is_a(words.place(0), item, behind))
         }
-        None if !is_predefined(words.word(0)) => unknown(alloc, words, around, known),
+        None if !is_predefined(words.word(0)) => unknown(alloc, words, around, judged),
         _ => Ok(words.cause(0, BARRIER)),
     }
 }

@@ -1,14 +1,17 @@
 //! Names that nothing is declared by.
 
-use crate::around::Around;
-use crate::cases::{Case, Within, first_of};
-use crate::cause::Cause;
-use crate::declared::Declared;
-use crate::forms::{Form, said_of_name};
-use crate::known::{Group, Known, near_among};
+use crate::judged::Judged;
 use crate::library;
 use crate::names::is_body;
-use crate::words::Words;
+use rv_cause::around::Around;
+use rv_cause::cases::{Case, Within, first_of};
+use rv_cause::cause::Cause;
+use rv_cause::declared::Declared;
+use rv_cause::forms::{Form, said_of_name};
+use rv_cause::known::{Group, Known, near_among};
+use rv_cause::words::Words;
+use rv_scope::Declared as Meaning;
+use rv_seen::{Stop, nearest_seen};
 use rv_text::is_same_name;
 use std::alloc::{AllocError, Global};
 
@@ -123,60 +126,24 @@ fn parts_of<'a>(item: &Declared<'a>, around: &Around<'a>) -> Group<'a> {
     }
 }
 
-// What is named behind a package and a point.
-fn objects_of<'a>(unit: &'a str, around: &Around<'a>) -> Group<'a> {
-    if is_same_name(unit, around.unit) {
-        Group::Objects(unit)
-    } else {
-        Group::Shown(unit)
+// What is named behind what denotes this and a point.
+fn named_behind<'a>(prefix: Meaning, item: &Declared<'a>, around: &Around<'a>) -> Group<'a> {
+    match prefix {
+        Meaning::OwnUnit => Group::Objects(item.unit),
+        Meaning::Unit(_) => Group::Shown(item.unit),
+        _ => parts_of(item, around),
     }
-}
-
-// Which part of a name with points isn't there, where its first word is known.
-fn part_of<'a>(words: &Words<'_, 'a>, around: &Around<'a>, known: &Known<'a>) -> Option<Part<'a>> {
-    let first = words.word(0);
-    let item = known.meaning(first, around)?;
-    if !known.has_unit(first) {
-        return Some(Part {
-            behind: 2,
-            whole: first,
-            group: parts_of(item, around),
-        });
-    }
-    let part = words.word(2);
-    match known.find(Group::Package(first), part) {
-        Some(object) => Some(Part {
-            behind: 4,
-            whole: part,
-            group: parts_of(object, around),
-        }),
-        None => Some(Part {
-            behind: 2,
-            whole: first,
-            group: objects_of(first, around),
-        }),
-    }
-}
-
-// Whether a library package, or the beginning of its name, stands here.
-fn is_library(words: &Words<'_, '_>) -> bool {
-    words.fit("^Ada|Standard") || library::ends_with(words.word(0)).is_some()
 }
 
 const NOT_KNOWN: &str = "{0} has no {1} that is known here";
 
-// That a library package, whose whole name stands here, hasn't what stands behind it.
-fn no_item<'a>(words: &Words<'_, 'a>) -> Cause<'a> {
-    let last = words.last_part();
-    if let Some(said) = said_of_name(&OTHER, words.word(last)) {
-        return Cause::plain(words.place(last), said);
+// That a library package, whose name ends at a word, hasn't what stands behind it.
+fn no_item<'a>(words: &Words<'_, 'a>, behind: usize, library: &'a str) -> Cause<'a> {
+    let word = words.word(behind);
+    if let Some(said) = said_of_name(&OTHER, word) {
+        return Cause::plain(words.place(behind), said);
     }
-    if let Some(library) = library::ends_with(words.word(last.saturating_sub(2))) {
-        if library.split('.').count() == last / 2 {
-            return Cause::pair(words.place(last), NOT_KNOWN, library, words.word(last));
-        }
-    }
-    Cause::pair(words.place(2), NOT_KNOWN, words.word(0), words.word(2))
+    Cause::pair(words.place(behind), NOT_KNOWN, library, word)
 }
 
 // Which part of a name with points isn't there.
@@ -184,15 +151,26 @@ fn dotted<'a>(
     alloc: Global,
     words: &Words<'_, 'a>,
     around: &Around<'a>,
-    known: &Known<'a>,
+    judged: &Judged<'_, '_, '_, 'a>,
 ) -> Result<Cause<'a>, AllocError> {
-    if let Some(part) = part_of(words, around, known) {
-        return no_part(alloc, words, part, known);
+    let Stop::Part(number, prefix) = judged.stop else {
+        return simple(alloc, words, around, judged);
+    };
+    let behind = number.saturating_mul(2);
+    if let Meaning::LibraryPackage(library) = prefix {
+        return Ok(no_item(words, behind, library::name_of(library)));
     }
-    if is_library(words) {
-        return Ok(no_item(words));
+    match judged.item(prefix) {
+        Some(item) => {
+            let part = Part {
+                behind,
+                whole: words.word(behind.saturating_sub(2)),
+                group: named_behind(prefix, item, around),
+            };
+            no_part(alloc, words, part, judged.known)
+        }
+        None => simple(alloc, words, around, judged),
     }
-    simple(alloc, words, around, known)
 }
 
 // The predefined name that is nearest to a word; empty where none is near.
@@ -200,14 +178,19 @@ fn near_predefined(alloc: Global, word: &str) -> Result<&'static str, AllocError
     near_among(alloc, word, &library::NAMES)
 }
 
-// The name that is seen, or the predefined one, that is nearest to a word; empty where none is near.
+// The name that is nearest to a word of those that are seen, else of those that stand around it, else of the predefined ones; empty where
+// none is near.
 fn near_name<'a>(
     alloc: Global,
     word: &str,
     around: &Around<'a>,
-    known: &Known<'a>,
+    judged: &Judged<'_, '_, '_, 'a>,
 ) -> Result<&'a str, AllocError> {
-    match known.near(alloc, word, Group::seen(around))? {
+    let names = judged.known.names(alloc)?;
+    if let Some(near) = nearest_seen(alloc, judged.scope, None, word, names.as_slice())? {
+        return Ok(near);
+    }
+    match judged.known.near(alloc, word, Group::seen(around))? {
         "" => near_predefined(alloc, word),
         near => Ok(near),
     }
@@ -235,16 +218,19 @@ fn simple<'a>(
     alloc: Global,
     words: &Words<'_, 'a>,
     around: &Around<'a>,
-    known: &Known<'a>,
+    judged: &Judged<'_, '_, '_, 'a>,
 ) -> Result<Cause<'a>, AllocError> {
     let word = words.word(0);
     if let Some(said) = said_of_name(&OTHER, word) {
         return Ok(words.cause(0, said));
     }
-    match near_name(alloc, word, around, known)? {
+    match near_name(alloc, word, around, judged)? {
         "" => nameless(alloc, words),
         near => {
-            let item = known.meaning(near, around);
+            let item = match judged.meaning(near) {
+                Some(item) => Some(item),
+                None => judged.known.standing(near, around),
+            };
             Ok(near_to(words, near, item))
         }
     }
@@ -293,7 +279,7 @@ pub fn unknown<'a>(
     alloc: Global,
     words: &Words<'_, 'a>,
     around: &Around<'a>,
-    known: &Known<'a>,
+    judged: &Judged<'_, '_, '_, 'a>,
 ) -> Result<Cause<'a>, AllocError> {
     if let Some(cause) = first_of(&CASES, words, around) {
         return Ok(cause);
@@ -304,16 +290,16 @@ pub fn unknown<'a>(
             whole: around.home,
             group: Group::Operations(around.unit, around.home),
         };
-        return no_part(alloc, words, operations, known);
+        return no_part(alloc, words, operations, judged.known);
     }
     if around.unit.is_empty() {
-        return in_context(alloc, words, known);
+        return in_context(alloc, words, judged.known);
     }
     if around.is_in_head && words.fit("with|, ^_") {
         return Ok(words.cause(0, "the aspect {0} has no effect here (13.1.1)"));
     }
     if words.is(1, ".") {
-        return dotted(alloc, words, around, known);
+        return dotted(alloc, words, around, judged);
     }
-    simple(alloc, words, around, known)
+    simple(alloc, words, around, judged)
 }

@@ -1,13 +1,15 @@
 //! Types, modes and static values that don't fit.
 
-use crate::around::Around;
-use crate::cases::{Case, Within, first_of};
-use crate::cause::Cause;
-use crate::declared::{Declared, Sort, is_a};
 use crate::handlers::bad_attachment;
-use crate::known::{Group, Known};
+use crate::judged::Judged;
 use crate::ranges::outside;
-use crate::words::{Words, is_among, is_literal};
+use rv_cause::around::Around;
+use rv_cause::cases::{Case, Within, first_of};
+use rv_cause::cause::Cause;
+use rv_cause::declared::{Declared, Sort, is_a};
+use rv_cause::known::{Group, Known};
+use rv_cause::words::{Words, is_among, is_literal};
+use rv_scope::Table;
 use rv_text::is_same_name;
 
 const CONDITION: &str = "a condition is Boolean; what begins with {0} isn't (5.3)";
@@ -76,12 +78,8 @@ fn said_of_unwritable(sort: Sort) -> &'static str {
 }
 
 /// Why what stands at a word may not be written.
-pub fn constant_written<'a>(
-    words: &Words<'_, 'a>,
-    around: &Around<'a>,
-    known: &Known<'a>,
-) -> Cause<'a> {
-    match known.denoted(words, around) {
+pub fn constant_written<'a>(words: &Words<'_, 'a>, judged: &Judged<'_, '_, '_, 'a>) -> Cause<'a> {
+    match judged.denoted(words) {
         Some((item, behind)) if item.is_own => {
             let said = [item.name, item.home, item.sort.words()];
             let cause = Cause::new(words.place(behind), said_of_unwritable(item.sort), said);
@@ -92,14 +90,18 @@ pub fn constant_written<'a>(
 }
 
 /// Why a mode doesn't fit at a word.
-pub fn bad_mode<'a>(words: &Words<'_, 'a>, around: &Around<'a>, known: &Known<'a>) -> Cause<'a> {
+pub fn bad_mode<'a>(
+    words: &Words<'_, 'a>,
+    around: &Around<'a>,
+    judged: &Judged<'_, '_, '_, 'a>,
+) -> Cause<'a> {
     if around.is_in_head {
         return words.cause(
             0,
             "{0} is a parameter of a function, and so has to be in (6.1)",
         );
     }
-    if let Some((item, behind)) = known.denoted(words, around) {
+    if let Some((item, behind)) = judged.denoted(words) {
         let next = words.word(behind.saturating_add(1));
         if next == "," || next == ")" {
             let said = "; a parameter that is out takes a variable (6.4.1)";
@@ -136,16 +138,20 @@ fn divides_by_zero(words: &Words<'_, '_>) -> bool {
     false
 }
 
-/// What is too large, or one too many.
-pub fn too_large<'a>(words: &Words<'_, 'a>, around: &Around<'a>, known: &Known<'a>) -> Cause<'a> {
-    if known.declared_at(around.unit, words.place(0)).is_some() {
+/// What is too large, or one too many, where this is known of the text's declarations.
+pub fn too_large<'a>(
+    words: &Words<'_, 'a>,
+    judged: &Judged<'_, '_, '_, 'a>,
+    table: &Table,
+) -> Cause<'a> {
+    if judged.known.own_at(words.place(0)).is_some() {
         let said = "{0} is one too many: 64 may be open in a body, constants counted apart";
         return words.cause(0, said);
     }
     if divides_by_zero(words) {
         return words.cause(0, "the divisor is 0 here (4.5.5)");
     }
-    match outside(words, around, known) {
+    match outside(words, judged, table) {
         Some(cause) => cause,
         None => words.cause(
             0,
@@ -289,12 +295,8 @@ fn bad_type<'a>(
 }
 
 // The constant that a text declares at a word, if it does.
-fn constant_at<'k, 'a>(
-    words: &Words<'_, 'a>,
-    around: &Around<'a>,
-    known: &'k Known<'a>,
-) -> Option<&'k Declared<'a>> {
-    match known.declared_at(around.unit, words.place(0)) {
+fn constant_at<'k, 'a>(words: &Words<'_, 'a>, known: &'k Known<'a>) -> Option<&'k Declared<'a>> {
+    match known.own_at(words.place(0)) {
         Some(item) if item.sort == Sort::Constant => Some(item),
         _ => None,
     }
@@ -305,22 +307,22 @@ fn constant_at<'k, 'a>(
 pub fn mismatch<'a>(
     words: &Words<'_, 'a>,
     around: &Around<'a>,
-    known: &Known<'a>,
+    judged: &Judged<'_, '_, '_, 'a>,
     wanted: &'static str,
     whole: &'static str,
 ) -> Cause<'a> {
     if let Some(cause) = bad_attachment(words, around) {
         return cause;
     }
-    if let Some(item) = constant_at(words, around, known) {
+    if let Some(item) = constant_at(words, judged.known) {
         return item.cause(
             words.place(0),
             "the constant {0} needs a value, behind := (3.3.1)",
         );
     }
-    let found = known.denoted(words, around);
+    let found = judged.denoted(words);
     if let Some((item, behind)) = found {
-        if let Some(cause) = bad_count(words, item, behind, known) {
+        if let Some(cause) = bad_count(words, item, behind, judged.known) {
             return cause;
         }
     }

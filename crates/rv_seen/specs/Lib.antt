@@ -1,0 +1,4 @@
+pub mod At
+pub mod Begun
+pub mod Names
+pub mod Ranges
