@@ -31,8 +31,10 @@ use Rattle.std.specs.List.{list_all}
 use Rattle.rv_code.specs.Bodies as Code
 use Rattle.rv_code.specs.declared.expression.Callee.{Callee}
 use Rattle.rv_fits.proofs.Both.{first_of_both, second_of_both, both_hold}
+use Rattle.rv_fits.proofs.Found.{numbered_found, calls_found, ranges_found}
 use Rattle.rv_fits.proofs.Keeps.{calls_keep, alone_calls}
 use Rattle.rv_fits.specs.Calls.{object_calls, task_calls, such_in, objects_call, calls_from}
+use Rattle.rv_ranged.specs.Ranged.{catalogue_ranged, ranges_fit}
 use Rattle.rv_fits.specs.Fits.{are_of, callee_fits, calls_fit, numbered_as, unit_calls_fit}
 use Rattle.rv_code.specs.BodyView.{unit_view}
 use Rattle.rv_code.specs.declared.body.UnitBodies.{UnitBodies}
@@ -49,6 +51,7 @@ use Rattle.rv_behind.specs.declared.event.Reply.{Reply}
 use Rattle.rv_behind.specs.declared.event.Reply.TheVariants as Gives
 use Rattle.rv_behind.specs.declared.event.Event.{Event}
 use Rattle.rv_behind.specs.declared.event.Event.TheVariants.{Asks, Loads, Lists}
+use Rattle.rv_behind.proofs.Ranging.{units_ranged, units_alone}
 use Rattle.rv_behind.proofs.Zips.{newest, rebuilt, rebuilt_units}
 
 one_more : (es : List Event) (e : Event) → reverse (e ∷ es) ≡ reverse es ++ e ∷ []
@@ -75,10 +78,11 @@ bodies_log h bodies l b = ap all_of (views_of bodies.units.items) ∙ ap (λ (z 
 
 -- and they fit the units
 pub fits_log : (h : History) (bodies : Bodies) → Legal h → AreBrought h bodies → BodiesFit (log_in h bodies)
-fits_log h bodies l b = (
-  (λ i. all_numbered (catalogue_log h (units_of bodies) l i) (map unit_view (rebuilt_units h (units_of bodies) l b.count i))) ∙ b.numbered,
-  (λ i. calls_fit (catalogue_log h (units_of bodies) l i) (sym (bodies_log h bodies l b) i)) ∙ b.fit,
-)
+fits_log h bodies l b = record {
+  numbered = (λ i. all_numbered (catalogue_log h (units_of bodies) l i) (map unit_view (rebuilt_units h (units_of bodies) l b.count i))) ∙ b.numbered;
+  calls = (λ i. calls_fit (catalogue_log h (units_of bodies) l i) (sym (bodies_log h bodies l b) i)) ∙ b.fit;
+  ranges = (λ i. catalogue_ranged (catalogue_log h (units_of bodies) l i) (sym (bodies_log h bodies l b) i)) ∙ b.ranged;
+}
 
 -- what was lent are the bodies of the events
 lent_log : (h : History) (bodies : Bodies) (lent : Option Lent) → Legal h → AreBrought h bodies
@@ -271,6 +275,10 @@ none_fit all shapes bodies none = ap (λ (z : Code.UnitBodies). calls_fit all z)
       joined_call (callee_fits all) number (Code.without_bodies s) (all_of (map Code.without_bodies ss)) (alone_calls (callee_fits all) number s)
       (each (number + length (Code.without_bodies s).objects) ss)
 
+-- or keep anything
+pub none_ranged : (all shapes : List Shape) (bodies : Bodies) → map unit_view (units_of bodies) ≡ map Code.without_bodies shapes → catalogue_ranged all (bodies_view bodies) ≡ true
+none_ranged all shapes bodies none = ap (λ (z : Code.UnitBodies). catalogue_ranged all z) (view_is bodies ∙ ap all_of none) ∙ units_alone all shapes
+
 -- they were found to fit
 pub fits_found : (h : History) (bodies : Bodies) (shape : Shape) (unit : UnitBodies) (r : Bool) → Legal h → r ≡ are_of h.shapes shape (unit_view unit) → r ≡ true
     → fits_behind (log_in h bodies) shape unit ≡ true
@@ -294,6 +302,25 @@ fits_more h k bodies more shape unit r numbered old new e b is =
     let these : calls_fit h.shapes (all_of (map unit_view (units_of bodies))) ≡ true = ap (λ (z : Code.UnitBodies). calls_fit h.shapes z) (sym (view_is bodies)) ∙ old in
     (λ i. calls_fit ((ap (λ (z : History). z.shapes) e ∙ shapes_more (is_some (recorded r)) h shape b) i) ((view_is more ∙ ap (λ (z : List UnitBodies). all_of (map unit_view z)) is) i))
     ∙ one_more_fits h.shapes shape (units_of bodies) unit numbered these new
+
+-- and they keep to their ranges
+pub one_more_ranged : (shapes : List Shape) (shape : Shape) (us : List UnitBodies) (unit : UnitBodies) → all_numbered shapes (map unit_view us) ≡ true → catalogue_ranged shapes (all_of (map unit_view us)) ≡ true
+    → ranges_fit (shapes ++ shape ∷ []) shape.objects (unit_view unit) ≡ true → catalogue_ranged (shapes ++ shape ∷ []) (all_of (map unit_view (us ++ unit ∷ []))) ≡ true
+one_more_ranged shapes shape us unit numbered old new =
+    ap (λ (z : List Code.UnitBodies). catalogue_ranged (shapes ++ shape ∷ []) (all_of z)) (views_more us unit)
+    ∙ units_ranged shapes shape (map unit_view us) (unit_view unit) (counted shapes (map unit_view us) numbered) old new
+
+ranges_more : (h k : History) (bodies more : Bodies) (shape : Shape) (unit : UnitBodies) (r : Answer) → all_numbered h.shapes (map unit_view (units_of bodies)) ≡ true → catalogue_ranged h.shapes (bodies_view bodies) ≡ true
+    → ranges_fit (h.shapes ++ shape ∷ []) shape.objects (unit_view unit) ≡ true → k ≡ after_load h shape r
+    → is_some (recorded r) ≡ true → units_of more ≡ units_of bodies ++ unit ∷ [] → catalogue_ranged k.shapes (bodies_view more) ≡ true
+ranges_more h k bodies more shape unit r numbered old new e b is =
+    let these : catalogue_ranged h.shapes (all_of (map unit_view (units_of bodies))) ≡ true = ap (λ (z : Code.UnitBodies). catalogue_ranged h.shapes z) (sym (view_is bodies)) ∙ old in
+    (λ i. catalogue_ranged ((ap (λ (z : History). z.shapes) e ∙ shapes_more (is_some (recorded r)) h shape b) i) ((view_is more ∙ ap (λ (z : List UnitBodies). all_of (map unit_view z)) is) i))
+    ∙ one_more_ranged h.shapes shape (units_of bodies) unit numbered these new
+
+-- bodies that the same units are loaded with
+ranges_same : (h k : History) (bodies : Bodies) → catalogue_ranged h.shapes (bodies_view bodies) ≡ true → k.shapes ≡ h.shapes → catalogue_ranged k.shapes (bodies_view bodies) ≡ true
+ranges_same h k bodies old e = ap (λ (z : List Shape). catalogue_ranged z (bodies_view bodies)) e ∙ old
 
 fits_same : (h k : History) (bodies : Bodies) (shape : Shape) (r : Answer) → calls_fit h.shapes (bodies_view bodies) ≡ true → k ≡ after_load h shape r → is_some (recorded r) ≡ false → calls_fit k.shapes (bodies_view bodies) ≡ true
 fits_same h k bodies shape r fit e b = ap (λ (z : List Shape). calls_fit z (bodies_view bodies)) (ap (λ (z : History). z.shapes) e ∙ shapes_same (is_some (recorded r)) h shape b) ∙ fit
@@ -380,25 +407,32 @@ numbered_more h k bodies more shape unit r old new e b is =
 numbered_same : (h k : History) (bodies : Bodies) → all_numbered h.shapes (map unit_view (units_of bodies)) ≡ true → k.shapes ≡ h.shapes → all_numbered k.shapes (map unit_view (units_of bodies)) ≡ true
 numbered_same h k bodies old e = ap (λ (z : List Shape). all_numbered z (map unit_view (units_of bodies))) e ∙ old
 
--- all three, after what the host does
+-- all four, after what the host does
 pub brings_more : (h k : History) (bodies more : Bodies) (shape : Shape) (unit : UnitBodies) (r : Answer) → Legal h → AreBrought h bodies → fits_behind (log_in h bodies) shape unit ≡ true → k ≡ after_load h shape r
     → is_some (recorded r) ≡ true → units_of more ≡ units_of bodies ++ unit ∷ [] → AreBrought k more
 brings_more h k bodies more shape unit r l b new e kept is =
     let these : are_of h.shapes shape (unit_view unit) ≡ true = ap (λ (z : List Shape). are_of z shape (unit_view unit)) (sym (catalogue_log h (units_of bodies) l)) ∙ new in
     record {
       count = brought_more h k (units_of bodies) (units_of more) shape unit r b.count e kept is;
-      numbered = numbered_more h k bodies more shape unit r b.numbered (first_of_both (numbered_as shape (unit_view unit)) (unit_calls_fit h.shapes shape (unit_view unit)) these) e kept is;
-      fit = fits_more h k bodies more shape unit r b.numbered b.fit (second_of_both (numbered_as shape (unit_view unit)) (unit_calls_fit h.shapes shape (unit_view unit)) these) e kept is;
+      numbered = numbered_more h k bodies more shape unit r b.numbered (numbered_found h.shapes shape (unit_view unit) these) e kept is;
+      fit = fits_more h k bodies more shape unit r b.numbered b.fit (calls_found h.shapes shape (unit_view unit) these) e kept is;
+      ranged = ranges_more h k bodies more shape unit r b.numbered b.ranged (ranges_found h.shapes shape (unit_view unit) these) e kept is;
     }
 
 pub brings_same : (h k : History) (bodies : Bodies) (shape : Shape) (r : Answer) → AreBrought h bodies → k ≡ after_load h shape r → is_some (recorded r) ≡ false → AreBrought k bodies
-brings_same h k bodies shape r b e kept = record { count = brought_same h k (units_of bodies) shape r b.count e kept; numbered = numbered_same h k bodies b.numbered (ap (λ (z : History). z.shapes) e ∙ shapes_same (is_some (recorded r)) h shape kept); fit = fits_same h k bodies shape r b.fit e kept }
+brings_same h k bodies shape r b e kept =
+    let same : k.shapes ≡ h.shapes = ap (λ (z : History). z.shapes) e ∙ shapes_same (is_some (recorded r)) h shape kept in
+    record { count = brought_same h k (units_of bodies) shape r b.count e kept; numbered = numbered_same h k bodies b.numbered same; fit = fits_same h k bodies shape r b.fit e kept; ranged = ranges_same h k bodies b.ranged same }
 
 pub brings_step : (h k : History) (bodies : Bodies) (a : ℕ) (q : Request) (r : Answer) → AreBrought h bodies → k ≡ legal.after h a q r → AreBrought k bodies
-brings_step h k bodies a q r b e = record { count = brought_step h k (units_of bodies) a q r b.count e; numbered = numbered_same h k bodies b.numbered (step_shapes h k a q r e); fit = fits_step h k bodies a q r b.fit e }
+brings_step h k bodies a q r b e =
+    let same : k.shapes ≡ h.shapes = step_shapes h k a q r e in
+    record { count = brought_step h k (units_of bodies) a q r b.count e; numbered = numbered_same h k bodies b.numbered same; fit = fits_step h k bodies a q r b.fit e; ranged = ranges_same h k bodies b.ranged same }
 
 pub brings_change : (h k : History) (bodies : Bodies) (change : Change) (r : Answer) → AreBrought h bodies → k ≡ after_change h change r → AreBrought k bodies
-brings_change h k bodies change r b e = record { count = brought_change h k (units_of bodies) change r b.count e; numbered = numbered_same h k bodies b.numbered (ap (λ (z : History). z.shapes) e ∙ listed_shapes (is_some (recorded r)) (changed (force h) change) h); fit = fits_change h k bodies change r b.fit e }
+brings_change h k bodies change r b e =
+    let same : k.shapes ≡ h.shapes = ap (λ (z : History). z.shapes) e ∙ listed_shapes (is_some (recorded r)) (changed (force h) change) h in
+    record { count = brought_change h k (units_of bodies) change r b.count e; numbered = numbered_same h k bodies b.numbered same; fit = fits_change h k bodies change r b.fit e; ranged = ranges_same h k bodies b.ranged same }
 
 -- a load that is due to be recorded is due to be accepted
 gate_kept : (b c d : Bool) → is_some (recorded (gate b c (within d nothing_more))) ≡ true → gate b c (within d nothing_more) ≡ nothing_more

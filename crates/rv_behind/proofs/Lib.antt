@@ -1,3 +1,4 @@
 pub mod Zips
+mod Ranging
 pub mod Doing
 pub mod Fitting

@@ -20,6 +20,7 @@ use Rattle.std.specs.Arc.{arc_value}
 use Rattle.rv_code.specs.Bodies as Code
 use Rattle.rv_code.specs.BodyView.{unit_view}
 use Rattle.rv_code.specs.declared.body.UnitBodies.{UnitBodies}
+use Rattle.rv_ranged.specs.Ranged.{catalogue_ranged}
 use Rattle.rv_fits.specs.Fits.{are_of, calls_fit, numbered_as}
 use Rattle.rv_exec.specs.Bodies.{bodies_view, held, units_of}
 use Rattle.rv_exec.specs.declared.bodies.Bodies.{Bodies}
@@ -75,7 +76,8 @@ abbrev pub LoadedIf : Bool → Limits → List Event → Shape → UnitBodies �
 LoadedIf true c log shape unit r after = Loaded c log shape unit r after
 LoadedIf false c log shape unit r after = Unloaded c log shape r after
 
--- a unit's bodies are numbered as its shape is, and their calls fit the units of this history, with its own (own)
+-- a unit's bodies are numbered as its shape is, their calls fit the units of this history, with its own, and their values lie in
+-- their ranges (own)
 abbrev pub fits_behind : List Event → Shape → UnitBodies → Bool
 fits_behind log shape unit = are_of (catalogue_of log) shape (unit_view unit)
 
@@ -85,11 +87,13 @@ all_numbered [] [] = true
 all_numbered (shape ∷ shapes) (unit ∷ units) = numbered_as shape unit && all_numbered shapes units
 all_numbered shapes units = false
 
--- Each unit of the host has bodies of its own, and the calls of all bodies fit the units. (own)
+-- Each unit of the host has bodies of its own, the calls of all bodies fit the units, and what they give and keep lies in its
+-- range. (own)
 pub record AreBrought (h : History) (bodies : Bodies) : Type 0 where
   pub count : length (units_of bodies) ≡ length h.shapes
   pub numbered : all_numbered h.shapes (map unit_view (units_of bodies)) ≡ true
   pub fit : calls_fit h.shapes (bodies_view bodies) ≡ true
+  pub ranged : catalogue_ranged h.shapes (bodies_view bodies) ≡ true
 
 -- the answer to a list change (own)
 abbrev pub Changed : Limits → List Event → Change → Answer → List Event → Type 0
@@ -111,14 +115,15 @@ abbrev pub IfOperator : Bool → Type 0 → Answer → List Event → List Event
 IfOperator true does r log after = does
 IfOperator false does r log after = (r ≡ Answers.Misuse) × (after ≡ log)
 
--- in this history each unit has bodies of its own, and the calls of all bodies fit the units (own)
-abbrev pub BodiesFit : List Event → Type 0
-BodiesFit log =
-    (all_numbered (catalogue_of log) (map unit_view (units_at log)) ≡ true)
-    × (calls_fit (catalogue_of log) (bodies_at log) ≡ true)
+-- in this history each unit has bodies of its own, the calls of all bodies fit the units, and what they give and keep lies in its
+-- range (own)
+pub record BodiesFit (log : List Event) : Type 0 where
+  pub numbered : all_numbered (catalogue_of log) (map unit_view (units_at log)) ≡ true
+  pub calls : calls_fit (catalogue_of log) (bodies_at log) ≡ true
+  pub ranges : catalogue_ranged (catalogue_of log) (bodies_at log) ≡ true
 
--- The bodies that a port is lent are those of all units loaded then, whose calls fit these units; none where there were too
--- many holders of them. (own)
+-- The bodies that a port is lent are those of all units loaded then, whose calls fit these units, and whose values lie in their
+-- ranges; none where there were too many holders of them. (own)
 abbrev pub IsLent : List Event → Option Code.UnitBodies → Type 0
 IsLent log None = Unit {0}
 IsLent log (Some bodies) = (bodies ≡ bodies_at log) × BodiesFit log

@@ -11,7 +11,6 @@ use Rattle.rv_shape.specs.declared.suspension.SuspensionOperation.{SuspensionOpe
 use Rattle.rv_shape.specs.Objects.{OperationShape}
 use Rattle.rv_shape.specs.Shape.{Shape}
 use Rattle.rv_shape.specs.Catalogue.{UnitObject, numbered, place, target, at_operation, at_suspension, at_object, at_unit_object, suspension_operations, operations_of}
-use Rattle.rv_code.specs.Bodies.{Body}
 use Rattle.rv_code.specs.BodyView.{list_at}
 use Rattle.rv_code.specs.declared.body.ObjectBodies.{ObjectBodies}
 use Rattle.rv_code.specs.declared.expression.Callee.{Callee}

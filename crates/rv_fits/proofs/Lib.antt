@@ -1,5 +1,5 @@
 pub mod Both
 pub mod Parts
+pub mod Found
 pub mod Keeps
 mod Alike
-mod Behind

@@ -7,6 +7,7 @@ use Rattle.rv_shape.specs.Catalogue.{UnitObject, Target, OnProtected, all_object
 use Rattle.rv_code.specs.declared.expression.Callee.{Callee}
 use Rattle.rv_code.specs.declared.expression.Callee.TheVariants as callee
 use Rattle.rv_code.specs.Bodies.{UnitBodies}
+use Rattle.rv_ranged.specs.Ranged.{ranges_fit}
 use Rattle.rv_fits.specs.Calls.{calls_from, every_call}
 
 -- a call of a function of a protected object (9.5.1)
@@ -60,6 +61,8 @@ numbered_as shape bodies = (length bodies.objects == length shape.objects) && (l
 abbrev pub unit_calls_fit : List Shape → Shape → UnitBodies → Bool
 unit_calls_fit shapes shape bodies = calls_from (callee_fits (shapes ++ shape ∷ [])) (length (all_objects shapes) + 1) bodies
 
--- bodies may be loaded with a shape, over these units: they are numbered as it is, and their calls fit
+-- bodies may be loaded with a shape, over these units: they are numbered as it is, their calls fit, and their values lie in
+-- their ranges
 abbrev pub are_of : List Shape → Shape → UnitBodies → Bool
-are_of shapes shape bodies = numbered_as shape bodies && unit_calls_fit shapes shape bodies
+are_of shapes shape bodies =
+    (numbered_as shape bodies && unit_calls_fit shapes shape bodies) && ranges_fit (shapes ++ shape ∷ []) shape.objects bodies

@@ -21,7 +21,7 @@ use Rattle.rv_exec.specs.declared.bodies.SharedUnit.{SharedUnit}
 use Rattle.rv_exec.specs.declared.bodies.Bodies.{Bodies}
 use Rattle.rv_behind.specs.Events.{by, log_of, log_in, rest_of, catalogue_of}
 use Rattle.rv_behind.specs.Acting.{AreBrought, BodiesFit, Does, Due, LoadedIf, fits_behind, IfOperator}
-use Rattle.rv_behind.proofs.Doing.{none_fit, none_numbered}
+use Rattle.rv_behind.proofs.Doing.{none_fit, none_numbered, none_ranged}
 use Rattle.rv_behind.proofs.Fitting.{stay_fit}
 use Rattle.rv_port.specs.Traces.{Passing}
 use Rattle.rv_fits.specs.Fits.{are_of}
@@ -207,7 +207,7 @@ as_many (u ∷ us) [] e = absurd (omega (arith, ap length e))
 as_many (u ∷ us) (s ∷ ss) e = let more = as_many us ss (ap rest_of e) in omega (arith, more)
 
 pub none_brought : (h : History) (bodies : Bodies) → map unit_view (units_of bodies) ≡ map no_bodies_of h.shapes → AreBrought h bodies
-none_brought h bodies none = record { count = as_many (units_of bodies) h.shapes none; numbered = none_numbered h.shapes bodies none; fit = none_fit h.shapes h.shapes bodies none }
+none_brought h bodies none = record { count = as_many (units_of bodies) h.shapes none; numbered = none_numbered h.shapes bodies none; fit = none_fit h.shapes h.shapes bodies none; ranged = none_ranged h.shapes h.shapes bodies none }
 
 pub load_more : (turn : TableId) (v w : Passing) (given : List ℕ) (catalogue more : List Shape) (lists : Option (List (List Words))) (shape : Shape) (unit : SharedUnit) (r : Answer) → IsControl turn v given catalogue lists → Told v (Wants.Load shape unit) r w
     → is_some (recorded r) ≡ true → more ≡ catalogue ++ shape ∷ [] → IsControl turn w given more lists

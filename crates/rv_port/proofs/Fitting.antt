@@ -4,6 +4,7 @@ use Rattle.std.specs.Prelude.{Result, Ok, Err, MatchResult}
 use Rattle.rv_code.specs.Bodies as Code
 use Rattle.rv_code.specs.BodyView.{unit_view}
 use Rattle.rv_exec.specs.Bodies.{all_of}
+use Rattle.rv_ranged.specs.Ranged.{catalogue_ranged}
 use Rattle.rv_fits.specs.Fits.{calls_fit}
 use Rattle.rv_turn.specs.Histories.{mine}
 use Rattle.rv_turn.specs.Passes.{Acted, IsWorn, Meets}
@@ -31,15 +32,17 @@ units_mine log = read_mine units_in units-append no_units log
 -- two histories with the same events of the operator have the same bodies
 pub same_fit : (one two : List Event) → mine by 0 one ≡ mine by 0 two → BodiesFit one → BodiesFit two
 same_fit one two e f =
-    let units : units_in (reverse two) ≡ units_in (reverse one) = sym (units_mine two) ∙ (ap (λ (l : List Event). units_in (reverse l)) (sym e) ∙ units_mine one) in (
-      (λ i. all_numbered (same_catalogue two one (sym e) i) (map unit_view (units i))) ∙ f.0,
-      (λ i. calls_fit (same_catalogue two one (sym e) i) (all_of (map unit_view (units i)))) ∙ f.1,
-    )
+    let units : units_in (reverse two) ≡ units_in (reverse one) = sym (units_mine two) ∙ (ap (λ (l : List Event). units_in (reverse l)) (sym e) ∙ units_mine one) in
+    record {
+      numbered = (λ i. all_numbered (same_catalogue two one (sym e) i) (map unit_view (units i))) ∙ f.numbered;
+      calls = (λ i. calls_fit (same_catalogue two one (sym e) i) (all_of (map unit_view (units i)))) ∙ f.calls;
+      ranges = (λ i. catalogue_ranged (same_catalogue two one (sym e) i) (all_of (map unit_view (units i)))) ∙ f.ranges;
+    }
 
 -- Bodies that were lent
 
 pub lent_calls : (log : List Event) (bodies : Code.UnitBodies) → IsLent log (Some bodies) → calls_fit (catalogue_of log) bodies ≡ true
-lent_calls log bodies lent = subst (λ (z : Code.UnitBodies). calls_fit (catalogue_of log) z ≡ true) (sym lent.0) lent.1.1
+lent_calls log bodies lent = subst (λ (z : Code.UnitBodies). calls_fit (catalogue_of log) z ≡ true) (sym lent.0) lent.1.calls
 
 -- After an act, and after a note was met
 

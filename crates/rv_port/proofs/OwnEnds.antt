@@ -100,7 +100,7 @@ module _ (u body w : Passing) (trace : Trace) (log : List Event) (early opening 
       ⊎_elim (λ h. no_strays log u trace body k.lent.from k.went.asks k.went.steps h)
       (λ h. ⊎_elim (λ m. absurd (not_left m)) (λ m. record { legal = legal_at; log = log; from = z; fit = k.lent.fit; explained = m }) h)
       (outer_ends (catalogue_of log) (bodies_at log) (history_at limits x.at) a early opening object operation values components left exit trace
-      (record { fit = k.lent.fit.1; more = catalogue_of z.0; loaded = ap catalogue_of z.1 ∙ catalogue-append log z.0 })
+      (record { fit = k.lent.fit.calls; more = catalogue_of z.0; loaded = ap catalogue_of z.1 ∙ catalogue-append log z.0 })
       k.recorded k.loaded o k.along
       (subst (λ (l : Trace). HasAsked (history_at limits x.at) a l trace) k.asked had_asked))
 

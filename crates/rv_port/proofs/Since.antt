@@ -175,7 +175,7 @@ module _ (v w : Passing) (trace : Trace) (log : List Event) (k : IsLentBy v log)
   pub fit_behind : FitBehind (catalogue_of log) (bodies_at log) (history_at limits before)
   fit_behind =
       let w : StartsWith before log = starts_both log v.seen before k.from p in
-      record { fit = k.fit.1; more = catalogue_of w.0; loaded = ap catalogue_of w.1 ∙ catalogue-append log w.0 }
+      record { fit = k.fit.calls; more = catalogue_of w.0; loaded = ap catalogue_of w.1 ∙ catalogue-append log w.0 }
 
   pub trace_at : trace ≡ at_end.before ++ (Complete scalars exit, Answers.Done next) ∷ at_end.after
   trace_at = at_end.trace_is ∙ ap (λ (z : Answer). at_end.before ++ (Complete scalars exit, z) ∷ at_end.after) (done_is at_end.answer next at_end.word_is)

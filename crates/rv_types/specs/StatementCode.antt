@@ -42,9 +42,9 @@ abbrev pub raise_of : PointView → Option Name → Option code.Statement
 raise_of p None = Some code.reraises
 raise_of p (Some n) = exception_in (denotes p n)
 
--- `delay until` a Time (9.6)
+-- `delay until` a Time, which each value of the type is (9.6)
 abbrev pub delay_of : PointView → Bool → Expression → Option code.Statement
-delay_of p true e = typed_as p Time e >>= λ c. Some (code.calls DelayUntil (and_expression c no_expressions) [])
+delay_of p true e = typed_as p Time e >>= λ c. Some (code.calls DelayUntil (and_expression (within (whole_range Time) c) no_expressions) [])
 delay_of p false e = None
 
 -- the values that a selector's type has (5.4)

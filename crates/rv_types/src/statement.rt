@@ -107,6 +107,7 @@ fn delay(
         return Err(mismatch(at));
     }
     let time = expression_as(alloc, ValueType::Time, time, point)?;
+    let time = within_range(alloc, whole_range(ValueType::Time), time)?;
     let mut arguments = Vec::new(alloc);
     arguments.push(time)?;
     Ok(Action::Call(Callee::DelayUntil, arguments, Vec::new(alloc)))

@@ -73,9 +73,10 @@ fn unit_of(alloc: Global, tree: &UnitTree, catalogue: &Catalogue) -> Result<Unit
     }
 }
 
-// A tree's unit, if its calls fit the loaded units and itself. They do wherever names and types were found right, since each
-// number in a body was taken from these units; but that is looked at here and proved nowhere. A unit whose calls didn't fit
-// would be a mismatch at its name.
+// A tree's unit, if its calls fit the loaded units and itself, and its values lie in their ranges. So it is wherever names and
+// types were found right, since each number in a body was taken from these units, and each value that is given or returned is
+// tested as it is computed; but that is looked at here and proved nowhere. A unit of which it weren't so would be a mismatch at
+// its name.
 #[tactic(auto, using(crate::proofs::Binding::mismatch_of_tree))]
 fn with_fitting_calls(
     alloc: Global,
@@ -113,8 +114,8 @@ fn fitting_unit_of(alloc: Global, tree: &UnitTree, catalogue: &Catalogue) -> Res
     }
 }
 
-/// The unit of a text, over the loaded units. What its bodies call is there, so that a load over the same units takes them
-/// with the shape.
+/// The unit of a text, over the loaded units. What its bodies call is there, and what they give and keep lies in its range, so
+/// that a load over the same units takes them with the shape.
 ///
 /// # Errors
 /// The first fault of the first look that finds one: words, grammar, restrictions, names, types, shape. Of the faults of

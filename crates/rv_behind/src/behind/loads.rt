@@ -28,7 +28,8 @@ fn grown(alloc: Global, bodies: &Bodies, unit: SharedUnit) -> Result<Arc<Ready, 
 }
 
 impl Behind {
-    // Whether a unit's bodies are found to be numbered as its shape is, and their calls to fit the units that are loaded, with its own.
+    // Whether a unit's bodies are found to be numbered as its shape is, their calls to fit the units that are loaded, with its
+    // own, and their values to lie in their ranges.
     fn are_fitting(&self, shape: &UnitShape, unit: &UnitBodies) -> bool
         ensures { result ≡ true → fits_behind (log_in self.now.host.value (arc_value self.now.bodies).bodies) shape.now unit.now ≡ true }
     {

@@ -1,0 +1,11 @@
+pub mod Values
+pub mod Trees
+pub mod Suited
+pub mod Passed
+pub mod AskedValues
+pub mod AskedStatements
+pub mod Bound
+pub mod AskedBodies
+pub mod Replies
+pub mod Found
+pub mod Runs

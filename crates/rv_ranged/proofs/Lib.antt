@@ -1,0 +1,4 @@
+pub mod Parts
+pub mod Keeps
+mod Ends
+mod Behind
