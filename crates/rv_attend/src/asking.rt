@@ -1,7 +1,7 @@
 //! Where a run lasts, a command for which there is no room is asked again behind an archive.
 
 ghost use Rattle.std.specs.Prelude.{◌≡◌, ◌⊎◌, [], List, ℕ, Ok, Some, IfNone, IfOk, IfSome, true};
-ghost use Rattle.rv_attend.specs.Again.{AskedAgain, Asks, InVain, TakesRoom, full_line};
+ghost use Rattle.rv_attend.specs.Again.{AskedAgain, Asks, InVain, IsRequest, TakesRoom, full_line};
 ghost use Rattle.rv_attend.specs.Chores.{ChoresIn};
 ghost use Rattle.rv_follow.specs.Following.{Later};
 ghost use Rattle.rv_input.specs.Coming.{Reading};
@@ -38,15 +38,32 @@ impl Asked {
     fn is_full(&self) -> bool
         ensures { result ≡ true → (self.now.next ≡ Ok Go) × (self.now.text.items ≡ full_line) }
     {
-        matches!(self.next, Ok(Next::Go)) && self.text.as_slice() == FULL
+        match &self.next {
+            Ok(Next::Go) => self.text.as_slice() == FULL,
+            _ => false,
+        }
     }
 }
 
-// Whether a command line takes room that may come again: a change of the list, or ticks.
-fn is_request(alloc: Global, line: &str) -> bool
+// Whether a command takes room that may come again: a change of the list, or ticks.
+fn is_request(order: &Order) -> bool
+    ensures { result ≡ true → IsRequest order.now }
+{
+    match order {
+        Order::Change(_) => true,
+        Order::Tick(_) => true,
+        _ => false,
+    }
+}
+
+// Whether a command line asks one of these.
+fn takes_room(alloc: Global, line: &str) -> bool
     ensures { result ≡ true → TakesRoom line.now }
 {
-    matches!(order_of(alloc, line), Ok(Order::Change(_) | Order::Tick(_)))
+    match order_of(alloc, line) {
+        Ok(order) => is_request(&order),
+        Err(_) => false,
+    }
 }
 
 // Carries a command line out. What is to be said of it is kept.
@@ -121,7 +138,8 @@ fn told<W: Write>(asked: Asked, writer: &mut W) -> Result<Next, LineFault>
     match next {
         Ok(_) => put(writer, text.as_slice()),
         Err(LineFault::Worn) => Err(LineFault::Worn),
-        Err(LineFault::NoMemory | LineFault::Write(_)) => Err(LineFault::NoMemory),
+        Err(LineFault::NoMemory) => Err(LineFault::NoMemory),
+        Err(LineFault::Write(_)) => Err(LineFault::NoMemory),
     }
 }
 
@@ -145,7 +163,10 @@ pub(crate) fn answer_request<T: Wait, W: Write, F>(
     ensures room { follower.new.room ≡ follower.old.room }
     ensures source { follower.new.source ≡ follower.old.source }
 {
-    if !follower.asked.lasting || !is_request(session.alloc, line) {
+    if !follower.asked.lasting {
+        return None;
+    }
+    if !takes_room(session.alloc, line) {
         return None;
     }
     let asked = ask_again(rt, session, follower, line);

@@ -2,7 +2,7 @@
 
 ghost use Rattle.std.specs.Prelude.{◌≡◌, ◌<◌, ◌^◌, ◌++◌, ◌∷◌, [], IfOk, OnOk, length, string_bytes};
 ghost use Rattle.std.specs.Io.KnownBytes.{Appends};
-ghost use Rattle.rv_attend.specs.Filing.{ended, is_kept, is_open, kept_text, loaded_text, section_text};
+ghost use Rattle.rv_attend.specs.Filing.{ended, is_kept, is_open, kept_section, kept_text, loaded_text, section_text};
 ghost use Rattle.rv_script.specs.Openings.{opening_of};
 ghost use Rattle.rv_script.specs.Prefixes.{WritesPrefix};
 ghost use Rattle.rv_text.specs.Sections.{sections_of};
@@ -126,6 +126,17 @@ fn push_section(all: &mut String, section: &Section<'_>) -> Result<(), AllocErro
     })
 }
 
+// Pushes a section behind others, where it is kept.
+fn push_kept(all: &mut String, section: &Section<'_>) -> Result<(), AllocError>
+    ensures { OnOk result (string_bytes all.new ≡ string_bytes all.old ++ kept_section (record { line = section.now.line; opening = section.now.opening.now; text = section.now.text.now })) }
+{
+    if is_kept(opening_of(section.opening)) {
+        push_section(all, section)
+    } else {
+        Ok(())
+    }
+}
+
 // The sections of a script that are kept: settings and units.
 fn kept_text(alloc: Global, script: &str) -> Result<String, AllocError>
     requires { length script.now < 2 ^ 63 }
@@ -134,9 +145,7 @@ fn kept_text(alloc: Global, script: &str) -> Result<String, AllocError>
     let (_, mut sections) = open_script(script);
     let mut all = String::new(alloc);
     'each: while let Some(section) = sections.next_section() {
-        if is_kept(opening_of(section.opening)) {
-            push_section(&mut all, &section)?;
-        }
+        push_kept(&mut all, &section)?;
     }
     Ok(all)
 }
