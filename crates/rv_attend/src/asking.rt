@@ -69,7 +69,7 @@ fn takes_room(alloc: Global, line: &str) -> bool
 // Carries a command line out. What is to be said of it is kept.
 #[tactic(auto, using(rv_shell::proofs::Serving::read_serves))]
 fn ask<T: Wait>(rt: &T, alloc: Global, staff: &mut Staff, line: &str) -> Asked
-    ensures asks { Asks staff.old.control staff.new.control line.now result.text.items result.next }
+    ensures serves { Serves (Some []) (Some result.text.items) staff.old.control staff.new.control (words line.now) result.next }
     ensures crew { staff.new.crew ≡ staff.old.crew }
 {
     let mut text = Vec::new(alloc);
@@ -93,7 +93,6 @@ fn make_room<T: Wait, F>(rt: &T, staff: &mut Staff, follower: &mut Follower<'_, 
 }
 
 // Carries a command line out, and once more behind an archive where there was no room.
-#[tactic(none)]
 fn ask_again<T: Wait, F>(
     rt: &T,
     session: &mut Session,
@@ -128,7 +127,6 @@ fn put<W: Write>(writer: &mut W, text: &[u8]) -> Result<Next, LineFault>
 }
 
 // What a command came to, once it is said. What there was no memory to keep is as an answer that there is none for.
-#[tactic(none)]
 fn told<W: Write>(asked: Asked, writer: &mut W) -> Result<Next, LineFault>
     ensures serves { (v w : Passing) → (line : List ℕ) → TakesRoom line → Asks v w line asked.text.items asked.next
         → Serves (W.contents writer.old) (W.contents writer.new) v w (words line) result }
@@ -145,7 +143,6 @@ fn told<W: Write>(asked: Asked, writer: &mut W) -> Result<Next, LineFault>
 
 /// Carries out a command that takes room, where the run lasts: where there is none, entries are given up that the file has, and it is asked
 /// again. None of another command, which is carried out as in any run.
-#[tactic(none)]
 pub(crate) fn answer_request<T: Wait, W: Write, F>(
     rt: &T,
     session: &mut Session,

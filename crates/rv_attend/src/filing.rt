@@ -178,16 +178,32 @@ pub(crate) fn keep_sections<F: Write>(
     kept
 }
 
-// Keeps the unit of the last command `load`, where it was loaded: there are more units than before.
-fn keep_loaded<F: Write>(alloc: Global, filed: &mut Filed<F>, units: usize) -> io::Result<()> {
+// Writes the unit text of the last command `load`. It wasn't read only where memory for it was refused.
+fn put_loaded<F: Write>(alloc: Global, filed: &mut Filed<F>) -> io::Result<()> {
+    let Some(file) = &mut filed.units else {
+        return Ok(());
+    };
+    match &filed.loading {
+        Some(text) => put_made(file, loaded_text(alloc, text.as_str())),
+        None => Err(io::Error::from(ErrorKind::OutOfMemory)),
+    }
+}
+
+/// Keeps the unit of the last command `load`, where it was loaded: there are more units than before.
+pub(crate) fn keep_loaded<F: Write>(
+    alloc: Global,
+    filed: &mut Filed<F>,
+    units: usize,
+) -> io::Result<()> {
     if units <= filed.loaded {
         return Ok(());
     }
     filed.loaded = units;
-    let (Some(file), Some(text)) = (&mut filed.units, &filed.loading) else {
-        return Ok(());
-    };
-    put_made(file, loaded_text(alloc, text.as_str()))
+    let kept = put_loaded(alloc, filed);
+    if kept.is_err() {
+        filed.failed = Some(Beside::Units);
+    }
+    kept
 }
 
 // Whether a second went by since entries had their time.
@@ -228,18 +244,13 @@ fn stamp<R: Clock, F: Write>(
     }
 }
 
-/// Keeps a unit that came, and where it is time for that, at a command and once a second, by when the entries up to one were written.
-pub(crate) fn keep_beside<R: Clock, F: Write>(
+/// Writes, where it is time for that, at a command and once a second, by when the entries up to one were written.
+pub(crate) fn keep_times<R: Clock, F: Write>(
     rt: &R,
     alloc: Global,
     filed: &mut Filed<F>,
-    units: usize,
     entries: usize,
 ) -> io::Result<()> {
-    if let Err(e) = keep_loaded(alloc, filed, units) {
-        filed.failed = Some(Beside::Units);
-        return Err(e);
-    }
     if entries <= filed.stamped || !(filed.is_commanded || is_late(rt, filed.stamped_at)) {
         return Ok(());
     }
