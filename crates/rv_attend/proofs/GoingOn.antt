@@ -1,13 +1,14 @@
 -- Why a run goes on or ends, behind what was done before.
 use Rattle.std.proofs.Common.{◌≡◌, ◌∙◌, ◌≤◌, ◌+◌, ◌-◌, ℕ, Bool, true, List, [], Option, Some, None, Ok, Err, inl, inr, refl, sym, ap, subst, arith, append-nil, length, length-append}
 use Rattle.std.specs.Prelude.{◌⊎◌, IfErr, IfOk, IfSome, Result}
+use Rattle.std.specs.Io.KnownBytes.{Appends}
 use Rattle.std.proofs.lemmas.Bool.Decides.{nat_tests}
 use Rattle.rv_behind.specs.Events.{history_at}
 use Rattle.rv_feed.specs.Hearing.{Hears, IsStopped}
 use Rattle.rv_feed.specs.declared.feed.Came.{Came}
 use Rattle.rv_feed.specs.declared.feed.Came.TheVariants.{Bytes, Nothing, Over}
 use Rattle.rv_feed.specs.declared.piece.Piece.{Piece}
-use Rattle.rv_follow.specs.Following.{ClosesFile, IsKept}
+use Rattle.rv_follow.specs.Following.{IsKept}
 use Rattle.rv_follow.proofs.Growing.{goes_on}
 use Rattle.rv_history.specs.History.{History}
 use Rattle.rv_history.specs.Journal.{journal_text}
@@ -17,6 +18,7 @@ use Rattle.rv_input.specs.Whole.{HasCommand}
 use Rattle.rv_input.specs.declared.fault.InputFault.{InputFault}
 use Rattle.rv_keep.specs.Keeping.{Known}
 use Rattle.rv_port.specs.Traces.{Passing, limits_in}
+use Rattle.rv_script.specs.Prefixes.{WritesPrefix}
 use Rattle.rv_run.specs.Beside.{Ended, IsOfRun}
 use Rattle.rv_run.specs.Staging.{Outcome}
 use Rattle.rv_run.specs.declared.command.Goes.{Goes}
@@ -156,5 +158,5 @@ closes_less (Ok y) x error closes = tt
 closes_less (Err (Run failure)) x error closes = absurd closes
 closes_less (Err (File other)) x error closes = absurd (cc closes)
 
-pub file_less : {X E : Type 0} (opened now : Known) (h : History) (x : X) (error : E) → ClosesFile {X} {E} opened now h (Ok x) → ClosesFile {X} {E} opened now h (Err error)
-file_less opened now h x error whole = record { prefix = journal_text h; rest = []; whole = sym (append-nil (journal_text h)); written = whole }
+pub file_less : (opened now : Known) (h : History) → Appends opened now (journal_text h) → WritesPrefix opened now (journal_text h)
+file_less opened now h whole = record { prefix = journal_text h; rest = []; whole = sym (append-nil (journal_text h)); written = whole }
