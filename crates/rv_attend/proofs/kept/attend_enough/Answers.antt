@@ -6,9 +6,6 @@ use Rattle.rv_attend.proofs.kept.attend_enough.Goals as goal
 pub returns-then-not-is_capacity : goal.returns-then-not-is_capacity
 returns-then-not-is_capacity g c = λ first. inr (inl refl)
 
-pub returns-then-not-is_kept : goal.returns-then-not-is_kept
-returns-then-not-is_kept g c = λ first. inr (inl refl)
-
 pub returns-in-Err : goal.returns-in-Err
 returns-in-Err g c = λ first. inr (inl refl)
 
