@@ -1,5 +1,6 @@
 //! The cause of a fault of the grammar, from its reason.
 
+use crate::habits::habit;
 use rv_cause::around::Around;
 use rv_cause::cause::Cause;
 use rv_cause::grammar::other_ada;
@@ -32,6 +33,16 @@ fn deed_of(word: Option<Kind>) -> &'static str {
         Some(Kind::Dot) => "stands within names",
         Some(Kind::DoubleDot) => "parts the bounds of a range",
         _ => "",
+    }
+}
+
+// The end of a statement in one word, by the word that opens it; what is no word for others.
+fn joined_of(word: Kind) -> &'static str {
+    match word {
+        Kind::If => "endif",
+        Kind::Case => "endcase",
+        Kind::Loop => "endloop",
+        _ => ".",
     }
 }
 
@@ -118,8 +129,23 @@ impl<'a> Stop<'_, 'a> {
         of_three(crossed.at, said, inner, word, outer).with_other(crossed.opener.at)
     }
 
+    // Where the end of a statement is written in one word, behind what opened it, if it is.
+    fn joined(&self, opener: Opener) -> Option<Cause<'a>> {
+        let wrong = joined_of(opener.word);
+        for token in self.tokens {
+            if token.place > opener.at && token.text.eq_ignore_ascii_case(wrong) {
+                let said = "`{0}` is written in two words: end {1} (5.3)";
+                return Some(Cause::pair(token.place, said, token.text, opener.word.spelling()));
+            }
+        }
+        None
+    }
+
     // That a construct has no end.
     fn no_end(&self, opener: Opener) -> Cause<'a> {
+        if let Some(cause) = self.joined(opener) {
+            return cause;
+        }
         let said = "`end {0}` is missing for the `{1}` of line {line}";
         let name = self.name_of(opener);
         Cause::pair(self.at, said, name, opener.word.spelling()).with_other(opener.at)
@@ -149,6 +175,17 @@ impl<'a> Stop<'_, 'a> {
         Cause::pair(self.at, said, word, unit)
     }
 
+    // Whether `then` stands between what opened an if statement and the word at fault.
+    fn has_then(&self, opener: Opener) -> bool {
+        for token in self.tokens {
+            let is_between = token.place > opener.at && token.place < self.at;
+            if is_between && token.kind == Kind::Then {
+                return true;
+            }
+        }
+        false
+    }
+
     // What is wrong where no small change helps.
     fn without_mend(&self, opener: Option<Opener>) -> Cause<'a> {
         let Some(opener) = opener else {
@@ -156,6 +193,10 @@ impl<'a> Stop<'_, 'a> {
         };
         if is_further_out(self.words.kind()) {
             return self.no_end(opener);
+        }
+        if opener.word == Kind::If && !self.has_then(opener) {
+            let said = "`then` is wanted behind the condition; `{0}` can't stand there (5.3)";
+            return Cause::of(self.at, said, self.words.word(0));
         }
         let said = "`{0}` can't stand behind `{1}` here (docs/GRAMMAR.md)";
         Cause::pair(self.at, said, self.words.word(0), self.words.back(1))
@@ -177,6 +218,9 @@ impl<'a> Stop<'_, 'a> {
     pub(crate) fn cause(&self, reason: &Reason) -> Cause<'a> {
         if let Some(crossed) = reason.crossed {
             return self.of_crossed(crossed);
+        }
+        if let Some(cause) = habit(&self.words, &self.around) {
+            return cause;
         }
         if let Some(cause) = other_ada(&self.words, &self.around) {
             return cause;

@@ -4,13 +4,16 @@
 
 mod also;
 mod attached;
+mod bodies;
 mod bytes;
 mod ceilings;
 mod commands;
+mod elsewhere;
 mod excerpt;
 mod explanation;
 mod finding;
 mod grammar;
+mod habits;
 mod judge;
 mod lexical;
 mod line;

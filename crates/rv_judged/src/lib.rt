@@ -9,3 +9,4 @@ mod ranges;
 pub mod restrictions;
 pub mod types;
 pub mod unknown;
+pub mod wrong;
