@@ -36,13 +36,13 @@ fn deed_of(word: Option<Kind>) -> &'static str {
     }
 }
 
-// The end of a statement in one word, by the word that opens it; what is no word for others.
-fn joined_of(word: Kind) -> &'static str {
+// The end of a statement in one word, by the word that opens it.
+fn joined_of(word: Kind) -> Option<&'static str> {
     match word {
-        Kind::If => "endif",
-        Kind::Case => "endcase",
-        Kind::Loop => "endloop",
-        _ => ".",
+        Kind::If => Some("endif"),
+        Kind::Case => Some("endcase"),
+        Kind::Loop => Some("endloop"),
+        _ => None,
     }
 }
 
@@ -131,9 +131,10 @@ impl<'a> Stop<'_, 'a> {
 
     // Where the end of a statement is written in one word, behind what opened it, if it is.
     fn joined(&self, opener: Opener) -> Option<Cause<'a>> {
-        let wrong = joined_of(opener.word);
+        let wrong = joined_of(opener.word)?;
         for token in self.tokens {
-            if token.place > opener.at && token.text.eq_ignore_ascii_case(wrong) {
+            let is_between = token.place > opener.at && token.place < self.at;
+            if is_between && token.text.eq_ignore_ascii_case(wrong) {
                 let said = "`{0}` is written in two words: end {1} (5.3)";
                 return Some(Cause::pair(token.place, said, token.text, opener.word.spelling()));
             }

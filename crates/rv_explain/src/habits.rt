@@ -244,7 +244,8 @@ const NO_BODY: &str =
 
 // Whether the body of an entry goes on without its barrier.
 fn lacks_barrier(words: &Words<'_, '_>, around: &Around<'_>) -> bool {
-    around.is_body && around.is_in_head && !around.operation.is_empty() && words.fit("NAME|) ^is")
+    let is_operation = around.is_body && around.is_in_head && !around.operation.is_empty();
+    is_operation && !around.is_function && words.fit("NAME|) ^is")
 }
 
 // Whether the words of a task's body stand in its declaration.

@@ -6,7 +6,7 @@ use rv_cause::words::Words;
 use rv_misread::{NameReason, NumberReason, name_reason, number_reason};
 
 // What is said of a character, by what stands there.
-const CHARACTERS: [Form; 13] = [
+const CHARACTERS: [Form; 12] = [
     Form {
         word: "\"",
         said: "there are no strings here, nor characters in quotes (2.6)",
@@ -54,10 +54,6 @@ const CHARACTERS: [Form; 13] = [
     Form {
         word: "\\",
         said: "no \\ stands in a text but in comments (2.1)",
-    },
-    Form {
-        word: "?",
-        said: "there are no conditional expressions here: write an if statement (5.3)",
     },
 ];
 

@@ -131,7 +131,7 @@ fn said_of_line(line: &str) -> &'static str {
     if line.contains("--") || line.contains("//") {
         "a comment of settings begins with #"
     } else if line.contains(":") && !line.contains("=") {
-        "= stands between a key and its value: write key = value"
+        "`=` stands between a key and its value: write key = value"
     } else {
         NOT_TOML
     }
