@@ -111,17 +111,17 @@ const DECLARATIONS: [Case; 16] = [
     },
     Case {
         within: Within::Anywhere,
-        words: "int|unsigned|long|short ^NAME )|;|:=|=",
+        words: "is|;|private|begin|then|else|loop|( int|unsigned|long|short ^NAME )|;|:=|=",
         said: "a name stands before its subtype: write {0} : Integer (3.3.1)",
     },
     Case {
         within: Within::Anywhere,
-        words: "bool ^NAME )|;|:=|=",
+        words: "is|;|private|begin|then|else|loop|( bool ^NAME )|;|:=|=",
         said: "a name stands before its subtype: write {0} : Boolean (3.3.1)",
     },
     Case {
         within: Within::Anywhere,
-        words: "Integer|Natural|Positive|Boolean ^NAME )|;|:=|=",
+        words: "is|;|private|begin|then|else|loop|( Integer|Natural|Positive|Boolean ^NAME )|;|:=|=",
         said: BEFORE_SUBTYPE,
     },
     Case {
@@ -171,6 +171,8 @@ const DECLARATIONS: [Case; 16] = [
     },
 ];
 
+const CHOICES: &str = "choices are parted by `|`, and not by `{0}` (5.4)";
+
 const ARGUMENTS: &str = "the arguments of a call stand in parentheses: write {3} ({0}) (6.4)";
 
 // What is said of aspects, entries, statements and expressions.
@@ -193,12 +195,12 @@ const OTHERS: [Case; 12] = [
     Case {
         within: Within::Statement,
         words: "exception|;|is when NAME ^or|,",
-        said: "choices are parted by a bar: write {3} | {1} (5.4)",
+        said: CHOICES,
     },
     Case {
         within: Within::Statement,
         words: "exception|;|is when NAME . NAME ^or|,",
-        said: "choices are parted by a bar: write {3} | {1} (5.4)",
+        said: CHOICES,
     },
     Case {
         within: Within::Anywhere,
@@ -239,8 +241,7 @@ const OTHERS: [Case; 12] = [
 
 const NO_BARRIER: &str = "the body of the entry has a barrier: write when .. before is (9.5.2)";
 
-const NO_BODY: &str =
-    "the body of {5} begins with: task body {5} is; what stands here can't stand in its declaration (9.1)";
+const NO_BODY: &str = "`body` is missing: the body of {5} begins with task body {5} is (9.1)";
 
 // Whether the body of an entry goes on without its barrier.
 fn lacks_barrier(words: &Words<'_, '_>, around: &Around<'_>) -> bool {
