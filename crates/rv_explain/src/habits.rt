@@ -85,10 +85,13 @@ const SIGNS: [Case; 15] = [
     },
 ];
 
+const AMONG_STATEMENTS: &str =
+    "{3} is declared before the begin of the body: no declaration stands among statements (5.1)";
+
 const BEFORE_SUBTYPE: &str = "a name stands before its subtype: write {0} : {3} (3.3.1)";
 
 // What is said of declarations whose words stand in another order.
-const DECLARATIONS: [Case; 16] = [
+const DECLARATIONS: [Case; 18] = [
     Case {
         within: Within::Parentheses,
         words: ": NAME ^in out",
@@ -156,8 +159,18 @@ const DECLARATIONS: [Case; 16] = [
     },
     Case {
         within: Within::Statement,
-        words: "begin|;|then|else|loop NAME ^: NAME ;|:=",
-        said: "{3} is declared before the begin of the body: no declaration stands among statements (5.1)",
+        words: "begin|;|then|else|loop NAME ^: constant|Integer|Natural|Positive|Boolean|Time|Time_Span",
+        said: AMONG_STATEMENTS,
+    },
+    Case {
+        within: Within::Statement,
+        words: "begin|;|then|else|loop NAME ^: NAME :=",
+        said: AMONG_STATEMENTS,
+    },
+    Case {
+        within: Within::Statement,
+        words: "begin|;|then|else|loop NAME ^: NAME ;",
+        said: "`:=` assigns; a declaration of {3} stands before the begin of the body (5.1)",
     },
     Case {
         within: Within::Anywhere,

@@ -79,15 +79,48 @@ fn behind_in(words: &Words<'_, '_>, count: usize) -> usize {
     count
 }
 
+// How many words behind a word the last part of the name stands that begins so many behind.
+fn last_behind(words: &Words<'_, '_>, count: usize) -> usize {
+    let mut last = count;
+    for _part in 0..2 {
+        if words.is(last.saturating_add(1), ".") {
+            last = last.saturating_add(2);
+        }
+    }
+    last
+}
+
+// Where two profiles differ, behind their names: at these words, or, where a declaration ends there, in what stands before a point.
+fn first_difference(
+    declared: &Words<'_, '_>,
+    at: (usize, usize),
+    prefix: Option<(usize, usize)>,
+) -> (usize, usize) {
+    match prefix {
+        Some(prefix) if is_among(declared.word(at.0), ";|with") => prefix,
+        _ => at,
+    }
+}
+
 // How many words behind two names the first words stand in which their profiles differ.
 fn differing(declared: &Words<'_, '_>, body: &Words<'_, '_>) -> (usize, usize) {
     let mut first = 1usize;
     let mut second = 1usize;
+    let mut prefix = None;
     for _turn in 0..256usize {
         first = behind_in(declared, first);
         second = behind_in(body, second);
         if !is_same_name(declared.word(first), body.word(second)) {
-            return (first, second);
+            let whole = last_behind(declared, first);
+            let other = last_behind(body, second);
+            if !is_same_name(declared.word(whole), body.word(other)) {
+                return first_difference(declared, (first, second), prefix);
+            }
+            if prefix.is_none() {
+                prefix = Some((first, second));
+            }
+            first = whole;
+            second = other;
         }
         first = first.saturating_add(1);
         second = second.saturating_add(1);
