@@ -2,8 +2,8 @@
 
 use crate::also::{Also, also_of};
 use crate::explanation::{Explanation, of_part};
+use crate::members;
 use crate::wanted::wanted_types;
-use crate::{bodies, elsewhere, members};
 use rv_cause::around::Around;
 use rv_cause::cases::told;
 use rv_cause::cause::Cause;
@@ -12,7 +12,7 @@ use rv_cause::words::Words;
 use rv_fault::Part;
 use rv_further::further;
 use rv_judged::judged::Judged;
-use rv_judged::{names, restrictions, types, unknown, wrong};
+use rv_judged::{bodies, elsewhere, names, restrictions, types, unknown, wrong};
 use rv_lex::token::Token;
 use rv_names::NameFault;
 use rv_names::resolve::resolve;

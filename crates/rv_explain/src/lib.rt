@@ -4,11 +4,9 @@
 
 mod also;
 mod attached;
-mod bodies;
 mod bytes;
 mod ceilings;
 mod commands;
-mod elsewhere;
 mod excerpt;
 mod explanation;
 mod finding;

@@ -70,7 +70,7 @@ fn declared_here<'a>(words: &Words<'_, 'a>) -> &'a str {
 
 /// That a declaration has no body, and a body with a name that is near has no declaration. `None` where there is none. Err where memory was
 /// refused.
-pub(crate) fn misspelt<'a>(
+pub fn misspelt<'a>(
     alloc: Global,
     tokens: &[Token<'a>],
     words: &Words<'_, 'a>,

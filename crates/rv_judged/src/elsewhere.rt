@@ -1,11 +1,11 @@
 //! Names that nothing is declared by where they stand, but elsewhere: in another unit, or in a protected unit of this one.
 
+use crate::judged::Judged;
 use rv_cause::around::Around;
 use rv_cause::cause::Cause;
 use rv_cause::declared::{Declared, Sort};
 use rv_cause::known::{Group, Known};
 use rv_cause::words::Words;
-use rv_judged::judged::Judged;
 use rv_lex::token::Token;
 use rv_text::is_same_name;
 
@@ -69,7 +69,7 @@ fn object_of<'k, 'a>(
 }
 
 /// Why a name denotes nothing where it stands, by which something is declared elsewhere.
-pub(crate) fn unknown<'a>(
+pub fn unknown<'a>(
     tokens: &[Token<'a>],
     words: &Words<'_, 'a>,
     around: &Around<'a>,
