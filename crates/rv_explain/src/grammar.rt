@@ -1,6 +1,6 @@
 //! The cause of a fault of the grammar, from its reason.
 
-use crate::habits::habit;
+use crate::habits::{between, habit};
 use rv_cause::around::Around;
 use rv_cause::cause::Cause;
 use rv_cause::grammar::other_ada;
@@ -106,6 +106,11 @@ impl<'a> Stop<'_, 'a> {
     fn of_missing(&self, at: usize, word: Kind) -> Cause<'a> {
         let words = Words::at(self.tokens, at);
         let before = words.back(1);
+        if word == Kind::Semicolon && at == self.at {
+            if let Some(cause) = between(&words, &self.around) {
+                return cause;
+            }
+        }
         match word {
             Kind::Literal => Cause::of(at, "a value is missing behind `{0}`", before),
             Kind::Identifier => Cause::of(at, "a name is missing behind `{0}`", before),

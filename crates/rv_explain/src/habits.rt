@@ -3,7 +3,7 @@
 use rv_cause::around::Around;
 use rv_cause::cases::{Case, Within, first_of, told};
 use rv_cause::cause::Cause;
-use rv_cause::words::Words;
+use rv_cause::words::{Words, is_among};
 use rv_lex::kind::Kind;
 
 // What is said of signs.
@@ -184,12 +184,15 @@ const DECLARATIONS: [Case; 18] = [
     },
 ];
 
+const POINT: &str = "`;` is missing behind {3}, or a point before {0}: {3}.{0} (4.1.3)";
+
 const CHOICES: &str = "choices are parted by `|`, and not by `{0}` (5.4)";
 
-const ARGUMENTS: &str = "the arguments of a call stand in parentheses: write {3} ({0}) (6.4)";
+const ARGUMENTS: &str =
+    "`;` is missing behind {3}, or parentheses are around its argument: {3} ({0}) (6.4)";
 
 // What is said of aspects, entries, statements and expressions.
-const OTHERS: [Case; 12] = [
+const OTHERS: [Case; 11] = [
     Case {
         within: Within::Anywhere,
         words: "is ^with NAME =>",
@@ -231,11 +234,6 @@ const OTHERS: [Case; 12] = [
         said: "no semicolon stands behind {3}: leave it out (2.2)",
     },
     Case {
-        within: Within::Statement,
-        words: "NAME ^NUMBER ;",
-        said: ARGUMENTS,
-    },
-    Case {
         within: Within::Anywhere,
         words: "exit ^if",
         said: "the condition of exit stands behind when: write exit when .. (5.7)",
@@ -268,27 +266,6 @@ fn lacks_body(words: &Words<'_, '_>, around: &Around<'_>) -> bool {
     is_declared && words.fit("is|; ^begin|NAME")
 }
 
-// Whether a name stands here, with one blank between it and a name before it.
-fn is_beside(words: &Words<'_, '_>) -> bool {
-    let before = words.before(1);
-    let end = before.place(0).saturating_add(before.word(0).len());
-    words.kind() == Some(Kind::Identifier)
-        && before.kind() == Some(Kind::Identifier)
-        && words.place(0) == end.saturating_add(1)
-}
-
-// What is said of two names side by side, among statements; empty where they are none.
-fn said_of_names(words: &Words<'_, '_>, around: &Around<'_>) -> &'static str {
-    if around.is_in_head || !is_beside(words) {
-        return "";
-    }
-    match words.word(1) {
-        ";" | "," => ARGUMENTS,
-        "(" => "a point stands between two parts of a name: write {3}.{0} (4.1.3)",
-        _ => "",
-    }
-}
-
 /// Why a word can't stand where it does that somebody writes who knows another language, or another order of words; `None` where it is no
 /// such word.
 pub(crate) fn habit<'a>(words: &Words<'_, 'a>, around: &Around<'a>) -> Option<Cause<'a>> {
@@ -307,11 +284,31 @@ pub(crate) fn habit<'a>(words: &Words<'_, 'a>, around: &Around<'a>) -> Option<Ca
     if lacks_body(words, around) {
         return Some(told(words, around, NO_BODY));
     }
-    if words.is(0, "|") && words.was(1, "|") {
+    if words.is(0, "|") && (words.is(1, "|") || words.was(1, "|")) {
         return Some(told(words, around, "write or for Boolean values (4.5.1)"));
     }
-    match said_of_names(words, around) {
-        "" => None,
-        said => Some(told(words, around, said)),
+    None
+}
+
+// Whether a name or a number stands here, with one blank between it and a name before it.
+fn is_beside(words: &Words<'_, '_>) -> bool {
+    let before = words.before(1);
+    let end = before.place(0).saturating_add(before.word(0).len());
+    before.kind() == Some(Kind::Identifier) && words.place(0) == end.saturating_add(1)
+}
+
+/// What may be missing between a name and a word behind it among statements, where that needn't be a semicolon.
+pub(crate) fn between<'a>(words: &Words<'_, 'a>, around: &Around<'a>) -> Option<Cause<'a>> {
+    if around.is_in_head || !is_beside(words) {
+        return None;
     }
+    let is_name = words.kind() == Some(Kind::Identifier);
+    let is_argument = is_name || words.kind() == Some(Kind::Literal);
+    if is_argument && is_among(words.word(1), ";|,") {
+        return Some(told(words, around, ARGUMENTS));
+    }
+    if is_name && words.is(1, "(") {
+        return Some(told(words, around, POINT));
+    }
+    None
 }
