@@ -159,12 +159,12 @@ const DECLARATIONS: [Case; 18] = [
     },
     Case {
         within: Within::Statement,
-        words: "begin|;|then|else|loop NAME ^: constant|Integer|Natural|Positive|Boolean|Time|Time_Span",
+        words: "begin|;|then|else|loop NAME ^: Integer|Natural|Positive|Boolean|Time|Time_Span ;|range",
         said: AMONG_STATEMENTS,
     },
     Case {
         within: Within::Statement,
-        words: "begin|;|then|else|loop NAME ^: NAME :=",
+        words: "begin|;|then|else|loop NAME ^: NAME :=|Integer|Natural|Positive|Boolean|Time|Time_Span",
         said: AMONG_STATEMENTS,
     },
     Case {
@@ -230,7 +230,7 @@ const OTHERS: [Case; 11] = [
     },
     Case {
         within: Within::Anywhere,
-        words: "then|else|loop|begin|is|private ^;",
+        words: "then|else|begin|is|private ^;",
         said: "no semicolon stands behind {3}: leave it out (2.2)",
     },
     Case {
