@@ -189,7 +189,7 @@ const POINT: &str = "`;` is missing behind {3}, or a point before {0}: {3}.{0} (
 const CHOICES: &str = "choices are parted by `|`, and not by `{0}` (5.4)";
 
 const ARGUMENTS: &str =
-    "`;` is missing behind {3}, or parentheses are around its argument: {3} ({0}) (6.4)";
+    "`;` is missing behind {3}, or the parentheses of its argument: {3} ({0}) (6.4)";
 
 // What is said of aspects, entries, statements and expressions.
 const OTHERS: [Case; 11] = [

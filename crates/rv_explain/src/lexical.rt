@@ -53,7 +53,7 @@ const CHARACTERS: [Form; 12] = [
     },
     Form {
         word: "\\",
-        said: "no \\ stands in a text but in comments (2.1)",
+        said: "a backslash stands in comments only (2.1)",
     },
 ];
 
