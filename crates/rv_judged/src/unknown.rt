@@ -168,6 +168,17 @@ const NOT_KNOWN: &str = "{0} has no {1} that is known here";
 
 const NOT_HELD: &str = "{0} has no {1} that is known here; it has {2}";
 
+// A sentence about what a library package has in place of a word.
+fn of_library<'a>(
+    at: usize,
+    said: &'static str,
+    whole: &'a str,
+    word: &'a str,
+    has: &'a str,
+) -> Cause<'a> {
+    Cause::new(at, said, [whole, word, has])
+}
+
 // That a library package, whose name ends at a word, hasn't what stands behind it, with what is near or all that it has.
 fn no_item<'a>(
     alloc: Global,
@@ -183,13 +194,13 @@ fn no_item<'a>(
     let whole = library::name_of(library);
     let near = library::near_in(alloc, library, word)?;
     if !near.is_empty() {
-        return Ok(Cause::new(at, "{0} has no {1}; it has {2}", [whole, word, near]));
+        return Ok(of_library(at, "{0} has no {1}; it has {2}", whole, word, near));
     }
     let held = library::held_by(library);
     if held.is_empty() {
         return Ok(Cause::pair(at, NOT_KNOWN, whole, word));
     }
-    Ok(Cause::new(at, NOT_HELD, [whole, word, held]))
+    Ok(of_library(at, NOT_HELD, whole, word, held))
 }
 
 // Which part of a name with points isn't there.
@@ -319,6 +330,12 @@ fn near_to<'a>(words: &Words<'_, 'a>, near: &'a str, item: Option<&Declared<'a>>
     }
 }
 
+// The words of a name, and behind them one more.
+fn with_last<'a>(name: [&'a str; 6], last: &'a str) -> [&'a str; 6] {
+    let [first, point, second, next, third, _] = name;
+    [first, point, second, next, third, last]
+}
+
 // That there is no library package of a name with points, with one that is near to it.
 fn no_package<'a>(alloc: Global, words: &Words<'_, 'a>) -> Result<Cause<'a>, AllocError> {
     let at = words.place(0);
@@ -331,7 +348,7 @@ fn no_package<'a>(alloc: Global, words: &Words<'_, 'a>) -> Result<Cause<'a>, All
         return Ok(Cause::full(at, said, name));
     }
     let said = "this host has no library package {0}{1}{2}{3}{4}; {5} is there (10.1.2)";
-    Ok(Cause::full(at, said, [first, point, second, next, third, near]))
+    Ok(Cause::full(at, said, with_last(name, near)))
 }
 
 // That a context clause names no library unit.
