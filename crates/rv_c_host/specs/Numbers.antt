@@ -104,3 +104,16 @@ told_of answer before = record {
   value = value_of answer;
   scalars = laid (scalars_of answer) before.scalars;
 }
+
+-- the caller's answer of this kind, where it has components alone, if it has any part
+abbrev pub bare : ℤ → List ℤ → Told → Told
+bare kind values before = record {
+  kind = kind;
+  rule = pos 0;
+  line = 0;
+  version = 0;
+  actor = 0;
+  count = length values;
+  value = pos 0;
+  scalars = laid values before.scalars;
+}

@@ -49,64 +49,23 @@ pub fn command(alloc: Global, handle: &mut Handle, request: &Request) -> i32
     kind_of(&answer)
 }
 
-// Asks what may be no request.
-fn ask_if(
-    alloc: Global,
-    handle: &mut Handle,
-    actor: usize,
-    request: Option<Request>,
-    told: &mut Told,
-) -> i32
-    ensures { AsksIf actor request handle.old.value handle.new.value told.old told.new result }
-{
-    match request {
-        Some(request) => plain(alloc, handle, actor, &request, told),
-        None => BAD_REQUEST,
-    }
-}
-
-// The call of an operation of an object, with as many values as a call may have.
-fn call_of(target: Target, values: &[i64]) -> Option<Request>
-    ensures { result ≡ asked.call_of target.object target.operation values.now }
-{
-    if values.len() <= MOST_ARGS {
-        let values = Args::from_slice(values);
-        Some(Request::Call(target.object, target.operation, values))
-    } else {
-        None
-    }
-}
-
-// How a body ends, by a number from 0.
+// How a body ends, by a number from 0. Each way is made where it is taken, since values are large.
+#[tactic(auto, using(crate::proofs::Exits::past))]
 fn exit_of(number: u32, values: Args) -> Option<Exit>
     ensures { result ≡ asked.exit_of number values }
 {
-    let exits = [
-        Exit::Return(values),
-        Exit::Raise(Exception::ConstraintError),
-        Exit::Raise(Exception::ProgramError),
-        Exit::Raise(Exception::AccessDenied),
-        Exit::Overrun,
-        Exit::Stopped,
-    ];
-    exits.get(number as usize).copied()
-}
-
-// The end of a body that leaves these components.
-fn end_of(scalars: &[i64], number: u32, values: &[i64]) -> Option<Request>
-    ensures { result ≡ asked.end_of scalars.now number values.now }
-{
-    if scalars.len() <= MOST_SCALARS && values.len() <= MOST_ARGS {
-        match exit_of(number, Args::from_slice(values)) {
-            Some(exit) => Some(Request::Complete(Scalars::from_slice(scalars), exit)),
-            None => None,
-        }
-    } else {
-        None
+    match number {
+        0 => Some(Exit::Return(values)),
+        1 => Some(Exit::Raise(Exception::ConstraintError)),
+        2 => Some(Exit::Raise(Exception::ProgramError)),
+        3 => Some(Exit::Raise(Exception::AccessDenied)),
+        4 => Some(Exit::Overrun),
+        5 => Some(Exit::Stopped),
+        _ => None,
     }
 }
 
-/// Calls an operation of an object.
+/// Calls an operation of an object, with as many values as a call may have.
 pub fn call(
     alloc: Global,
     handle: &mut Handle,
@@ -117,10 +76,15 @@ pub fn call(
 ) -> i32
     ensures { AsksIf actor (asked.call_of target.object target.operation values.now) handle.old.value handle.new.value told.old told.new result }
 {
-    ask_if(alloc, handle, actor, call_of(target, values), told)
+    if values.len() > MOST_ARGS {
+        return BAD_REQUEST;
+    }
+    let values = Args::from_slice(values);
+    let request = Request::Call(target.object, target.operation, values);
+    plain(alloc, handle, actor, &request, told)
 }
 
-/// Ends the innermost body of an actor.
+/// Ends the innermost body of an actor, which leaves as many components as an object may have.
 pub fn end(
     alloc: Global,
     handle: &mut Handle,
@@ -132,7 +96,14 @@ pub fn end(
 ) -> i32
     ensures { AsksIf actor (asked.end_of scalars.now number values.now) handle.old.value handle.new.value told.old told.new result }
 {
-    ask_if(alloc, handle, actor, end_of(scalars, number, values), told)
+    if scalars.len() > MOST_SCALARS || values.len() > MOST_ARGS {
+        return BAD_REQUEST;
+    }
+    let Some(exit) = exit_of(number, Args::from_slice(values)) else {
+        return BAD_REQUEST;
+    };
+    let request = Request::Complete(Scalars::from_slice(scalars), exit);
+    plain(alloc, handle, actor, &request, told)
 }
 
 /// Delays an actor until a time in ticks.
