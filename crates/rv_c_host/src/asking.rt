@@ -27,10 +27,11 @@ pub fn plain(
 ) -> i32
     ensures { Asks actor request.now handle.old.value handle.new.value told.old told.new result }
 {
+    // First of all, since what is cleared at the same time is cleared at once.
+    let mut answer = Answer::Started(Scalars::new());
     let Some(mut kept) = handle.take(alloc) else {
         return NO_HOST;
     };
-    let mut answer = Answer::Started(Scalars::new());
     kept.host.put_answer(actor, request, &mut answer);
     handle.put(kept);
     tell(&answer, told)
@@ -84,6 +85,19 @@ pub fn call(
     plain(alloc, handle, actor, &request, told)
 }
 
+// Gives the end of a body, which has no components yet, these: in place, since they are large.
+fn give(request: &mut Request, scalars: &[i64])
+    requires within { length scalars.now ≤ 32 }
+    requires end { (exit : Exit) × (request.old ≡ Complete [] exit) }
+    ensures { (exit : Exit) → request.old ≡ Complete [] exit → request.new ≡ Complete scalars.now exit }
+{
+    if let Request::Complete(given, _) = request {
+        for value in scalars {
+            given.push(*value);
+        }
+    }
+}
+
 /// Ends the innermost body of an actor, which leaves as many components as an object may have.
 pub fn end(
     alloc: Global,
@@ -102,7 +116,8 @@ pub fn end(
     let Some(exit) = exit_of(number, Args::from_slice(values)) else {
         return BAD_REQUEST;
     };
-    let request = Request::Complete(Scalars::from_slice(scalars), exit);
+    let mut request = Request::Complete(Scalars::new(), exit);
+    give(&mut request, scalars);
     plain(alloc, handle, actor, &request, told)
 }
 
