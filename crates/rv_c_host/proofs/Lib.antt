@@ -1,3 +1,3 @@
 mod Unrecorded
 mod Coming
-mod Exits
+mod Ending

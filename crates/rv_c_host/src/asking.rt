@@ -1,7 +1,8 @@
 //! Asking a request of the host behind a handle.
 
-ghost use Rattle.std.specs.Prelude.{◌≡◌};
-ghost use Rattle.rv_event.specs.declared.entry.Request.TheVariants.{DelayUntil};
+ghost use Rattle.std.specs.Prelude.{◌≡◌, ◌≤◌, [], length};
+ghost use Rattle.rv_event.specs.declared.entry.Exit.{Exit};
+ghost use Rattle.rv_event.specs.declared.entry.Request.TheVariants.{Complete, DelayUntil};
 ghost use Rattle.rv_c_host.specs.Asked as asked;
 ghost use Rattle.rv_c_host.specs.Asked.{Asks, AsksIf, FiresLine, GoesOn, Orders};
 
@@ -51,7 +52,6 @@ pub fn command(alloc: Global, handle: &mut Handle, request: &Request) -> i32
 }
 
 // How a body ends, by a number from 0. Each way is made where it is taken, since values are large.
-#[tactic(auto, using(crate::proofs::Exits::past))]
 fn exit_of(number: u32, values: Args) -> Option<Exit>
     ensures { result ≡ asked.exit_of number values }
 {
@@ -85,16 +85,26 @@ pub fn call(
     plain(alloc, handle, actor, &request, told)
 }
 
+// Puts these components where there are none yet.
+fn fill(given: &mut Scalars, scalars: &[i64])
+    requires none { given.old ≡ [] }
+    requires within { length scalars.now ≤ 32 }
+    ensures { given.new ≡ scalars.now }
+{
+    for value in scalars {
+        given.push(*value);
+    }
+}
+
 // Gives the end of a body, which has no components yet, these: in place, since they are large.
 fn give(request: &mut Request, scalars: &[i64])
     requires within { length scalars.now ≤ 32 }
     requires end { (exit : Exit) × (request.old ≡ Complete [] exit) }
     ensures { (exit : Exit) → request.old ≡ Complete [] exit → request.new ≡ Complete scalars.now exit }
 {
-    if let Request::Complete(given, _) = request {
-        for value in scalars {
-            given.push(*value);
-        }
+    match request {
+        Request::Complete(given, _) => fill(given, scalars),
+        _ => {}
     }
 }
 
