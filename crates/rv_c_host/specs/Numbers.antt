@@ -3,7 +3,7 @@ use Rattle.std.specs.Prelude.{ℕ, ℤ, pos, negsuc, List, [], length, Some, Non
 use Rattle.rv_event.specs.declared.entry.Answer.{Answer}
 use Rattle.rv_event.specs.declared.entry.Answer.TheVariants.{Started, Queued, Refused, Done, Suspended, Delayed, Woken, Accepted}
 use Rattle.rv_event.specs.declared.entry.Answer.TheVariants.{Misuse, Halted, Full, Busy, Waiting, Unattached, BadLine, OutOfMemory}
-use Rattle.rv_event.specs.declared.entry.Next.TheVariants.{Nothing, HandedTo, Dropped}
+use Rattle.rv_event.specs.declared.entry.Next.TheVariants.{HandedTo, Dropped}
 use Rattle.rv_event.specs.declared.entry.Rule.{Rule}
 use Rattle.rv_event.specs.declared.entry.Rule.TheVariants.{Grant, Blocking, Reentry, Ceiling, Queue, Waiter}
 use Rattle.rv_c_text.specs.Laid.{laid}
