@@ -18,13 +18,13 @@ returns-in-Started g c =
 pub returns-then-is_wait : goal.returns-then-is_wait
 returns-then-is_wait g c =
     let given = sent_of c.args.self.now.pass c.insist.new.self.pass c.args.request.now c.new-letter.result.request c.insist.new.letter.answer c.insist.new.letter.begun c.insist.new.letter.lent c.insist.result _ c.insist.ensures.reply c.new-letter.ensures c.in-Ok.is in
-    let e : waits_on c.insist.new.letter.answer ≡ true = search (rules, tests) in
+    let e : waits_on c.insist.new.letter.answer ≡ true = search (rules, tests) fits 20000 in
     waited c.args.self.now.pass c.insist.new.self.pass c.resume.new.self.pass c.args.self.now.is_refused c.insist.new.self.is_refused c.resume.new.self.is_refused c.args.request.now c.insist.new.letter.answer c.insist.new.letter.begun c.insist.new.letter.lent
     c.resume.result given.0 given.1 e c.insist.ensures.mark c.resume.ensures
 
 pub returns : goal.returns
 returns g c =
     let given = sent_of c.args.self.now.pass c.insist.new.self.pass c.args.request.now c.new-letter.result.request c.insist.new.letter.answer c.insist.new.letter.begun c.insist.new.letter.lent c.insist.result _ c.insist.ensures.reply c.new-letter.ensures c.in-Ok.is in
-    let plain : starts c.insist.new.letter.answer ≡ false = search (rules, tests) in
-    let e : waits_on c.insist.new.letter.answer ≡ false = search (rules, tests) in
+    let plain : starts c.insist.new.letter.answer ≡ false = search (rules, tests) fits 20000 in
+    let e : waits_on c.insist.new.letter.answer ≡ false = search (rules, tests) fits 20000 in
     first_plain c.args.self.now.pass c.insist.new.self.pass c.args.self.now.is_refused c.insist.new.self.is_refused c.args.request.now c.insist.new.letter.answer c.insist.new.letter.begun c.insist.new.letter.lent c.plain.result given.0 given.1 c.insist.ensures.mark plain e (c.plain.ensures ∙ ap (λ (z : Bool). plain_of z c.insist.new.letter.answer) c.reads.ensures)
