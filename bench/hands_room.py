@@ -31,13 +31,17 @@ def needed(units: int, kept: int, lists: int = 1) -> int:
     return 3 * 100 * units + units + units + lists + kept + 1
 
 
-def behind_a_second(hands: Any, words: list[str], sections: bytes, commands: bytes) -> subprocess.CompletedProcess[bytes]:
-    """What a run prints whose commands come a second behind its start, by when its units have spent what they may."""
-    with subprocess.Popen([hands.launcher, *words], stdin=subprocess.PIPE, stdout=subprocess.PIPE, stderr=subprocess.PIPE) as run:
+def behind_all(hands: Any, words: list[str], sections: bytes, commands: bytes, spent: int) -> subprocess.CompletedProcess[bytes]:
+    """What a run prints whose commands come once its units have spent so many entries in all, which is all that they may."""
+    journal = hands.folder / "spent.journal"
+    journal.unlink(missing_ok=True)
+    with subprocess.Popen([hands.launcher, *words, "--journal", journal], stdin=subprocess.PIPE, stdout=subprocess.PIPE, stderr=subprocess.PIPE) as run:
         assert run.stdin
         run.stdin.write(sections)
         run.stdin.flush()
-        time.sleep(1)
+        until = time.monotonic() + SECONDS
+        while time.monotonic() < until and not (journal.exists() and journal.read_bytes().count(b".T clock") >= spent):
+            time.sleep(0.1)
         out, told = run.communicate(commands, timeout=SECONDS)
     return subprocess.CompletedProcess(words, run.returncode, out, told)
 
@@ -51,7 +55,7 @@ def room_that_is_kept(hands: Any) -> None:
         hands.due(f"a capacity that is one too small for {units} units and {kept} changes", (small.returncode, small.stdout) == (1, b""), small)
         hands.due(f"and told ({units} units)", f" come to {least:,} entries; the capacity is {least - 1:,}\n".encode() in small.stderr, small.stderr)
         changes = b"append deny Elsewhere * *\nremove 2\n" * (kept // 2) + b"append deny Elsewhere * *\n" * (kept % 2)
-        done = behind_a_second(hands, words, script(least, units), changes + b"quit\n")
+        done = behind_all(hands, words, script(least, units), changes + b"quit\n", 100 * units)
         hands.due(f"the least capacity for {units} units takes {kept} changes", done.returncode == 0 and done.stdout.startswith(b"accepted 0\n" * kept), (done.returncode, done.stdout[-200:], done.stderr))
         spent = [b"quota: Evil%d has spent its 100 entries; what it asks behind them is answered full" % number for number in range(units)]
         hands.due(f"who has spent its quota is told without notes ({units} units)", all(line in done.stderr for line in spent), done.stderr)
@@ -158,7 +162,7 @@ def words_that_are_vain(hands: Any) -> None:
         done = hands.asked([*words, str(empty), "--notes", "always"], b"")
         hands.due(f"{words} of an empty file", b" is empty\n" in done.stderr, done)
     done = hands.asked(["play"], b"@list\nallow * * *\n", streams=">/dev/full")
-    hands.due("a full output is named", (done.returncode, done.stderr.startswith(b"ravenhost: standard output")) == (4, True), done)
+    hands.due("a full output is named", (done.returncode, b"ravenhost: standard output" in done.stderr) == (4, True), done)
 
 
 ROOM_CASES = (room_that_is_kept, ticks_that_leave_room, commands_that_leave_less, loads_while_a_run_lasts, words_that_are_vain)
