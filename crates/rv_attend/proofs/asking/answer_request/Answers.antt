@@ -1,6 +1,6 @@
 use Rattle.std.proofs.Common.{◌≡◌, true, rules, tests}
 use Rattle.rv_attend.specs.Again.{TakesRoom}
-use Rattle.rv_attend.proofs.Asking.{again_later, asked_again}
+use Rattle.rv_attend.proofs.AskedAgain.{again_later, asked_again}
 use Rattle.rv_attend.proofs.asking.answer_request.Goals as goal
 
 pub returns-clause-again : goal.returns-clause-again

@@ -1,5 +1,5 @@
 use Rattle.std.proofs.Common.{◌≡◌, true, inl, inr, refl, rules, tests}
-use Rattle.rv_attend.proofs.Asking.{in_vain}
+use Rattle.rv_attend.proofs.AskedAgain.{in_vain}
 use Rattle.rv_attend.proofs.asking.ask_again.Goals as goal
 
 pub returns-then-not-is_full-clause-asks : goal.returns-then-not-is_full-clause-asks

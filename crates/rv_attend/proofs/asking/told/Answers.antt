@@ -5,7 +5,7 @@ use Rattle.rv_shell.specs.declared.shell.LineFault.{LineFault}
 use Rattle.rv_shell.specs.declared.shell.LineFault.TheVariants.{NoMemory, Worn, Write}
 use Rattle.rv_shell.specs.declared.shell.Next.{Next}
 use Rattle.rv_attend.specs.Again.{Asks}
-use Rattle.rv_attend.proofs.Asking.{goes_put, said_again, unkept_again, unsaid_again, worn_again}
+use Rattle.rv_attend.proofs.AskedAgain.{goes_put, said_again, unkept_again, unsaid_again, worn_again}
 use Rattle.rv_attend.proofs.asking.told.Goals as goal
 
 pub returns-in-Ok-clause-serves : goal.returns-in-Ok-clause-serves

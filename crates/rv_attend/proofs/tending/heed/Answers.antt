@@ -1,7 +1,7 @@
 use Rattle.std.proofs.Common.{◌≡◌, ◌∙◌, ap, sym}
 use Rattle.rv_attend.specs.declared.attention.Attention.{Attention}
 use Rattle.rv_staff.specs.Staffs.{Staffed}
-use Rattle.rv_attend.proofs.Asking.{chores_none, crew_none, heeds_behind}
+use Rattle.rv_attend.proofs.AskedAgain.{chores_none, crew_none, heeds_behind}
 use Rattle.rv_attend.proofs.Chores.{chores_later}
 use Rattle.rv_attend.proofs.Growing.{later_on}
 use Rattle.rv_attend.proofs.tending.heed.Goals as goal
