@@ -19,7 +19,7 @@ def repeated(head: str, line: str | Callable[[int], str], tail: str) -> str:
     lines, length, number = [], len(head) + len(tail), 0
     while True:
         text = line if isinstance(line, str) else line(number)
-        if length + len(text) > SIZE:
+        if not text or length + len(text) > SIZE:
             return head + "".join(lines) + tail
         lines.append(text)
         length += len(text)

@@ -186,7 +186,8 @@ void rh_free(rh_host *host);
 
 /*
  * Loads the unit that an Ada text is (docs/UNITS.md), with its bodies, by the operator; or the shape that a text is, without any
- * (docs/SCRIPTS.md, `@shape`). Where the answer isn't RH_ACCEPTED, told may say why. A unit text is read on the caller's stack, as far
+ * (docs/SCRIPTS.md, 'Shapes'). Where the answer isn't RH_ACCEPTED, told may say why, by the words of a script's fault (docs/SCRIPTS.md, 'Faults'),
+ * as `parse Unexpected at 22`: at that byte of the text, from 0. A unit text is read on the caller's stack, as far
  * down as it nests: see RH_STACK_BYTES.
  */
 int32_t rh_load_unit(rh_host *host, const char *text, size_t length, rh_text *told);
@@ -214,7 +215,15 @@ int32_t rh_find_actor(rh_host *host, const char *name, size_t length, size_t *ac
 int32_t rh_find_target(rh_host *host, const char *object, size_t object_length, const char *operation, size_t operation_length,
                        rh_target *target);
 
-/* A call, with the values of its `in` and `in out` parameters. At RH_STARTED its body runs: it is the caller's. */
+/* For a call or an end without values or components: a pointer to none, since no pointer may be null. */
+static inline const int64_t *rh_no_values(void)
+{
+    static const int64_t none = 0;
+    return &none;
+}
+
+/* A call, with the values of its `in` and `in out` parameters. At RH_STARTED its body runs: it is the caller's, that of an object that a
+ * unit text brought too (rh_go runs those bodies for the calls of texts). */
 int32_t rh_call(rh_host *host, size_t actor, rh_target target, const int64_t *values, size_t count, rh_answer *answer);
 
 /* The end of the actor's innermost body, with the object's components (none for a function), how it ends, and at RH_RETURN the result

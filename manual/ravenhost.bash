@@ -64,7 +64,7 @@ _ravenhost_value() {
         --sync) echo "each second never" ;;
         --halt-below) echo "100 1000 10000" ;;
         --quota) echo "100 1000 10000" ;;
-        --operator-room) echo "64 256" ;;
+        --operator-room) echo "64 256 1024" ;;
         --tick) echo "1000 100 10" ;;
         --stop-by) echo "files" ;;
         --grace) echo "1000 100 10" ;;

@@ -31,7 +31,6 @@ package body Plant_Tasks is
 
    procedure Level (State : in out Body_State) is
    begin
-      delay until Clock + Microseconds (100);
       State.Is_Function := True;
       State.Result (0) := State.Scalars (0);
       State.Result_Count := 1;
@@ -39,7 +38,8 @@ package body Plant_Tasks is
 
    Bodies : constant array (Job) of not null Body_Access := (Sensor => Fill'Access, Actuator => Take'Access, Display => Level'Access);
 
-   --  Calls until the turns are over or a call is kept out.
+   --  Calls until the turns are over or a call is kept out. The display rests between its calls, and not in its body, which holds the
+   --  tank: else it would fill the journal before the sensor comes to its turn on a busy machine.
    procedure Work (Which : Job) is
       State : Body_State;
       Told  : Ravenhost.Answer;
@@ -54,6 +54,9 @@ package body Plant_Tasks is
          exit when Posts (Which).Last /= Ravenhost.Ended;
          Posts (Which).Turns := Posts (Which).Turns + 1;
          exit when Posts (Which).Turns = Most (Which);
+         if Which = Display then
+            delay until Clock + Milliseconds (1);
+         end if;
       end loop;
       Finish (Posts (Which).Actor, Told, Came);
    end Work;

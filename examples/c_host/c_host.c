@@ -46,7 +46,7 @@ static int fill(rh_host *host, size_t pilot, rh_target target, int64_t amount, r
     if (kind != RH_STARTED)
         return kind;
     level = answer->scalars[0] + amount;
-    return rh_end(host, pilot, &level, 1, RH_RETURN, &amount, 0, answer);
+    return rh_end(host, pilot, &level, 1, RH_RETURN, rh_no_values(), 0, answer);
 }
 
 /* Prints the journal, page by page. */

@@ -61,43 +61,47 @@ static void take(rh_body *body)
 
 static void level(rh_body *body)
 {
-    const struct timespec pause = {0, 100000};
-    nanosleep(&pause, NULL);
     body->is_function = 1;
     body->values[0] = body->scalars[0];
     body->value_count = 1;
 }
 
-/* Calls until the turns are over or a call is kept out. */
-static void turns(struct task *task, rh_runs runs, int64_t given, size_t given_count, long most)
+/* Calls until the turns are over or a call is kept out, and rests so many nanoseconds between two calls. */
+static void turns(struct task *task, rh_runs runs, int64_t given, size_t given_count, long most, long rest)
 {
+    struct timespec pause = {0, 0};
     rh_answer answer;
     rh_body body;
     memset(&body, 0, sizeof body);
     body.given = &given;
     body.given_count = given_count;
+    pause.tv_nsec = rest;
     do {
         task->last = rh_port_call(&plant, task->actor, task->target, &body, runs, &answer);
         task->done += task->last == RH_ENDED;
+        if (rest > 0)
+            nanosleep(&pause, NULL);
     } while (task->last == RH_ENDED && task->done < most);
     rh_port_finish(&plant, task->actor, &answer);
 }
 
 static void *sensor(void *task)
 {
-    turns(task, fill, 2, 1, TURNS);
+    turns(task, fill, 2, 1, TURNS, 0);
     return NULL;
 }
 
 static void *actuator(void *task)
 {
-    turns(task, take, 0, 0, TURNS / 10);
+    turns(task, take, 0, 0, TURNS / 10, 0);
     return NULL;
 }
 
+/* It rests between its calls, and not in its body, which holds the tank: else it would fill the journal before the sensor comes to its
+ * turn on a busy machine. */
 static void *display(void *task)
 {
-    turns(task, level, 0, 0, 1000000);
+    turns(task, level, 0, 0, 1000000, 1000000);
     return NULL;
 }
 

@@ -28,7 +28,7 @@ pub fn plain(
 ) -> i32
     ensures { Asks actor request.now handle.old.value handle.new.value told.old told.new result }
 {
-    // First of all, since what is cleared at the same time is cleared at once.
+    // Made first of all: what is cleared side by side a compiler clears at once.
     let mut answer = Answer::Started(Scalars::new());
     let Some(mut kept) = handle.take(alloc) else {
         return NO_HOST;

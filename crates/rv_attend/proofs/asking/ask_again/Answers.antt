@@ -10,6 +10,6 @@ returns-clause-asks g c =
     let is : c.is_full.result ≡ true = search (rules, tests) in (
       c.make_room.new.staff.control,
       inr (in_vain _ c.ask-first.new.staff.control c.make_room.new.staff.control c.args.line.now c.ask-first.result.text.items c.ask-first.result.next
-      c.ask-first.ensures.serves (c.is_full.ensures is) c.make_room.ensures.chores),
+          c.ask-first.ensures.serves (c.is_full.ensures is) c.make_room.ensures.chores),
       record { serves = c.ask.ensures.serves },
     )
