@@ -322,6 +322,14 @@ fn beside<'a, R: Files + Eprint>(
     }
 }
 
+// These files beside the journal.
+fn filed_in<F: Drop>(units: Option<F>, times: Option<F>) -> Filed<F> {
+    let mut filed = Filed::none();
+    filed.units = units;
+    filed.times = times;
+    filed
+}
+
 // Runs the host of a script whose journal is kept.
 fn run_kept<'a, R: Threads + Wait + Files + Clock + Eprint, H: Hires>(
     rt: &'a R,
@@ -336,9 +344,9 @@ fn run_kept<'a, R: Threads + Wait + Files + Clock + Eprint, H: Hires>(
     let alloc = means.alloc;
     let syncs = kept.sync != Sync::Never;
     let file = files_from(rt, alloc, kept.name, files.rotate, syncs)?;
-    let mut filed = Filed::none();
-    filed.units = beside(rt, alloc, files.units)?;
-    filed.times = beside(rt, alloc, files.times)?;
+    let units = beside(rt, alloc, files.units)?;
+    let times = beside(rt, alloc, files.times)?;
+    let filed = filed_in(units, times);
     let keeper = Keeper::new(alloc, file, syncing_of(kept.sync));
     let names = Names::given(kept.name, files);
     run_with(
