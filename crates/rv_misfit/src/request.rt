@@ -77,7 +77,7 @@ fn may_ask(asker: &Asker, request: &Request) -> bool
         Request::Fire => is_line(asker),
         Request::Quit => is_task(asker),
         Request::Tick(ticks) => is_operator(asker) && is_tick(*ticks),
-        Request::Halt | Request::Archive(_) => is_operator(asker),
+        Request::Halt | Request::Archive(_) | Request::Restart(_) => is_operator(asker),
         _ => has_bodies(asker),
     }
 }
