@@ -1,6 +1,10 @@
+use Rattle.std.proofs.Common.{◌≡◌, true, sym, ap}
 use Rattle.rv_exec.specs.Bodies.{bodies_view}
+use Rattle.rv_go.specs.Answers.{heard_answer}
+use Rattle.rv_go.specs.Texts.{texts_view}
 use Rattle.rv_go.proofs.Keeping.{kept_by, kept_more}
-use Rattle.rv_go.proofs.texts.Texts.hear.Goals as goal
+use Rattle.rv_go.proofs.Restarting.{one_more}
+use Rattle.rv_go.proofs.texts.Texts.keep.Goals as goal
 
 pub invariant_of-self : goal.invariant_of-self
 invariant_of-self c =
