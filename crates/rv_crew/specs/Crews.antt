@@ -1,5 +1,5 @@
 -- What the calls of a crew leave. (own)
-use Rattle.std.specs.Prelude.{◌≡◌, ℕ, ◌-◌, Bool, true, false, ◌==◌, if◌then◌else◌, is_some, map, List, [], ◌∷◌, ◌++◌, Option, Some, None}
+use Rattle.std.specs.Prelude.{◌≡◌, ℕ, ◌-◌, Bool, true, false, ◌==◌, if◌then◌else◌, is_some, map, remove, slice_get, List, [], ◌∷◌, ◌++◌, Option, Some, None}
 use Rattle.rv_turn.specs.Histories.{Each}
 use Rattle.rv_turn.specs.Passes.{Noted}
 use Rattle.rv_history.specs.declared.limits.Limits.{Limits}
@@ -69,6 +69,15 @@ module _ {D : Type 0} {X : Type 0} {F : X → Type 0} {m : Mut ((x : X) × F x) 
 -- Threads were joined: each gave back the port that it owed, and no other, with which its duty is done. (own)
 abbrev pub Joins : {D : Type 0} → (does : D → Porting → Porting → Type 0) → List Porting → List (Owed D) → List Porting → Type 0
 Joins does before running after = (back : List Porting) × EachTwo (Pays does) running back × (after ≡ before ++ back)
+
+-- A thread of the crew had ended whose port was this actor's, and gave back what it owed; the crew keeps neither. (own)
+pub record Takes {D : Type 0} (does : D → Porting → Porting → Type 0) (crew after : Team D) (actor : ℕ) (back : Porting) : Type 0 where
+  pub place : ℕ
+  pub thread : Owed D
+  pub there : slice_get crew.running place ≡ Some thread
+  pub whose : thread.port.actor ≡ actor
+  pub pays : Pays does thread back
+  pub is : after ≡ record crew { running = remove crew.running place }
 
 -- what every port keeps that is done
 abbrev pub Keeps : Porting → Type 0
