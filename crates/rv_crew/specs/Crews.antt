@@ -11,6 +11,7 @@ use Rattle.rv_port.specs.Traces.{Passing}
 use Rattle.rv_port.specs.Ports.{Porting, pass_of, IsExplained}
 use Rattle.rv_port.specs.Closing.{IsClosed}
 use Rattle.rv_port.specs.Following.{FollowsUnless}
+use Rattle.rv_port.specs.Held.{held_by}
 use Rattle.rv_behind.specs.Events.{bodies_at, log_of}
 use Rattle.rv_behind.specs.declared.event.Event.{Event}
 use Rattle.rv_crew.specs.Teams.{EachTwo, Owed, Pays, Team, owing}
@@ -89,10 +90,10 @@ abbrev pub ExplainedIn : Limits → List Event → Porting → Type 0
 ExplainedIn limits log p = p.refused ≡ false → Explained limits log p.actor
 
 -- What a task asked in a history, of a host with these limits, is what its text asks, with so many requests of its own (9.2, 9.3):
--- where its port had asked nothing when its job began, and had seen the load of its body, and no bodies were refused to it. (own)
+-- where its port held nothing when its job began, and had seen the load of its body, and no bodies were refused to it. (own)
 abbrev pub TextFollowedIn : Limits → List Event → (budget : ℕ) → (began back : Porting) → Type 0
 TextFollowedIn limits log budget began back =
-    began.own ≡ [] → is_some (task_of (bodies_at began.seen) began.actor) ≡ true → back.refused ≡ false
+    held_by (pass_of began) ≡ 0 → is_some (task_of (bodies_at began.seen) began.actor) ≡ true → back.refused ≡ false
     → TextFollowed limits back.actor budget back.left began.seen log
 
 -- a text that was followed in what its port had seen is followed in the history (own)

@@ -117,7 +117,7 @@ stance_since c later past shapes more lists n l =
     ∙ ap (λ (ss : List Shape). stance ss n past) (sym w.whole)
 
 -- before the last load too
-stance_less : (c : Limits) (later past : List Entry) (shapes old : List Shape) (shape : Shape) (lists : List (List Words)) (n : ℕ) → shapes ≡ old ++ shape ∷ [] → IsLegal c (later ++ past) old lists → stance old n past ≡ stance shapes n past
+pub stance_less : (c : Limits) (later past : List Entry) (shapes old : List Shape) (shape : Shape) (lists : List (List Words)) (n : ℕ) → shapes ≡ old ++ shape ∷ [] → IsLegal c (later ++ past) old lists → stance old n past ≡ stance shapes n past
 stance_less c later past shapes old shape lists n whole l =
     sym (stance_since c later past old (shape ∷ []) lists n l) ∙ ap (λ (ss : List Shape). stance ss n past) (sym whole)
 
