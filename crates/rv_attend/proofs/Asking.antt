@@ -8,7 +8,7 @@ use Rattle.rv_fault.specs.declared.failure.Failure.{Failure}
 use Rattle.rv_follow.specs.Following.{Later}
 use Rattle.rv_input.specs.Coming.{Reading}
 use Rattle.rv_port.specs.Traces.{Passing}
-use Rattle.rv_run.specs.Commanding.{Behind, Commands, Follows, IsDone}
+use Rattle.rv_run.specs.Commanding.{AdmitsAll, Behind, Commands, Follows, IsDone}
 use Rattle.rv_run.specs.Staging.{Outcome, Stage, stage}
 use Rattle.rv_shell.specs.Serving.{Carries, Obeys, Prints, RequestsOrWorn, Serves, Writes}
 use Rattle.rv_shell.specs.declared.order.Order.{Order}
@@ -112,7 +112,7 @@ unkept_again old v w line text error is asked = by_serves asked.serves
 
 -- Behind it the run goes on
 
-follows_done : (s t : Stage) (next : Result Next LineFault) (result : Outcome) → IfOk next (λ n. n ≡ Go) → IsDone s t next result → Follows s t next result
+follows_done : (s t : Stage) (next : Result Next LineFault) (result : Outcome) → IfOk next (λ n. n ≡ Go) → IsDone s t next result → Follows AdmitsAll s t next result
 follows_done s t (Ok Go) result is done = done
 follows_done s t (Ok Load) result is done = absurd (cc is)
 follows_done s t (Ok (Raise line)) result is done = absurd (cc is)
@@ -138,6 +138,7 @@ asked_again first last again old said new line next result crew before serves go
         follows_done (stage (record first { control = last.control }) said input left) (stage last new input left) next result go
         (record { same = only_control first last crew; unread = record { input = refl; left = refl }; behind = behind });
   };
+  goes = go;
 }
 
 vain_later : (v w : Passing) (line : List ℕ) → (w ≡ v) ⊎ InVain v w line → Later v w

@@ -1,7 +1,7 @@
 -- Where a run lasts, a command of the operator for which there is no room is asked again behind an archive. (own)
-use Rattle.std.specs.Prelude.{◌≡◌, ◌⊎◌, ℕ, Bool, true, List, [], codes, Option, Some, None, Result, Ok}
+use Rattle.std.specs.Prelude.{◌≡◌, ◌⊎◌, ℕ, Bool, true, List, [], codes, Option, Some, None, IfOk, Result, Ok}
 use Rattle.rv_port.specs.Traces.{Passing}
-use Rattle.rv_run.specs.Commanding.{Commands}
+use Rattle.rv_run.specs.Commanding.{AdmitsAll, Commands}
 use Rattle.rv_run.specs.ServingLines.{LineComes}
 use Rattle.rv_run.specs.Staging.{Outcome, Stage}
 use Rattle.rv_shell.specs.Orders.{order_of}
@@ -44,11 +44,12 @@ pub record InVain (v w : Passing) (line : List ℕ) : Type 0 where
 abbrev pub with_control : Stage → Passing → Stage
 with_control s v = record s { staff = record s.staff { control = v } }
 
--- A command is carried out, at most once in vain before.
+-- A command that is no load is carried out, at most once in vain before.
 pub record AskedAgain (s t : Stage) (line : List ℕ) (outcome : Outcome) : Type 0 where
   pub again : Passing
   pub before : (again ≡ s.staff.control) ⊎ InVain s.staff.control again line
-  pub commands : Commands (with_control s again) t line outcome
+  pub commands : Commands AdmitsAll (with_control s again) t line outcome
+  pub goes : IfOk commands.next (λ next. next ≡ Nexts.Go)
 
 -- With a line, where nobody is at a console: in a run that lasts a command that takes room is carried out so, behind chores for the notes on
 -- it; else only these are done, and nothing is said.
@@ -62,5 +63,5 @@ pub record ServesAgain (s t : Stage) (outcome : Outcome) : Type 0 where
   pub noted : Passing
   pub chores : Chores s.staff.control noted
   pub again : Passing
-  pub comes : LineComes (with_control s again) t outcome
+  pub comes : LineComes AdmitsAll (with_control s again) t outcome
   pub vain : InVain noted again comes.line

@@ -15,6 +15,7 @@ use Rattle.rv_attend.specs.Attending.{Attends, Point, point}
 use Rattle.rv_attend.specs.Chores.{Chores}
 use Rattle.rv_attend.specs.Going.{ClosesAs, HurriesBy, Terms}
 use Rattle.rv_attend.specs.KeepingRuns.{Leaving}
+use Rattle.rv_attend.specs.Letting.{LetsIn}
 use Rattle.rv_attend.specs.Lasting.{GoesFor, State, Tends, at}
 
 -- what it holds: what its file has, the entry that is written there next, what is asked of it, and the pieces that were heard of its
@@ -69,6 +70,7 @@ attended holds = record {
   tends = λ m n result. TendsTo holds m n result;
   heeds = λ m line n answer. HeedsTo holds m n line answer;
   hears = λ chores old new. Unit {0};
+  admits = λ chores. LetsIn (holds chores).terms;
   leaves = λ chores old new result. IsPlain (holds chores) → (new ≡ old) × (result ≡ Ok Out);
   hurries = λ chores hurried. HurriesBy (holds chores).terms hurried;
   closes = λ chores errors closed served chores' errors' kept. ClosesTo holds chores closed served chores' kept;

@@ -9,3 +9,4 @@ pub mod Lasting
 pub mod Holding
 pub mod Least
 pub mod Filing
+pub mod Letting

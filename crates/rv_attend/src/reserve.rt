@@ -3,22 +3,25 @@
 
 ghost use Rattle.std.specs.Prelude.{◌≡◌, None, is_some, true};
 ghost use Rattle.rv_attend.specs.Reserving.{fit_if};
-ghost use Rattle.rv_behind.specs.Events.{catalogue_of};
-ghost use Rattle.rv_script.specs.Openings.{AreNumbered};
 
+use crate::archiving::small_line;
 use crate::attention::Attention;
-use rv_fault::{Parts, text_unit};
+use crate::letting::{least_with, tasks_in};
+use rv_code::unit::Unit;
+use rv_fault::text_unit;
 use rv_input::Input;
 use rv_room::Books;
-use rv_script::{Opening, open, text_of};
-use rv_shape::catalogue::{Catalogue, MOST_TASKS};
+use rv_shape::catalogue::Catalogue;
+use rv_shape::shape::UnitShape;
 use rv_shell::Order;
 use rv_staff::{Session, say};
 use rv_step::reading::StepError;
 use rv_tally::grouped;
-use rv_text::Sections;
 use std::alloc::{AllocError, Global};
 use std::io::Write;
+
+// What is said of a load whose unit isn't let in.
+const REFUSED: &str = "note: this load is answered full";
 
 // A unit text that a command brings stands at no line of the script.
 const NO_LINE: usize = 0;
@@ -39,30 +42,13 @@ impl Reserve {
             is_still: false,
         }
     }
-}
 
-// How many lists sections set.
-fn count_lists(sections: Sections<'_>) -> u32
-    requires { AreNumbered sections }
-{
-    let mut parts = Parts::of(sections);
-    let mut count = 0u32;
-    'each: while let Some(part) = parts.next_part() {
-        if let Some(Opening::AccessList) = part.opening {
-            count = count.saturating_add(1);
+    /// What was counted of the operator so far.
+    pub fn counted(&self) -> Books {
+        match self.books {
+            Some(books) => books,
+            None => Books::new(0, 0, 0),
         }
-    }
-    count
-}
-
-// How many lists what stands before the commands sets; of what isn't a script, none.
-fn lists_in(bytes: &[u8]) -> u32 {
-    let Ok(text) = text_of(bytes) else {
-        return 0;
-    };
-    match open(text) {
-        Ok(script) => count_lists(script.sections),
-        Err(_) => 0,
     }
 }
 
@@ -109,26 +95,26 @@ fn say_need<E: Write>(line: Result<String, AllocError>, errors: &mut E) {
     }
 }
 
-/// Whether the journal of a run holds what is kept for its operator's list changes beside all that its units may come to; where it
-/// doesn't, that is said. Where nothing is kept it does.
+/// Whether the journal of a run holds what is kept for its operator's list changes beside all that these units may come to, where so many
+/// lists were set before; where it doesn't, that is said. Where nothing is kept it does.
 pub(crate) fn is_kept<E: Write>(
     session: &Session,
     asked: &Attention,
-    sections: &[u8],
+    catalogue: &Catalogue,
+    lists: u32,
     reserve: &mut Reserve,
     errors: &mut E,
 ) -> bool
-    ensures { result ≡ fit_if (catalogue_of session.now.staff.control.seen) reserve.new.books session.now.capacity }
+    ensures { result ≡ fit_if catalogue.now reserve.new.books session.now.capacity }
 {
     let begun = match (asked.quota, asked.operator_room) {
-        (Some(quota), Some(kept)) => Books::new(quota, kept, lists_in(sections)),
+        (Some(quota), Some(kept)) => Books::new(quota, kept, lists),
         _ => {
             reserve.books = None;
             return true;
         }
     };
     reserve.books = Some(begun);
-    let catalogue = session.staff.catalogue();
     if begun.fit(catalogue, session.capacity) {
         return true;
     }
@@ -207,30 +193,45 @@ pub(crate) fn tell_still<E: Write>(
     }
 }
 
-// How many tasks the unit has whose text these bytes begin with; none where it is no unit.
-fn tasks_in(alloc: Global, catalogue: &Catalogue, behind: &[u8]) -> Option<usize> {
+// The unit whose text these bytes begin with; none where it is no unit.
+fn unit_in(alloc: Global, catalogue: &Catalogue, behind: &[u8]) -> Option<Unit> {
     let mut bytes = behind;
     match Input::new(alloc).unit_text(&mut bytes) {
-        Ok(Some(text)) => match text_unit(alloc, catalogue, NO_LINE, text.as_str()) {
-            Ok(unit) => Some(unit.shape.tasks().len()),
-            Err(_) => None,
-        },
+        Ok(Some(text)) => text_unit(alloc, catalogue, NO_LINE, text.as_str()).ok(),
         _ => None,
     }
 }
 
-// Tells of a load behind which a journal no longer holds what is kept.
-fn tell_load<E: Write>(session: &Session, books: &Books, behind: &[u8], errors: &mut E) {
-    let catalogue = session.staff.catalogue();
-    if books.needs_with(catalogue, MOST_TASKS) <= session.capacity as u64 {
+// Tells of a unit that isn't let in since the capacity isn't enough with it, where the run lasts.
+fn tell_small<E: Write>(session: &Session, shape: &UnitShape, errors: &mut E) {
+    let least = least_with(session.staff.catalogue(), shape);
+    if least <= session.capacity {
         return;
     }
-    let Some(tasks) = tasks_in(session.alloc, catalogue, behind) else {
+    if let Ok(line) = small_line(session.alloc, REFUSED, least, session.capacity) {
+        let _ = say(errors, line.as_str());
+    }
+}
+
+// Tells of a load whose unit isn't let in.
+fn tell_load<E: Write>(
+    session: &Session,
+    asked: &Attention,
+    books: &Option<Books>,
+    behind: &[u8],
+    errors: &mut E,
+) {
+    let catalogue = session.staff.catalogue();
+    let Some(unit) = unit_in(session.alloc, catalogue, behind) else {
         return;
     };
-    let need = books.needs_with(catalogue, tasks.min(MOST_TASKS));
-    let what = "note: less room is kept for list changes behind this load";
-    tell_less(session, books, what, 1, need, errors);
+    if asked.lasting {
+        tell_small(session, &unit.shape, errors);
+    }
+    if let Some(books) = books {
+        let need = books.needs_with(catalogue, tasks_in(&unit.shape));
+        tell_less(session, books, REFUSED, 1, need, errors);
+    }
 }
 
 // What books have behind a command, and what is told of one that leaves less than is kept.
@@ -238,7 +239,6 @@ fn behind_command<E: Write>(
     session: &Session,
     asked: &Attention,
     books: Books,
-    behind: &[u8],
     order: &Order,
     errors: &mut E,
 ) -> Books {
@@ -253,17 +253,12 @@ fn behind_command<E: Write>(
             }
             next
         }
-        Order::Load => {
-            if asked.tells {
-                tell_load(session, &books, behind, errors);
-            }
-            books
-        }
         _ => books,
     }
 }
 
-/// Counts a command that is to be carried out, and tells, where notes are told, of one that leaves less than is kept.
+/// Counts a command that is to be carried out, and tells, where notes are told, of one that leaves less than is kept, and of a load whose
+/// unit isn't let in.
 pub(crate) fn keep_books<E: Write>(
     session: &Session,
     asked: &Attention,
@@ -272,8 +267,13 @@ pub(crate) fn keep_books<E: Write>(
     reserve: &mut Reserve,
     errors: &mut E,
 ) {
+    if let Ok(Order::Load) = read {
+        if asked.tells && (asked.lasting || reserve.books.is_some()) {
+            tell_load(session, asked, &reserve.books, input.ahead(), errors);
+        }
+        return;
+    }
     if let (Some(books), Ok(order)) = (reserve.books, read) {
-        let ahead = input.ahead();
-        reserve.books = Some(behind_command(session, asked, books, ahead, order, errors));
+        reserve.books = Some(behind_command(session, asked, books, order, errors));
     }
 }

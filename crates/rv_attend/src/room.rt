@@ -63,8 +63,7 @@ impl Room {
         Room {
             alloc,
             tally: Tally::new(),
-            // The host itself keeps the quota: what would be past it is answered Full.
-            guard: Guard::new(None, halt_below, tells && !lasting),
+            guard: Guard::new(halt_below, tells && !lasting),
             capacity: 0,
             tells,
             is_watched: halt_below.is_some() || (tells && !lasting),
@@ -120,7 +119,7 @@ fn tell_room<E: Write>(session: &Session, room: &Room, used: usize, errors: &mut
     room.tell(line, errors);
 }
 
-// Does what is due. The guard finds a halt due only where the room is low; since the host keeps quotas by itself, it finds no denial due.
+// Does what is due. The guard finds a halt due only where the room is low.
 #[tactic(auto, using(crate::proofs::GoingOn::low_due))]
 fn do_due<E: Write>(
     session: &Session,
@@ -134,7 +133,7 @@ fn do_due<E: Write>(
     ensures capacity { room.new.capacity ≡ room.old.capacity }
 {
     match due {
-        Due::Nothing | Due::Deny(_) => Then::Rest,
+        Due::Nothing => Then::Rest,
         Due::Tell(_) => {
             tell_room(session, room, used, errors);
             room.guard.note(due);
@@ -164,7 +163,9 @@ pub(crate) fn keep_room<T: Clock, E: Write>(
         return Goes::On;
     }
     for _ in 0..MOST_DUES {
-        let due = room.guard.next(session.staff.catalogue(), &room.tally, room.capacity, used);
+        let due = room
+            .guard
+            .next(session.staff.catalogue(), room.capacity, used);
         match do_due(session, asked, room, due, used, errors) {
             Then::Next => {}
             Then::Rest => return Goes::On,

@@ -20,7 +20,7 @@ const REQUESTS: [Form; 8] = [
     },
     Form {
         word: "archive",
-        said: "archive takes one number, 0 or more",
+        said: "archive takes one number, 1 or more",
     },
     Form {
         word: "restart",

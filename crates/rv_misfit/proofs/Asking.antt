@@ -1,6 +1,6 @@
 -- What somebody may ask at no time fits it in no mode.
-use Rattle.std.proofs.Common.{◌≡◌, ◌⊎◌, inl, inr, ℕ, Bool, false, refl, ap, sym}
-use Rattle.std.specs.Prelude.{length, ◌&&◌}
+use Rattle.std.proofs.Common.{◌≡◌, ◌⊎◌, inl, inr, ℕ, zero, suc, Bool, false, refl, ap, sym}
+use Rattle.std.specs.Prelude.{length, nat_le, ◌&&◌}
 use Rattle.std.proofs.lemmas.Bool.{and_cases, and_left, and_right, false≢true}
 use Rattle.rv_event.specs.Past.{held, innermost, mode}
 use Rattle.rv_event.specs.declared.entry.Mode.{Mode}
@@ -39,6 +39,15 @@ no_delay : (w : Who) (m : Mode) (b : Bool) → (has_bodies w ≡ false) ⊎ (b �
 no_delay w m b (inl e) = and_left (may_call w m) b (no_calls w m e)
 no_delay w m b (inr e) = and_right (may_call w m) b e
 
+no_entry : (h : History) (number : ℕ) → nat_le 1 number ≡ false → is_archive h number ≡ false
+no_entry h zero e = refl
+no_entry h (suc number) e = absurd (false≢true (sym e))
+
+no_archive : (h : History) (a number : ℕ) → (is_operator (who h.shapes a) ≡ false) ⊎ (nat_le 1 number ≡ false)
+    → (is_operator (who h.shapes a) && is_archive h number) ≡ false
+no_archive h a number (inl e) = and_left (is_operator (who h.shapes a)) (is_archive h number) e
+no_archive h a number (inr e) = and_right (is_operator (who h.shapes a)) (is_archive h number) (no_entry h number e)
+
 pub never_asked : (h : History) (a : ℕ) (r : Request) → IsAside h a → may_ask (who h.shapes a) r ≡ false → fits_actor h a r ≡ false
 never_asked h a (Call o p vs) aside e =
     and_left (may_call (who h.shapes a) (mode h.shapes a h.past)) (call_fits (length (held h.shapes a h.past)) vs (target h.shapes o p)) (no_calls (who h.shapes a) (mode h.shapes a h.past) e)
@@ -53,5 +62,5 @@ never_asked h a Fire aside e = no_fires (who h.shapes a) (mode h.shapes a h.past
 never_asked h a Quit aside e = no_finishes (who h.shapes a) (mode h.shapes a h.past) e
 never_asked h a (Tick n) aside e = e
 never_asked h a Halt aside e = e
-never_asked h a (Archive n) aside e = and_left (is_operator (who h.shapes a)) (is_archive h n) e
+never_asked h a (Archive n) aside e = no_archive h a n (and_cases (is_operator (who h.shapes a)) (nat_le 1 n) e)
 never_asked h a (Restart u) aside e = and_left (is_operator (who h.shapes a)) (is_loaded h.shapes u) e

@@ -48,10 +48,12 @@ is_like ss (Task name) actor n e = task_there ss (full_name name) actor e
 
 line_asks : (l k : ℕ) (r : Request) → may_ask (shapes.Line l) r ≡ may_ask (shapes.Line k) r
 line_asks l k (Requests.Tick n) = refl
+line_asks l k (Requests.Archive n) = refl
 line_asks l k r = refl
 
 task_asks : (t u : UnitTask) (r : Request) → may_ask (shapes.Task t) r ≡ may_ask (shapes.Task u) r
 task_asks t u (Requests.Tick n) = refl
+task_asks t u (Requests.Archive n) = refl
 task_asks t u r = refl
 
 asks_alike : (asker : Asker) (w : Who) (r : Request) → IsLike asker w → may_ask w r ≡ may_ask (sort_of asker) r

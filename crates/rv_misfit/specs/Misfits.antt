@@ -24,7 +24,7 @@ use Rattle.rv_step.specs.declared.step.Asker.{Asker}
 use Rattle.rv_step.specs.declared.step.Asker.TheVariants.{Operator, Line, Task}
 use Rattle.rv_misfit.specs.declared.misfit.Called.{Called}
 use Rattle.rv_misfit.specs.declared.misfit.Misfit.{Misfit}
-use Rattle.rv_misfit.specs.declared.misfit.Misfit.TheVariants.{Count, Outside, OperatorAlone, LinesAlone, TasksAlone, NotOperator, Ticks, Time, NoLine, ListFull}
+use Rattle.rv_misfit.specs.declared.misfit.Misfit.TheVariants.{Count, Outside, OperatorAlone, LinesAlone, TasksAlone, NotOperator, Ticks, NoEntry, Time, NoLine, ListFull}
 
 -- The values of a call
 
@@ -80,13 +80,14 @@ may_ask who Fire = fires who
 may_ask who Quit = finishes who
 may_ask who (Tick ticks) = is_operator who && is_tick ticks
 may_ask who Halt = is_operator who
-may_ask who (Archive number) = is_operator who
+may_ask who (Archive number) = is_operator who && nat_le 1 number
 may_ask who (Restart unit) = is_operator who
 may_ask who request = has_bodies who
 
 -- why the operator, or a task or a line, never asks this
 abbrev pub operator_reason : Request → Misfit
 operator_reason (Tick ticks) = Ticks ticks
+operator_reason (Archive number) = NoEntry
 operator_reason request = NotOperator
 
 abbrev pub actor_reason : Request → Misfit

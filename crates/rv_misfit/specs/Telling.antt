@@ -6,7 +6,7 @@ use Rattle.rv_shape.specs.Shape.{Shape}
 use Rattle.rv_shape.specs.declared.kind.Range.{Range}
 use Rattle.rv_misfit.specs.declared.misfit.Called.{Called}
 use Rattle.rv_misfit.specs.declared.misfit.Misfit.{Misfit}
-use Rattle.rv_misfit.specs.declared.misfit.Misfit.TheVariants.{Count, Outside, OperatorAlone, LinesAlone, TasksAlone, NotOperator, Ticks, Time, NoLine, ListFull}
+use Rattle.rv_misfit.specs.declared.misfit.Misfit.TheVariants.{Count, Outside, OperatorAlone, LinesAlone, TasksAlone, NotOperator, Ticks, NoEntry, Time, NoLine, ListFull}
 
 -- a number of these: `1 line`, `2 lines`
 abbrev pub counted : ℕ → List ℕ → List ℕ
@@ -44,6 +44,7 @@ misfit_text shapes LinesAlone = codes "misuse: lines alone fire"
 misfit_text shapes TasksAlone = codes "misuse: tasks alone finish"
 misfit_text shapes NotOperator = codes "misuse: the operator asks for ticks, a halt, archives, restarts and changes of the list alone"
 misfit_text shapes (Ticks ticks) = codes "misuse: the ticks of one step are 1 .. 1,000,000"
+misfit_text shapes NoEntry = codes "misuse: an archive gives up entries up to one of number 1 or more"
 misfit_text shapes (Time time) = codes "misuse: a time is in -10^15 .. 10^15"
 misfit_text shapes (NoLine lines) = no_line_words lines
 misfit_text shapes (ListFull lines) = codes "badline: the list has " ++ (decimal lines ++ codes " lines already")

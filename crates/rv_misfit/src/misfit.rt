@@ -26,6 +26,8 @@ pub enum Misfit {
     NotOperator,
     /// So many ticks are asked for at once, and 1 .. 1,000,000 may be.
     Ticks(i64),
+    /// An archive gives up entries up to none: they are numbered from 1.
+    NoEntry,
     /// The time of a delay, in ticks, is outside -10^15 .. 10^15 (9.6, D.9).
     Time(i64),
     /// The list, of so many lines, has no line of the number that is named.

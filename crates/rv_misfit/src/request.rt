@@ -77,7 +77,8 @@ fn may_ask(asker: &Asker, request: &Request) -> bool
         Request::Fire => is_line(asker),
         Request::Quit => is_task(asker),
         Request::Tick(ticks) => is_operator(asker) && is_tick(*ticks),
-        Request::Halt | Request::Archive(_) | Request::Restart(_) => is_operator(asker),
+        Request::Halt | Request::Restart(_) => is_operator(asker),
+        Request::Archive(number) => is_operator(asker) && 1 <= *number,
         _ => has_bodies(asker),
     }
 }
@@ -88,6 +89,7 @@ fn operator_reason(request: &Request) -> Misfit
 {
     match request {
         Request::Tick(ticks) => Misfit::Ticks(*ticks),
+        Request::Archive(_) => Misfit::NoEntry,
         _ => Misfit::NotOperator,
     }
 }

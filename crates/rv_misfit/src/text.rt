@@ -127,6 +127,7 @@ pub fn misfit_text(
             "misuse: the operator asks for ticks, a halt, archives, restarts and changes of the list alone"
         }
         Misfit::Ticks(_) => "misuse: the ticks of one step are 1 .. 1,000,000",
+        Misfit::NoEntry => "misuse: an archive gives up entries up to one of number 1 or more",
         Misfit::Time(_) => "misuse: a time is in -10^15 .. 10^15",
     };
     String::from_str(alloc, words)

@@ -3,8 +3,8 @@ use Rattle.rv_attend.proofs.Beginning.{fails_first}
 use Rattle.rv_attend.proofs.Keeping.{nothing_kept}
 use Rattle.rv_attend.proofs.kept.attend_enough.Goals as goal
 
-pub returns-then-not-is_enough : goal.returns-then-not-is_enough
-returns-then-not-is_enough g c = λ first. inr (inl refl)
+pub returns-then-not-is_capacity : goal.returns-then-not-is_capacity
+returns-then-not-is_capacity g c = λ first. inr (inl refl)
 
 pub returns-in-Ok : goal.returns-in-Ok
 returns-in-Ok g c = λ first.

@@ -1,5 +1,5 @@
 use Rattle.std.specs.Prelude.{length}
-use Rattle.rv_attend.proofs.reserve.count_lists.Given as goal
+use Rattle.rv_attend.proofs.brought.count.Given as goal
 
 abbrev pub invariant-each : goal.invariant-each
 invariant-each l = Unit {0}
