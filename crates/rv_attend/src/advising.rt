@@ -154,6 +154,18 @@ fn is_task_of(catalogue: &Catalogue, actor: usize, unit: usize) -> bool {
     }
 }
 
+/// Whether a task of a unit is still there, so that it can't be restarted.
+pub(crate) fn is_there(catalogue: &Catalogue, view: &View, unit: usize) -> bool {
+    let mut actor = FIRST_TASK;
+    for mode in view.modes() {
+        if !matches!(*mode, Mode::Ended) && is_task_of(catalogue, actor, unit) {
+            return true;
+        }
+        actor = actor.saturating_add(1);
+    }
+    false
+}
+
 // Tells that a task is still there, and at what.
 fn tell_there<E: Write>(
     alloc: Global,

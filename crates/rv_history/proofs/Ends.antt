@@ -121,7 +121,7 @@ after_queues h o vs all = record { named = λ n e. by_head n e }
         let v = head_waits h.shapes h.past o q.call q.rest all q.queued in
         subst (λ m. (stance h.shapes m h.past ≡ InQueue) × (m < actors h.shapes)) q.is_its (v.at, v.known)
 
-pays_end : (h : History) (a : ℕ) (vs : List ℤ) (x : Exit) (b : Option Body) → innermost h.shapes a h.past ≡ b → stance h.shapes a h.past ≡ Free → AllWait h.shapes h.past (waiting h.past) → IsSolvent h →
+pub pays_end : (h : History) (a : ℕ) (vs : List ℤ) (x : Exit) (b : Option Body) → innermost h.shapes a h.past ≡ b → stance h.shapes a h.past ≡ Free → AllWait h.shapes h.past (waiting h.past) → IsSolvent h →
     Pays h a (Complete vs x) (due_end h vs b)
 pays_end h a vs x None is free all solvent = unrecorded h a (Complete vs x) Answers.Misuse refl
 pays_end h a vs x (Some b) is free all solvent = by_target (target h.shapes b.object b.operation)
@@ -144,7 +144,7 @@ end_never_full h a vs x legal solvent = out_due h a (Complete vs x) refl (λ f c
     let ends = ends_at (to_settle h.shapes a h.past) (mode_by (held h.shapes a h.past) (stance h.shapes a h.past)) m.0 in
     pays_end h a vs x (innermost h.shapes a h.past) refl (free_in (held h.shapes a h.past) (stance h.shapes a h.past) ends) (legal_waits h.limits h.past h.shapes h.lists legal) solvent)
 
-pays_settle : (h : History) (a : ℕ) (b : Option Body) → to_settle h.shapes a h.past ≡ b → Standing h.shapes h.past → IsSolvent h → Pays h a Settle (due_settle h b)
+pub pays_settle : (h : History) (a : ℕ) (b : Option Body) → to_settle h.shapes a h.past ≡ b → Standing h.shapes h.past → IsSolvent h → Pays h a Settle (due_settle h b)
 pays_settle h a None is k solvent = unrecorded h a Settle Answers.Misuse refl
 pays_settle h a (Some b) is k solvent =
     let next : Next = after_end h b.object (scalars h.shapes b.object h.past) in

@@ -181,7 +181,7 @@ due_behind h u v j l away = by_unit (is_unit u (task_unit h.shapes j)) refl
         omega (arith, owes, owed_none)
     by_unit false is = ap (λ s. dues_by s (nat_lt j 11)) (by_own (0 == j) refl is) ∙ more_none (dues h.shapes h.past j)
 
-restart_owed : (h : History) (u : ℕ) (v : ℤ) (shape : Shape) → Legal h → numbered h.shapes u ≡ Some shape → any_below (actors h.shapes) (is_there h u) ≡ false →
+pub restart_owed : (h : History) (u : ℕ) (v : ℤ) (shape : Shape) → Legal h → numbered h.shapes u ≡ Some shape → any_below (actors h.shapes) (is_there h u) ≡ false →
     owed h.shapes (Asked 0 (Restart u) (Accepted v) ∷ h.past) ≡ owed h.shapes h.past + length shape.tasks
 restart_owed h u v shape l at away =
     let e : Entry = Asked 0 (Restart u) (Accepted v) in

@@ -1,5 +1,4 @@
-pub mod Ends
-pub mod Loads
+pub pub mod Loads
 pub mod Payers
 pub mod Costs
 pub mod Keeping

@@ -37,7 +37,7 @@ use Rattle.rv_history.proofs.Orderly.{legal_orderly_at}
 abbrev pub IsOneOf : ℕ → Option ℕ → Type 0
 IsOneOf count number = (n : ℕ) × (n < count) × (number ≡ Some (suc n))
 
-one_of : (shapes : List Shape) (unit : ℕ) → is_loaded shapes unit ≡ true → IsOneOf (length shapes) (Some unit)
+pub one_of : (shapes : List Shape) (unit : ℕ) → is_loaded shapes unit ≡ true → IsOneOf (length shapes) (Some unit)
 one_of shapes unit loaded = by_test (nat_lt unit 1) refl loaded
   where
     by_test : (b : Bool) → nat_lt unit 1 ≡ b → is_some (if b then None else slice_get shapes (unit - 1)) ≡ true → IsOneOf (length shapes) (Some unit)
