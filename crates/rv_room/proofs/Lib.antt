@@ -1,4 +1,4 @@
-pub pub mod Loads
+pub mod Loads
 pub mod Payers
 pub mod Costs
 pub mod Keeping
