@@ -61,12 +61,14 @@ abbrev pub with_one : ℕ → Bool → Answer → (ℕ → List Answer) → ℕ 
 with_one by starts answer before actor =
     if by == actor then (if starts then answer ∷ [] else before actor ++ answer ∷ []) else before actor
 
--- the texts behind such an answer
+-- the texts behind an answer by which an actor's text goes on
+abbrev pub hears_one : ℕ → Bool → Answer → TextsView → TextsView
+hears_one by starts answer texts = record texts { answers = λ actor. with_one by starts answer texts.answers actor }
+
+-- and behind one by which it may go on
 abbrev pub hears : TextsView → ℕ → Bool → Request → Answer → TextsView
 hears texts actor goes request answer =
-    if is_heard goes request answer
-    then record texts { answers = λ a. with_one actor (is_fire request) answer texts.answers a }
-    else texts
+    if is_heard goes request answer then hears_one actor (is_fire request) answer texts else texts
 
 -- the unit that an answer to a request restarts, if it restarts one
 abbrev pub restarts : Request → Answer → Option ℕ

@@ -4,7 +4,7 @@ ghost use Rattle.std.specs.Prelude.{◌≡◌, ◌<◌, IfOk, OnErr, OnOk, Some}
 ghost use Rattle.rv_code.specs.BodyView.{unit_view};
 ghost use Rattle.rv_exec.specs.Bodies.{bodies_view, no_bodies, with_unit};
 ghost use Rattle.rv_go.specs.Restarted.{forgets};
-ghost use Rattle.rv_go.specs.Texts.{texts_view, no_texts, with_bodies, is_started, is_fire, is_heard, is_settle, hears, restarts, begin_anew, behind};
+ghost use Rattle.rv_go.specs.Texts.{texts_view, no_texts, with_bodies, is_started, is_fire, is_heard, is_settle, hears, hears_one, restarts, begin_anew, behind};
 ghost use Rattle.rv_shape.specs.Units.{is_unit, task_unit};
 
 use crate::places::{begin_anew, hear, stop};
@@ -175,6 +175,31 @@ impl Texts {
         }
     }
 
+    // An actor has heard an answer more, by which its text starts, or not.
+    fn keep_one(
+        &mut self,
+        alloc: Global,
+        actor: usize,
+        starts: bool,
+        answer: Answer,
+    ) -> Result<(), AllocError>
+        ensures ok { OnOk result (texts_view self.new ≡ hears_one actor starts answer (texts_view self.old)) }
+        ensures err { OnErr result (texts_view self.new ≡ texts_view self.old) }
+    {
+        // The check is told of these types only where they are named.
+        let _scalars: Option<Scalars> = None;
+        let _rule: Option<Rule> = None;
+        let _next: Option<Next> = None;
+        let heard = Heard {
+            actor,
+            starts,
+            answer: Some(answer),
+        };
+        hear(alloc, &mut self.listeners, actor, starts, answer)?;
+        self.heard = self.heard.with(&heard);
+        Ok(())
+    }
+
     // Keeps an answer, where a text goes on by it.
     fn keep(
         &mut self,
@@ -187,23 +212,11 @@ impl Texts {
         ensures ok { OnOk result (texts_view self.new ≡ hears (texts_view self.old) actor goes request.now answer.now) }
         ensures err { OnErr result (texts_view self.new ≡ texts_view self.old) }
     {
-        // The check is told of these types only where they are named.
-        let _scalars: Option<Scalars> = None;
-        let _rule: Option<Rule> = None;
-        let _next: Option<Next> = None;
-        if !is_heard(goes, request, answer) {
-            return Ok(());
+        if is_heard(goes, request, answer) {
+            self.keep_one(alloc, actor, is_fire(request), *answer)
+        } else {
+            Ok(())
         }
-        let starts = is_fire(request);
-        let answer = *answer;
-        let heard = Heard {
-            actor,
-            starts,
-            answer: Some(answer),
-        };
-        hear(alloc, &mut self.listeners, actor, starts, answer)?;
-        self.heard = self.heard.with(&heard);
-        Ok(())
     }
 
     /// Keeps the answer to a request of an actor, where its text goes on by it: `goes` says whether the request was a
