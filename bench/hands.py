@@ -293,11 +293,15 @@ def scripts_to_the_wrong_command(hands: Hands) -> None:
 BESIDE_PARTS = (["check"], ["play"], ["run"], ["audit", "--journal", "empty"], ["refusals", "--journal", "empty"])
 
 
+def by_program(told: bytes) -> bytes:
+    """What was told on standard error, but that a trial answers."""
+    return b"".join(line for line in told.splitlines(keepends=True) if b"not proved: a trial answers" not in line)
+
+
 def of_parts(hands: Hands, words: list[str], given: bytes = b"", terminal: bool = False) -> tuple[int, bytes, bytes]:
     """What a start in the folder comes to: its status, its output, and what it told, but that a trial answers."""
     done = subprocess.run([hands.launcher, *words], cwd=hands.folder, input=given, capture_output=True, timeout=SECONDS, check=False)
-    told = b"".join(line for line in done.stderr.splitlines(keepends=True) if b"not proved: a trial answers" not in line)
-    return done.returncode, done.stdout, told
+    return done.returncode, done.stdout, by_program(done.stderr)
 
 
 def hostile_parts(hands: Hands) -> None:
@@ -611,7 +615,7 @@ def ends_that_are_hurried(hands: Hands) -> None:
             out, told = run.communicate(b"quit\n", timeout=SECONDS)
             took = time.monotonic() - begun
         hands.due(f"a run with {words} ends within its grace", 0.25 <= took <= 2, took)
-        hands.due(f"a run with {words} names whom it left behind, alone", told == b"lost Slow.Busy\n", told)
+        hands.due(f"a run with {words} names whom it left behind, alone", by_program(told) == b"lost Slow.Busy\n", told)
         hands.due(f"a run with {words} has status 6", run.returncode == 6, run.returncode)
         lines = journal.read_bytes()
         hands.due(f"a run with {words} says how long its whole journal is", out.endswith(b"entries %d\n" % lines.count(b"\n")), (out[-100:], lines.count(b"\n")))
@@ -621,7 +625,7 @@ def ends_that_are_hurried(hands: Hands) -> None:
     begun = time.monotonic()
     done = hands.asked(["run", "--grace", "60000", "--journal", str(journal)], PLANT + b"tick 1\nquit\n")
     hands.due("a run whose threads end waits for nothing more", time.monotonic() - begun <= 20, time.monotonic() - begun)
-    hands.due("and ends as without the flag", (done.returncode, done.stderr) == (0, b""), (done.returncode, done.stderr))
+    hands.due("and ends as without the flag", (done.returncode, by_program(done.stderr)) == (0, b""), (done.returncode, done.stderr))
     done = hands.asked(["run", "--grace", "0"], PLANT + b"quit\n")
     hands.due("a grace of nothing is no grace", done.returncode == 2 and b"invalid value '0' for '--grace <MS>': 1 to 3600000" in done.stderr, done)
 

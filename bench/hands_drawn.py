@@ -1,8 +1,8 @@
 """Drawn and mutated runs of `play`, `check`, `run` and `audit`, each by its number and a seed (`bench/hands.py --drawn`).
 
 A run is a script of rv_rows' data that is changed in up to six places, or two of them spliced, with drawn flags; or drawn words alone. Its end is bad
-where it has a signal, a status but 0 to 3 (in `run` 6 too), takes more than ten processor seconds, tells more than one fault of a script, or where what it
-printed doesn't fit its status: a play's journal and a run's file are to be legal, and as long as the run says.
+where it has a signal, a status but 0 to 3 (in `run` 6 too), takes more than ten processor seconds, tells more than one fault in `play` or `audit`, or where what it
+printed doesn't fit its status: a run's file is to be legal over the units that it kept, and as long as the run says.
 """
 import json
 import random
@@ -91,32 +91,24 @@ def drawn_run(seed: int, number: int, texts: list[bytes]) -> Drawn:
     return Drawn([command, "--grace", "2000", *chosen], script + b"\n@run\n" + commands(draw), has_file)
 
 
-def limits() -> None:
-    """A gigabyte of memory at most, and none of the system's."""
+def limit() -> None:
+    """A gigabyte of memory at most for each run, and no core of one that dies."""
     resource.setrlimit(resource.RLIMIT_CORE, (0, 0))
     resource.setrlimit(resource.RLIMIT_DATA, (1 << 30, 1 << 30))
 
 
-def sections(script: bytes) -> bytes:
-    """What of a script an audit of another journal reads: its units and settings."""
-    found, keeps = [], False
-    for line in script.split(b"\n"):
-        if line.startswith(b"@"):
-            keeps = line.rstrip(b"\r") in (b"@unit", b"@shape", b"@host.toml")
-        if keeps:
-            found.append(line)
-    return b"\n".join(found)
-
-
 def wrong_end(program: Path, run: Drawn, folder: Path) -> str:
     """What is wrong with how a run ends; nothing where all is right."""
-    journal = folder / "journal"
-    journal.unlink(missing_ok=True)
-    words = [*run.words, *(["--journal", str(journal)] if run.has_file else [])]
+    journal, units = folder / "journal", folder / "units"
+    for file in (journal, units):
+        file.unlink(missing_ok=True)
+    words = [*run.words, *(["--journal", "journal", "--keep-units", "units"] if run.has_file else [])]
     before = resource.getrusage(resource.RUSAGE_CHILDREN)
     try:
-        done = subprocess.run([program, *words], input=run.script, capture_output=True, timeout=WAITS, check=False, preexec_fn=limits, cwd=folder)
+        done = subprocess.run([program, *words], input=run.script, capture_output=True, timeout=WAITS, check=False, cwd=folder)
     except subprocess.TimeoutExpired:
+        if run.words[0] == "play" and re.search(rb"\bgo \d{7}", run.script):
+            return ""  # (a play that is asked to go on for ever does, and a note says so)
         return f"it takes more than {WAITS} s by the clock"
     after = resource.getrusage(resource.RUSAGE_CHILDREN)
     took = after.ru_utime + after.ru_stime - before.ru_utime - before.ru_stime
@@ -125,7 +117,7 @@ def wrong_end(program: Path, run: Drawn, folder: Path) -> str:
         return f"its status is {status}: {done.stderr[-300:]!r}"
     if took > SECONDS:
         return f"it takes {took:.1f} processor seconds"
-    if run.words[0] != "check" and len(FAULT.findall(done.stderr)) > 1:
+    if run.words[0] in ("play", "audit") and len(FAULT.findall(done.stderr)) > 1:
         return f"it tells several faults: {done.stderr[:300]!r}"
     if run.words[0] == "run" and status in (0, 5, 6):
         last = re.search(rb"^entries (\d+)\n\Z", done.stdout, re.MULTILINE)
@@ -134,7 +126,7 @@ def wrong_end(program: Path, run: Drawn, folder: Path) -> str:
         if run.has_file and journal.read_bytes().count(b"\n") != int(last.group(1)):
             return f"its file has other entries than {last.group()!r}"
     if run.has_file and status in (0, 5, 6):
-        judged = subprocess.run([program, "audit", "--journal", str(journal)], input=sections(run.script), capture_output=True, timeout=WAITS, check=False)
+        judged = subprocess.run([program, "audit", "--journal", "journal", "units"], stdin=subprocess.DEVNULL, capture_output=True, timeout=WAITS, check=False, cwd=folder)
         if not judged.stdout.startswith(b"legal "):
             return f"its journal isn't legal: {judged.stdout!r} {judged.stderr[-200:]!r}"
     return ""
@@ -146,6 +138,7 @@ def drawn_runs(program: Path, count: int, seed: int, state: Path) -> int:
     seen = json.loads(state.read_text()) if state.exists() else {"seed": seed, "next": 0, "bad": []}
     if seen["seed"] != seed:
         raise SystemExit(f"{state} is of seed {seen['seed']}")
+    limit()
     with tempfile.TemporaryDirectory() as name:
         folder = Path(name)
         for number in range(seen["next"], count):

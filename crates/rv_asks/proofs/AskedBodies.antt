@@ -32,7 +32,7 @@ use Rattle.rv_exec.specs.Choices.{named, handler_of}
 use Rattle.rv_exec.specs.Expressions.{value}
 use Rattle.rv_exec.specs.Statements.{go_on, meanings}
 use Rattle.rv_exec.specs.World.{World}
-use Rattle.rv_asks.specs.Asks.{Asks}
+use Rattle.rv_asks.specs.Asks.{Asks, Standing}
 use Rattle.rv_asks.proofs.Values.{component_ranges}
 use Rattle.rv_asks.proofs.Trees.{IsKept, EndLeft, RunEnds, asks_then, asks_here, asks_run, asks_next, run_goes}
 use Rattle.rv_asks.proofs.Suited.{StatementsSuit, DeclarationsSuit, HandlersSuit, BodySuits}
@@ -43,7 +43,7 @@ use Rattle.rv_asks.proofs.Bound.{given_back_fits, bound_kept}
 
 -- Blocks
 
-module _ (shapes : List Shape) (s : Stand) (here : List OperationNumber) (w : World) (k : AskingWorld shapes s.operations s.components here w) where
+module _ (shapes : List Shape) (s : Stand) (here : Standing) (w : World) (k : AskingWorld shapes s.operations s.components here w) where
   elaborated_asks : (ds : List Declaration) (next : OperationNumber) (a : Activation) → DeclarationsSuit shapes (near shapes w) s ds → IsKept s a → Asks shapes (RunEnds s here) next here (elaborated w ds a)
   unfolding elaborated
   elaborated_asks [] next a m kept = (refl, kept)
@@ -67,13 +67,13 @@ module _ (shapes : List Shape) (s : Stand) (here : List OperationNumber) (w : Wo
   handler_found [] exception m = tt
   handler_found (h ∷ hs) exception m = found_either (named h.choices exception) h.statements (handler_of hs exception) m.0 (handler_found hs exception m.1)
 
-  handling_asks : (exception : Exception) (o : Option Statements) (e : End) (a : Activation) (later : OperationNumber) (now : List OperationNumber) → FoundSuits o → now ≡ here → RunEnds s here now (e, a)
+  handling_asks : (exception : Exception) (o : Option Statements) (e : End) (a : Activation) (later : OperationNumber) (now : Standing) → FoundSuits o → now ≡ here → RunEnds s here now (e, a)
       → Asks shapes (RunEnds s here) later now (handling w exception o (e, a))
   handling_asks exception None e a later now m is f = f
   handling_asks exception (Some ss) e a later now m is f =
       asks_here shapes (RunEnds s here) later here now (meanings (in_handler exception w) ss a) is (statements_ask shapes s here (in_handler exception w) (same_calls exception) ss later a m f.1)
 
-  handled_asks : (handlers : List Handler) → HandlersSuit shapes (near shapes w) s handlers → (later : OperationNumber) (now : List OperationNumber) (ran : End × Activation) → RunEnds s here now ran → Asks shapes (RunEnds s here) later now (handled w handlers ran)
+  handled_asks : (handlers : List Handler) → HandlersSuit shapes (near shapes w) s handlers → (later : OperationNumber) (now : Standing) (ran : End × Activation) → RunEnds s here now ran → Asks shapes (RunEnds s here) later now (handled w handlers ran)
   handled_asks handlers m later now (end.Next, a) f = f
   handled_asks handlers m later now (end.Exit, a) f = f
   handled_asks handlers m later now (end.Return v, a) f = f
@@ -91,7 +91,7 @@ module _ (shapes : List Shape) (s : Stand) (here : List OperationNumber) (w : Wo
 
 -- Ends
 
-pub outcome_left : (here now : List OperationNumber) (result : Option Range) (is_function : Bool) (e : End) (values : List ℤ) → EndLeft result here now e → OutcomeLeft here now (cond is_function (function_outcome e) (procedure_outcome e values))
+pub outcome_left : (here now : Standing) (result : Option Range) (is_function : Bool) (e : End) (values : List ℤ) → EndLeft result here now e → OutcomeLeft here now (cond is_function (function_outcome e) (procedure_outcome e values))
 outcome_left here now result true end.Next values f = f
 outcome_left here now result true end.Exit values f = f
 outcome_left here now result true (end.Return None) values f = f.0
@@ -102,7 +102,7 @@ outcome_left here now result false end.Exit values f = f
 outcome_left here now result false (end.Return v) values f = f.0
 outcome_left here now result false (end.Abandoned why) values f = f
 
-function_in : (here now : List OperationNumber) (range : Range) (e : End) → EndLeft (Some range) here now e → ValuesIn (range ∷ []) (function_outcome e)
+function_in : (here now : Standing) (range : Range) (e : End) → EndLeft (Some range) here now e → ValuesIn (range ∷ []) (function_outcome e)
 function_in here now range end.Next f = tt
 function_in here now range end.Exit f = tt
 function_in here now range (end.Return None) f = tt
@@ -115,7 +115,7 @@ procedure_in ranges end.Exit values f = f
 procedure_in ranges (end.Return v) values f = f
 procedure_in ranges (end.Abandoned why) values f = tt
 
-outcome_in : (here now : List OperationNumber) (kind : Kind) (ps : List Parameter) (is_function : Bool) (e : End) (values : List ℤ) → kind_fits is_function kind ≡ true → EndLeft (result_of kind) here now e → all_fit (ranges_out ps) values ≡ true
+outcome_in : (here now : Standing) (kind : Kind) (ps : List Parameter) (is_function : Bool) (e : End) (values : List ℤ) → kind_fits is_function kind ≡ true → EndLeft (result_of kind) here now e → all_fit (ranges_out ps) values ≡ true
     → ValuesIn (results kind ps) (cond is_function (function_outcome e) (procedure_outcome e values))
 outcome_in here now (Function range) ps true e values m f g = function_in here now range e f
 outcome_in here now (Function range) ps false e values m f g = absurd (cc m)
@@ -142,8 +142,8 @@ no_overrun : (operation : Option OperationShape) → OutcomeIn operation (Err ca
 no_overrun None = tt
 no_overrun (Some operation) = tt
 
-module _ (shapes : List Shape) (object : ProtectedShape) (here : List OperationNumber) where
-  closed_asks : (operation : OperationShape) (body : Body) → heads operation body ≡ true → (later : OperationNumber) (now : List OperationNumber) (ran : End × Activation) → RunEnds (stand_of object operation) here now ran
+module _ (shapes : List Shape) (object : ProtectedShape) (here : Standing) where
+  closed_asks : (operation : OperationShape) (body : Body) → heads operation body ≡ true → (later : OperationNumber) (now : Standing) (ran : End × Activation) → RunEnds (stand_of object operation) here now ran
       → Asks shapes (InnerEnds object.components (Some operation) here) later now (closed body ran)
   closed_asks operation body m later now (e, a) f =
       let values = given_back body.parameters 0 a.slots [] in

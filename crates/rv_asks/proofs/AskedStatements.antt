@@ -26,14 +26,14 @@ use Rattle.rv_exec.specs.Choices.{covered}
 use Rattle.rv_exec.specs.Expressions.{on_value, value, arguments, passing}
 use Rattle.rv_exec.specs.Statements.{abandons, on_step, step, go_on, again, turns, values_over, for_each, exit_where, raised_again, meaning, meanings, first_true, selected}
 use Rattle.rv_exec.specs.World.{World, Run, Got}
-use Rattle.rv_asks.specs.Asks.{Asks}
+use Rattle.rv_asks.specs.Asks.{Asks, Standing}
 use Rattle.rv_asks.proofs.Values.{within_cases, set_fits, set_slot, set_apart}
 use Rattle.rv_asks.proofs.Trees.{Left, IsKept, GotEnds, Any, ReturnIn, EndLeft, RunEnds, asks_if, asks_run, asks_next, asks_again}
 use Rattle.rv_asks.proofs.Suited.{StatementSuits, StatementsSuit, BranchesSuit, AlternativesSuit}
 use Rattle.rv_asks.proofs.Passed.{GivesSo, suits_passed}
 use Rattle.rv_asks.proofs.AskedValues.{near, AskingWorld, value_asks, arguments_ask, passing_asks}
 
-module _ (s : Stand) (here : List OperationNumber) where
+module _ (s : Stand) (here : Standing) where
   -- Targets
 
   put_kept : (p : Place) (range : Range) (v : ℤ) (a : Activation) → place_keeps s range p ≡ true → holds range v ≡ true → IsKept s a → IsKept s (put_at p v a)
@@ -77,7 +77,7 @@ module _ (s : Stand) (here : List OperationNumber) where
 
 -- Steps and turns
 
-module _ (shapes : List Shape) (s : Stand) (here : List OperationNumber) where
+module _ (shapes : List Shape) (s : Stand) (here : Standing) where
   less_asks : (next : OperationNumber) (n : ℕ) (a : Activation) (go : Activation → Run) → ((later : OperationNumber) (b : Activation) → IsKept s b → Asks shapes (RunEnds s here) later here (go b)) → IsKept s a
       → Asks shapes (RunEnds s here) next here (on_step a go (one_less n a))
   less_asks next zero a go f kept = (refl, kept)
@@ -123,7 +123,7 @@ module _ (shapes : List Shape) (s : Stand) (here : List OperationNumber) where
 
 -- Statements
 
-module _ (shapes : List Shape) (s : Stand) (here : List OperationNumber) (w : World) (k : AskingWorld shapes s.operations s.components here w) where
+module _ (shapes : List Shape) (s : Stand) (here : Standing) (w : World) (k : AskingWorld shapes s.operations s.components here w) where
   mutual
     unfolding meaning
 

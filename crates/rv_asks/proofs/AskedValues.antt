@@ -33,7 +33,7 @@ use Rattle.rv_exec.specs.Activations.{joined, request_less, spent, refilled}
 use Rattle.rv_exec.specs.Calls.{Outcome, internal}
 use Rattle.rv_exec.specs.Expressions.{on_value, fails, returned, answered, asked_by, called_by, called, passing, given, value, linked, arguments}
 use Rattle.rv_exec.specs.World.{World, GotAll}
-use Rattle.rv_asks.specs.Asks.{Asks}
+use Rattle.rv_asks.specs.Asks.{Asks, Standing}
 use Rattle.rv_asks.proofs.Values.{covered, within_cases, component_ranges}
 use Rattle.rv_asks.proofs.Trees.{Left, IsKept, GotLeft, GotEnds, Any, asks_then, asks_more, asks_if, value_goes, asks_value}
 use Rattle.rv_asks.proofs.Suited.{ExpressionSuits, ExpressionsSuit, LinksSuit}
@@ -41,7 +41,7 @@ use Rattle.rv_asks.proofs.Passed.{GivesSo, Passed, SuitsValues, passed_none, pas
 
 -- What is kept of calls
 
-abbrev pub OutcomeLeft : List OperationNumber → List OperationNumber → Outcome → Type 0
+abbrev pub OutcomeLeft : Standing → Standing → Outcome → Type 0
 OutcomeLeft here now (Ok values) = now ≡ here
 OutcomeLeft here now (Err why) = Left here now why
 
@@ -55,7 +55,7 @@ OutcomeIn None outcome = Unit {0}
 OutcomeIn (Some operation) outcome = ValuesIn (results operation.kind operation.parameters) outcome
 
 -- how a body of an object of these components ends
-abbrev pub InnerEnds : List Component → Option OperationShape → List OperationNumber → List OperationNumber → Outcome × (List ℤ × ℕ) → Type 0
+abbrev pub InnerEnds : List Component → Option OperationShape → Standing → Standing → Outcome × (List ℤ × ℕ) → Type 0
 InnerEnds components operation here now got =
     OutcomeLeft here now got.0 × (all_fit (component_ranges components) got.1.0 ≡ true) × OutcomeIn operation got.0
 
@@ -64,7 +64,7 @@ abbrev pub near : List Shape → World → Callee → Bool
 near shapes w = such_in (callee_fits shapes) w.object
 
 -- what statements call asks what fits, and they stand in the object of these operations
-pub record AskingWorld (shapes : List Shape) (operations : List OperationShape) (components : List Component) (here : List OperationNumber) (w : World) : Type 0 where
+pub record AskingWorld (shapes : List Shape) (operations : List OperationShape) (components : List Component) (here : Standing) (w : World) : Type 0 where
   pub inner : (next : OperationNumber) (operation : ℕ) (values scalars : List ℤ) (steps : ℕ) → SuitsValues (of_operation (numbered operations operation)) values
       → all_fit (component_ranges components) scalars ≡ true
       → Asks shapes (InnerEnds components (numbered operations operation) here) next here (w.inner operation values scalars steps)
@@ -81,23 +81,23 @@ silent v range e = absurd (cc e)
 
 -- Operators leave all as it was
 
-checked_left : (here : List OperationNumber) (r : Result ℤ Arith) → GotLeft Silent here here (checked r)
+checked_left : (here : Standing) (r : Result ℤ Arith) → GotLeft Silent here here (checked r)
 checked_left here (Ok v) = (refl, silent v)
 checked_left here (Err why) = refl
 
-bound_left : (here : List OperationNumber) (k : Bool) (v : ℤ) → GotLeft Silent here here (cond k (Ok v) (Err (cause.Raised ConstraintError)))
+bound_left : (here : Standing) (k : Bool) (v : ℤ) → GotLeft Silent here here (cond k (Ok v) (Err (cause.Raised ConstraintError)))
 bound_left here true v = (refl, silent v)
 bound_left here false v = refl
 
-prefix_left : (here : List OperationNumber) (op : Prefix) (v : ℤ) → GotLeft Silent here here (prefix_of op v)
+prefix_left : (here : Standing) (op : Prefix) (v : ℤ) → GotLeft Silent here here (prefix_of op v)
 prefix_left here prefix.Negate v = checked_left here (whole (neg_ℤ v))
 prefix_left here prefix.Absolute v = checked_left here (whole (pos (unsigned_abs v)))
 prefix_left here prefix.Not v = (refl, λ range e. absurd (cc e))
 
-bounds_left : (here : List OperationNumber) (low high v : ℤ) → GotLeft Silent here here (in_bounds low high v)
+bounds_left : (here : Standing) (low high v : ℤ) → GotLeft Silent here here (in_bounds low high v)
 bounds_left here low high v = bound_left here (int_le low v && int_le v high) v
 
-result_left : (here : List OperationNumber) (op : Operator) (v u : ℤ) → GotLeft Silent here here (result_of op v u)
+result_left : (here : Standing) (op : Operator) (v u : ℤ) → GotLeft Silent here here (result_of op v u)
 result_left here operator.Add v u = checked_left here (whole (v +ℤ u))
 result_left here operator.Subtract v u = checked_left here (whole (v -ℤ u))
 result_left here operator.Multiply v u = checked_left here (whole (v *ℤ u))
@@ -121,14 +121,14 @@ still_asked : (object : ℕ) (c : Callee) → internal (of_object object c) ≡ 
 still_asked object (callee.OwnEntry operation) = refl
 still_asked object c = refl
 
-module _ (shapes : List Shape) (s : Stand) (here : List OperationNumber) (w : World) (k : AskingWorld shapes s.operations s.components here w) where
+module _ (shapes : List Shape) (s : Stand) (here : Standing) (w : World) (k : AskingWorld shapes s.operations s.components here w) where
   -- Calls
 
   refilled_kept : (is_task : Bool) (a : Activation) → IsKept s a → IsKept s (refilled is_task a)
   refilled_kept true a kept = kept
   refilled_kept false a kept = kept
 
-  answered_asks : (a : Activation) → IsKept s a → (later : OperationNumber) (now : List OperationNumber) (outcome : Outcome) → OutcomeLeft here now outcome → Asks shapes (GotEnds s Any here) later now (answered w a outcome)
+  answered_asks : (a : Activation) → IsKept s a → (later : OperationNumber) (now : Standing) (outcome : Outcome) → OutcomeLeft here now outcome → Asks shapes (GotEnds s Any here) later now (answered w a outcome)
   answered_asks a kept later now (Ok values) e = ((e, tt), refilled_kept w.is_task a kept)
   answered_asks a kept later now (Err why) e = (e, refilled_kept w.is_task a kept)
 
@@ -147,7 +147,7 @@ module _ (shapes : List Shape) (s : Stand) (here : List OperationNumber) (w : Wo
   asked_spent next c values a true outer fits suits kept = asked_less next c values a a.requests outer fits suits kept
   asked_spent next c values a false outer fits suits kept = asked_some next c values a outer fits suits kept
 
-  returned_asks : (operation : ℕ) (a : Activation) → IsKept s a → (later : OperationNumber) (now : List OperationNumber) (got : Outcome × (List ℤ × ℕ))
+  returned_asks : (operation : ℕ) (a : Activation) → IsKept s a → (later : OperationNumber) (now : Standing) (got : Outcome × (List ℤ × ℕ))
       → InnerEnds s.components (numbered s.operations operation) here now got → Asks shapes (GotEnds s Any here) later now (returned a got)
   returned_asks operation a kept later now (Ok values, (components, steps)) e = ((e.0, tt), (kept.0, e.1))
   returned_asks operation a kept later now (Err why, (components, steps)) e = (e.0, (kept.0, e.1))
@@ -175,11 +175,11 @@ module _ (shapes : List Shape) (s : Stand) (here : List OperationNumber) (w : Wo
   passing_asks next c es what fits suits f =
       asks_value shapes s here (Passed [] es) Any next what (called w c) f (λ later values a p kept. called_asks later c values a fits (suits values p) kept)
 
-  given_asks : (later : OperationNumber) (now : List OperationNumber) (got : GotAll) → GotEnds s Any here now got → Asks shapes (GotEnds s Silent here) later now (given got)
+  given_asks : (later : OperationNumber) (now : Standing) (got : GotAll) → GotEnds s Any here now got → Asks shapes (GotEnds s Silent here) later now (given got)
   given_asks later now (Ok values, a) e = ((e.0.0, silent (slice_index_or values 0 (pos 0))), e.1)
   given_asks later now (Err why, a) e = e
 
-  more_passed : (before : List ℤ) (e : Expression) (es : Expressions) (v : ℤ) → GivesSo e v → (now : List OperationNumber) (got : GotAll) → GotEnds s (Passed (joined before v) es) here now got → GotEnds s (Passed before (and_expression e es)) here now got
+  more_passed : (before : List ℤ) (e : Expression) (es : Expressions) (v : ℤ) → GivesSo e v → (now : Standing) (got : GotAll) → GotEnds s (Passed (joined before v) es) here now got → GotEnds s (Passed before (and_expression e es)) here now got
   more_passed before e es v g now (Ok values, b) f = ((f.0.0, passed_more before e es v g values f.0.1), f.1)
   more_passed before e es v g now (Err why, b) f = f
 

@@ -9,3 +9,4 @@ pub mod AskedBodies
 pub mod Replies
 pub mod Found
 pub mod Runs
+pub mod Misused

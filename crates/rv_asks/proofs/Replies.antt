@@ -30,7 +30,7 @@ use Rattle.rv_exec.specs.declared.end.Cause.TheVariants as cause
 use Rattle.rv_exec.specs.declared.end.Reply.TheVariants as reply
 use Rattle.rv_exec.specs.Asking.{ended}
 use Rattle.rv_exec.specs.Calls.{is_protected, request_of, refusal, stops, gives, can_refuse, replied, resumed, settled, asks, reached}
-use Rattle.rv_asks.specs.Asks.{are_of_object, is_good, inside_after, next_after, may_ask, Asks}
+use Rattle.rv_asks.specs.Asks.{are_of_object, is_good, free, calls_from, standing_after, next_after, may_ask, Asks, Standing}
 use Rattle.rv_asks.proofs.Values.{component_ranges}
 use Rattle.rv_asks.proofs.Trees.{Left}
 use Rattle.rv_asks.proofs.Passed.{SuitsValues, wanted}
@@ -131,18 +131,33 @@ pub record StartsBody (shapes : List Shape) (values : List ℤ) (object operatio
   pub called : Calls shapes object operation is_a values
   pub brings : all_fit (component_ranges called.site.object.components) scalars ≡ true
 
-module _ (shapes : List Shape) (here : List OperationNumber) (left : ℕ) (values : List ℤ) where
-  abbrev pub AskedEnds : List OperationNumber → Asked → Type 0
-  AskedEnds now (asked.Given given) = now ≡ here
-  AskedEnds now (asked.Abandoned why) = Left here now why
-  AskedEnds now (asked.Started object operation is_a scalars) = (now ≡ spot object operation ∷ here) × StartsBody shapes values object operation is_a scalars × (0 < left)
+-- it is in one body more, and doesn't wait
+abbrev pub deeper : OperationNumber → Standing → Standing
+deeper started here = free here.is_line (started ∷ here.inside)
+
+abbrev pub AskedEnds : List Shape → Standing → ℕ → List ℤ → Standing → Asked → Type 0
+AskedEnds shapes here left values now (asked.Given given) = now ≡ here
+AskedEnds shapes here left values now (asked.Abandoned why) = Left here now why
+AskedEnds shapes here left values now (asked.Started object operation is_a scalars) =
+    (now ≡ deeper (spot object operation) here) × StartsBody shapes values object operation is_a scalars × (0 < left)
+
+module _ (shapes : List Shape) (is_line : Bool) (inside : List OperationNumber) (calls : calls_from is_line inside ≡ true) (left : ℕ) (values : List ℤ) where
+  abbrev here : Standing
+  here = free is_line inside
+
+  -- it waits for the answer to a resume
+  abbrev waiting : Standing
+  waiting = record { is_line = is_line; inside = inside; waits = true }
+
+  abbrev Ends : Standing → Asked → Type 0
+  Ends now what = AskedEnds shapes here left values now what
 
   starts : (object operation : ℕ) (is_a : Bool) (scalars : List ℤ) → Calls shapes object operation is_a values → are_of_object scalars (target shapes object operation) ≡ true → StartsBody shapes values object operation is_a scalars
   starts object operation is_a scalars c good = record { called = c; brings = sym (ap (λ (t : Target). are_of_object scalars t) c.is) ∙ good }
 
-  started_asks : (c : Callee) (next : OperationNumber) (scalars : List ℤ) → CalleeSuits shapes (length here) c values → (is_protected c ≡ true → 0 < left)
+  started_asks : (c : Callee) (next : OperationNumber) (scalars : List ℤ) → CalleeSuits shapes (length inside) c values → (is_protected c ≡ true → 0 < left)
       → is_good shapes next (request_of c values) (answer.Started scalars) ≡ true
-      → Asks shapes AskedEnds (next_after next (request_of c values) (answer.Started scalars)) (inside_after next here (request_of c values) (answer.Started scalars)) (settled c (replied c (answer.Started scalars)))
+      → Asks shapes Ends (next_after next (request_of c values) (answer.Started scalars)) (standing_after next here (request_of c values) (answer.Started scalars)) (settled c (replied c (answer.Started scalars)))
   started_asks (callee.Function object operation) next scalars suits room good = (refl, starts object operation true scalars suits good, room refl)
   started_asks (callee.Procedure object operation) next scalars suits room good = (refl, starts object operation false scalars suits good, room refl)
   started_asks (callee.Entry object operation) next scalars suits room good = (refl, starts object operation false scalars suits good, room refl)
@@ -151,20 +166,20 @@ module _ (shapes : List Shape) (here : List OperationNumber) (left : ℕ) (value
   -- Resumes
 
   entry_resumed : (object operation : ℕ) (r : Answer) → Calls shapes object operation false values → 0 < left → is_good shapes (spot object operation) request.Resume r ≡ true
-      → AskedEnds (inside_after (spot object operation) here request.Resume r) (resumed (callee.Entry object operation) r)
+      → Ends (standing_after (spot object operation) waiting request.Resume r) (resumed (callee.Entry object operation) r)
   entry_resumed object operation (answer.Woken (Some scalars)) suits room good = (refl, starts object operation false scalars suits good, room)
   entry_resumed object operation (answer.Woken None) suits room good = tt
   entry_resumed object operation (answer.Refused rule.Grant line version) suits room good = refl
   entry_resumed object operation (answer.Refused other line version) suits room good = tt
   entry_resumed object operation r suits room good = tt
 
-  suspend_resumed : (object : ℕ) (next : OperationNumber) (r : Answer) → AskedEnds (inside_after next here request.Resume r) (resumed (callee.SuspendUntilTrue object) r)
+  suspend_resumed : (object : ℕ) (next : OperationNumber) (r : Answer) → Ends (standing_after next waiting request.Resume r) (resumed (callee.SuspendUntilTrue object) r)
   suspend_resumed object next (answer.Woken (Some scalars)) = tt
   suspend_resumed object next (answer.Woken None) = refl
   suspend_resumed object next (answer.Refused rule line version) = tt
   suspend_resumed object next r = tt
 
-  delay_resumed : (next : OperationNumber) (r : Answer) → AskedEnds (inside_after next here request.Resume r) (resumed callee.DelayUntil r)
+  delay_resumed : (next : OperationNumber) (r : Answer) → Ends (standing_after next waiting request.Resume r) (resumed callee.DelayUntil r)
   delay_resumed next (answer.Woken (Some scalars)) = tt
   delay_resumed next (answer.Woken None) = refl
   delay_resumed next (answer.Refused rule line version) = tt
@@ -172,31 +187,31 @@ module _ (shapes : List Shape) (here : List OperationNumber) (left : ℕ) (value
 
   -- First answers
 
-  queued_asks : (c : Callee) (next : OperationNumber) → CalleeSuits shapes (length here) c values → (is_protected c ≡ true → 0 < left)
-      → Asks shapes AskedEnds (next_after next (request_of c values) answer.Queued) (inside_after next here (request_of c values) answer.Queued) (settled c (replied c answer.Queued))
+  queued_asks : (c : Callee) (next : OperationNumber) → CalleeSuits shapes (length inside) c values → (is_protected c ≡ true → 0 < left)
+      → Asks shapes Ends (next_after next (request_of c values) answer.Queued) (standing_after next here (request_of c values) answer.Queued) (settled c (replied c answer.Queued))
   queued_asks (callee.Entry object operation) next suits room = (refl, λ r good. entry_resumed object operation r suits (room refl) good)
   queued_asks c next suits room = tt
 
   suspended_asks : (c : Callee) (next : OperationNumber)
-      → Asks shapes AskedEnds (next_after next (request_of c values) answer.Suspended) (inside_after next here (request_of c values) answer.Suspended) (settled c (replied c answer.Suspended))
+      → Asks shapes Ends (next_after next (request_of c values) answer.Suspended) (standing_after next here (request_of c values) answer.Suspended) (settled c (replied c answer.Suspended))
   suspended_asks (callee.SuspendUntilTrue object) next = (refl, λ r good. suspend_resumed object next r)
   suspended_asks c next = tt
 
   delayed_asks : (c : Callee) (next : OperationNumber)
-      → Asks shapes AskedEnds (next_after next (request_of c values) answer.Delayed) (inside_after next here (request_of c values) answer.Delayed) (settled c (replied c answer.Delayed))
+      → Asks shapes Ends (next_after next (request_of c values) answer.Delayed) (standing_after next here (request_of c values) answer.Delayed) (settled c (replied c answer.Delayed))
   delayed_asks callee.DelayUntil next = (refl, λ r good. delay_resumed next r)
   delayed_asks c next = tt
 
-  refused_asks : (c : Callee) (next : OperationNumber) (k : Bool) (exception : Exception) → Asks shapes AskedEnds next here (settled c (cond k (reply.Settled (asked.Abandoned (cause.Raised exception))) (stops true)))
+  refused_asks : (c : Callee) (next : OperationNumber) (k : Bool) (exception : Exception) → Asks shapes Ends next here (settled c (cond k (reply.Settled (asked.Abandoned (cause.Raised exception))) (stops true)))
   refused_asks c next true exception = refl
   refused_asks c next false exception = refl
 
-  given_or_not : (c : Callee) (next : OperationNumber) (k : Bool) (given : List ℤ) → Asks shapes AskedEnds next here (settled c (cond k (gives given) (stops true)))
+  given_or_not : (c : Callee) (next : OperationNumber) (k : Bool) (given : List ℤ) → Asks shapes Ends next here (settled c (cond k (gives given) (stops true)))
   given_or_not c next true given = refl
   given_or_not c next false given = refl
 
   accepted_asks : (c : Callee) (next : OperationNumber) (value : ℤ)
-      → Asks shapes AskedEnds next here (settled c (replied c (answer.Accepted value)))
+      → Asks shapes Ends next here (settled c (replied c (answer.Accepted value)))
   accepted_asks callee.Clock next value = refl
   accepted_asks (callee.CurrentState object) next value = given_or_not (callee.CurrentState object) next (int_le (pos 0) value && int_le value (pos 1)) (value ∷ [])
   accepted_asks (callee.SetTrue object) next value = given_or_not (callee.SetTrue object) next (is_zero value) []
@@ -205,8 +220,8 @@ module _ (shapes : List Shape) (here : List OperationNumber) (left : ℕ) (value
   accepted_asks callee.DelayUntil next value = given_or_not callee.DelayUntil next (is_zero value) []
   accepted_asks c next value = refl
 
-  replied_asks : (c : Callee) (next : OperationNumber) (r : Answer) → CalleeSuits shapes (length here) c values → (is_protected c ≡ true → 0 < left) → is_good shapes next (request_of c values) r ≡ true
-      → Asks shapes AskedEnds (next_after next (request_of c values) r) (inside_after next here (request_of c values) r) (settled c (replied c r))
+  replied_asks : (c : Callee) (next : OperationNumber) (r : Answer) → CalleeSuits shapes (length inside) c values → (is_protected c ≡ true → 0 < left) → is_good shapes next (request_of c values) r ≡ true
+      → Asks shapes Ends (next_after next (request_of c values) r) (standing_after next here (request_of c values) r) (settled c (replied c r))
   replied_asks c next (answer.Started scalars) suits room good = started_asks c next scalars suits room good
   replied_asks c next answer.Queued suits room good = queued_asks c next suits room
   replied_asks c next (answer.Refused rule line version) suits room good = refused_asks c next (can_refuse c rule) (refusal rule)
@@ -214,39 +229,44 @@ module _ (shapes : List Shape) (here : List OperationNumber) (left : ℕ) (value
   replied_asks c next answer.Delayed suits room good = delayed_asks c next
   replied_asks c next (answer.Accepted value) suits room good = accepted_asks c next value
   replied_asks c next (answer.Done after) suits room good = left_not c where
-    left_not : (d : Callee) → inside_after next here (request_of d values) (answer.Done after) ≡ here
+    left_not : (d : Callee) → standing_after next here (request_of d values) (answer.Done after) ≡ here
     left_not (callee.Internal operation) = refl
     left_not d = refl
   replied_asks c next (answer.Woken None) suits room good = refl
   replied_asks c next (answer.Woken (Some scalars)) suits room good = woken_not c where
-    woken_not : (d : Callee) → inside_after next here (request_of d values) (answer.Woken (Some scalars)) ≡ here
+    woken_not : (d : Callee) → standing_after next here (request_of d values) (answer.Woken (Some scalars)) ≡ here
     woken_not (callee.Internal operation) = refl
     woken_not d = refl
   replied_asks c next r suits room good = refl
 
   -- Requests
 
-  protected_may : (object operation : ℕ) (is_a : Bool) → Calls shapes object operation is_a values → length here < 16 → may_ask shapes here (request.Call object operation values) ≡ true
+  -- where it may call, what fits is asked
+  may_where : (fits : Bool) → fits ≡ true → (calls_from is_line inside && fits) ≡ true
+  may_where fits f = both_hold (calls_from is_line inside) fits calls f
+
+  protected_may : (object operation : ℕ) (is_a : Bool) → Calls shapes object operation is_a values → length inside < 16 → may_ask shapes here (request.Call object operation values) ≡ true
   protected_may object operation is_a c few =
-      ap (λ (t : Target). call_fits (length here) values t) c.is ∙ both_hold (all_fit (ranges_in c.site.operation.parameters) values) (nat_lt (length here) 16) c.takes (few_held (length here) few)
+      may_where (call_fits (length inside) values (target shapes object operation))
+      (ap (λ (t : Target). call_fits (length inside) values t) c.is ∙ both_hold (all_fit (ranges_in c.site.operation.parameters) values) (nat_lt (length inside) 16) c.takes (few_held (length inside) few))
     where
       few_held : (n : ℕ) → n < 16 → nat_lt n 16 ≡ true
       few_held n less = grind (arith, nat_tests)
 
-  callee_may : (c : Callee) → CalleeSuits shapes (length here) c values → (is_protected c ≡ true → length here < 16) → may_ask shapes here (request_of c values) ≡ true
-  callee_may (callee.Internal operation) suits few = refl
-  callee_may (callee.OwnEntry operation) suits few = refl
+  callee_may : (c : Callee) → CalleeSuits shapes (length inside) c values → (is_protected c ≡ true → length inside < 16) → may_ask shapes here (request_of c values) ≡ true
+  callee_may (callee.Internal operation) suits few = calls
+  callee_may (callee.OwnEntry operation) suits few = calls
   callee_may (callee.Function object operation) suits few = protected_may object operation true suits (few refl)
   callee_may (callee.Procedure object operation) suits few = protected_may object operation false suits (few refl)
   callee_may (callee.Entry object operation) suits few = protected_may object operation false suits (few refl)
-  callee_may (callee.SetTrue object) suits few = suits
-  callee_may (callee.SetFalse object) suits few = suits
-  callee_may (callee.CurrentState object) suits few = suits
-  callee_may (callee.SuspendUntilTrue object) suits few = suits
-  callee_may callee.DelayUntil suits few = suits
-  callee_may callee.Clock suits few = refl
+  callee_may (callee.SetTrue object) suits few = may_where (call_fits (length inside) [] (target shapes object 1)) suits
+  callee_may (callee.SetFalse object) suits few = may_where (call_fits (length inside) [] (target shapes object 2)) suits
+  callee_may (callee.CurrentState object) suits few = may_where (call_fits (length inside) [] (target shapes object 3)) suits
+  callee_may (callee.SuspendUntilTrue object) suits few = may_where (call_fits (length inside) [] (target shapes object 4)) suits
+  callee_may callee.DelayUntil suits few = may_where (is_time (slice_index_or values 0 (pos 0))) suits
+  callee_may callee.Clock suits few = calls
 
-  asks_what_fits : (c : Callee) (next : OperationNumber) → CalleeSuits shapes (length here) c values → (is_protected c ≡ true → 0 < left) → (is_protected c ≡ true → length here < 16) → Asks shapes AskedEnds next here (asks c values)
+  asks_what_fits : (c : Callee) (next : OperationNumber) → CalleeSuits shapes (length inside) c values → (is_protected c ≡ true → 0 < left) → (is_protected c ≡ true → length inside < 16) → Asks shapes Ends next here (asks c values)
   asks_what_fits c next suits room few = (callee_may c suits few, λ r good. replied_asks c next r suits room good)
 
 none_left : {X : Type 0} (k : Bool) → k ≡ false → k ≡ true → X
@@ -254,11 +274,11 @@ none_left true e f = absurd (cc e)
 none_left false e f = absurd (cc f)
 
 -- where an actor may hold so many more objects
-pub reached_asks : (shapes : List Shape) (here : List OperationNumber) (left : ℕ) (values : List ℤ) (c : Callee) (next : OperationNumber) → left ≤ 16 - length here → CalleeSuits shapes (length here) c values
-    → Asks shapes (AskedEnds shapes here left values) next here (reached left c values)
+pub reached_asks : (shapes : List Shape) (is_line : Bool) (inside : List OperationNumber) (left : ℕ) (values : List ℤ) (c : Callee) (next : OperationNumber) → calls_from is_line inside ≡ true → left ≤ 16 - length inside → CalleeSuits shapes (length inside) c values
+    → Asks shapes (AskedEnds shapes (free is_line inside) left values) next (free is_line inside) (reached left c values)
 unfolding reached
-reached_asks shapes here zero values c next few suits = by_past (is_protected c) refl where
-  by_past : (k : Bool) → is_protected c ≡ k → Asks shapes (AskedEnds shapes here zero values) next here (cond k (ended (asked.Abandoned (cause.Raised ProgramError))) (asks c values))
+reached_asks shapes is_line inside zero values c next calls few suits = by_past (is_protected c) refl where
+  by_past : (k : Bool) → is_protected c ≡ k → Asks shapes (AskedEnds shapes (free is_line inside) zero values) next (free is_line inside) (cond k (ended (asked.Abandoned (cause.Raised ProgramError))) (asks c values))
   by_past true is = refl
-  by_past false is = asks_what_fits shapes here zero values c next suits (λ e. none_left (is_protected c) is e) (λ e. none_left (is_protected c) is e)
-reached_asks shapes here (suc left) values c next few suits = asks_what_fits shapes here (suc left) values c next suits (λ e. omega arith) (λ e. omega (arith, few))
+  by_past false is = asks_what_fits shapes is_line inside calls zero values c next suits (λ e. none_left (is_protected c) is e) (λ e. none_left (is_protected c) is e)
+reached_asks shapes is_line inside (suc left) values c next calls few suits = asks_what_fits shapes is_line inside calls (suc left) values c next suits (λ e. omega arith) (λ e. omega (arith, few))

@@ -1,6 +1,6 @@
--- What the bodies of compiled units ask, and that it fits: it is what the host's own test of requests wants, but for who asks it and
--- what that actor does (ISO/IEC 8652:2012, 6.4.1, 6.5, 9.5.1, 9.5.3, 9.6, C.3; limits own).
-use Rattle.std.specs.Prelude.{◌≡◌, ℕ, suc, ℤ, Bool, true, false, ◌&&◌, if◌then◌else◌, List, [], ◌∷◌, length, map, Option, Some, None}
+-- What the bodies of compiled units ask, and that it fits: it is what the host's own test of requests wants, of an actor that stands
+-- where its own answers say (ISO/IEC 8652:2012, 6.4.1, 6.5, 9.5.1, 9.5.3, 9.6, C.3; limits own).
+use Rattle.std.specs.Prelude.{◌≡◌, ℕ, suc, ℤ, Bool, true, false, ◌&&◌, not, if◌then◌else◌, List, [], ◌∷◌, length, map, Option, Some, None}
 use Rattle.rv_event.specs.declared.entry.Answer.{Answer}
 use Rattle.rv_event.specs.declared.entry.Answer.TheVariants as answer
 use Rattle.rv_event.specs.declared.entry.Exit.{Exit}
@@ -17,8 +17,18 @@ use Rattle.rv_exec.specs.Asking.{Asking, ended, asking}
 use Rattle.rv_exec.specs.Blocks.{operation_run_at}
 use Rattle.rv_exec.specs.Tasks.{task_run, line_run}
 
--- Where an actor is: in bodies that called one another, each by its operation, the innermost first; and what starts where it next
--- wakes or fires, the entry in whose queue it waits, or the handler of its line.
+-- Where an actor is: whether it is a line; the bodies that it is in, which called one another, each by its operation, the innermost
+-- first; and whether it waits to be resumed.
+pub record Standing : Type 0 where
+  pub is_line : Bool
+  pub inside : List OperationNumber
+  pub waits : Bool
+
+-- What starts where it next wakes or fires is beside that: the entry in whose queue it waits, or the handler of its line.
+
+-- it doesn't wait
+abbrev pub free : Bool → List OperationNumber → Standing
+free is_line inside = record { is_line = is_line; inside = inside; waits = false }
 
 -- Starts
 
@@ -78,6 +88,20 @@ entered (Some start) inside = start.operation ∷ inside
 abbrev pub inside_after : OperationNumber → List OperationNumber → Request → Answer → List OperationNumber
 inside_after next inside request answer = entered (start_of next request answer) (left_behind inside request answer)
 
+-- it waits behind the answers Queued, Suspended and Delayed (9.5.3, 9.6, D.10)
+abbrev pub waits_behind : Answer → Bool
+waits_behind answer.Queued = true
+waits_behind answer.Suspended = true
+waits_behind answer.Delayed = true
+waits_behind other = false
+
+abbrev pub standing_after : OperationNumber → Standing → Request → Answer → Standing
+standing_after next s request answer = record {
+  is_line = s.is_line;
+  inside = inside_after next s.inside request answer;
+  waits = waits_behind answer;
+}
+
 abbrev pub queued_by : OperationNumber → Request → OperationNumber
 queued_by next (request.Call object operation values) = record { object = object; operation = operation }
 queued_by next other = next
@@ -93,25 +117,43 @@ abbrev pub ends_fit : List Shape → List ℤ → Exit → List OperationNumber 
 ends_fit shapes scalars exit [] = false
 ends_fit shapes scalars exit (here ∷ outer) = end_at scalars exit (target shapes here.object here.operation)
 
+-- it is in a body, or it is a task
+abbrev pub calls_from : Bool → List OperationNumber → Bool
+calls_from is_line [] = not is_line
+calls_from is_line (here ∷ outer) = true
+
+abbrev pub in_none : List OperationNumber → Bool
+in_none [] = true
+in_none (here ∷ outer) = false
+
+-- one that doesn't wait may call, but for a line in no body (C.3)
+abbrev pub may_call_at : Standing → Bool
+may_call_at s = not s.waits && calls_from s.is_line s.inside
+
+-- it is in no body, and doesn't wait
+abbrev pub is_idle : Standing → Bool
+is_idle s = not s.waits && in_none s.inside
+
 -- a request of a text fits where it is made: a call names an operation, has a value in each range and finds no more than 15 objects
--- held; an end has one for each component and each value that goes back; a delay names a Time. No text settles, or asks what the
--- operator does.
-abbrev pub may_ask : List Shape → List OperationNumber → Request → Bool
-may_ask shapes inside (request.Call object operation values) = call_fits (length inside) values (target shapes object operation)
-may_ask shapes inside (request.Complete scalars exit) = ends_fit shapes scalars exit inside
-may_ask shapes inside (request.DelayUntil time) = is_time time
-may_ask shapes inside request.Resume = true
-may_ask shapes inside request.Clock = true
-may_ask shapes inside request.Fire = true
-may_ask shapes inside request.Quit = true
-may_ask shapes inside other = false
+-- held; an end has one for each component and each value that goes back; a delay names a Time. One that waits asks its resume alone,
+-- a line fires and a task quits where it is idle. No text settles, or asks what the operator does.
+abbrev pub may_ask : List Shape → Standing → Request → Bool
+may_ask shapes s (request.Call object operation values) =
+    may_call_at s && call_fits (length s.inside) values (target shapes object operation)
+may_ask shapes s (request.Complete scalars exit) = not s.waits && ends_fit shapes scalars exit s.inside
+may_ask shapes s (request.DelayUntil time) = may_call_at s && is_time time
+may_ask shapes s request.Resume = s.waits
+may_ask shapes s request.Clock = may_call_at s
+may_ask shapes s request.Fire = s.is_line && is_idle s
+may_ask shapes s request.Quit = not s.is_line && is_idle s
+may_ask shapes s other = false
 
 -- each request fits, whatever good answers come, and this is said of where it ends
-abbrev pub Asks : {A : Type 0} → List Shape → (List OperationNumber → A → Type 0) → OperationNumber → List OperationNumber → Asking A → Type 0
-Asks shapes ends next inside (ended a) = ends inside a
-Asks shapes ends next inside (asking request more) =
-    (may_ask shapes inside request ≡ true)
-    × ((answer : Answer) → is_good shapes next request answer ≡ true → Asks shapes ends (next_after next request answer) (inside_after next inside request answer) (more answer))
+abbrev pub Asks : {A : Type 0} → List Shape → (Standing → A → Type 0) → OperationNumber → Standing → Asking A → Type 0
+Asks shapes ends next s (ended a) = ends s a
+Asks shapes ends next s (asking request more) =
+    (may_ask shapes s request ≡ true)
+    × ((answer : Answer) → is_good shapes next request answer ≡ true → Asks shapes ends (next_after next request answer) (standing_after next s request answer) (more answer))
 
 -- Bodies
 
@@ -132,25 +174,26 @@ starts_fit values scalars other = false
 abbrev pub left_scalars : Target → List ℤ → List ℤ
 left_scalars site scalars = if shares site then [] else scalars
 
--- An exit and the scalars left are an end that fits the body; and by each exit but that by stopped the actor is in that body still.
-pub record EndsWell (shapes : List Shape) (inside : List OperationNumber) (site : Target) (now : List OperationNumber) (last : Exit × List ℤ) : Type 0 where
+-- An exit and the scalars left are an end that fits the body; and by each exit but that by stopped the actor is in that body still,
+-- and doesn't wait.
+pub record EndsWell (shapes : List Shape) (here : Standing) (site : Target) (now : Standing) (last : Exit × List ℤ) : Type 0 where
   pub fits : end_at (left_scalars site last.1) last.0 site ≡ true
-  pub stays : (last.0 ≡ exit.Stopped → ⊥) → now ≡ inside
+  pub stays : (last.0 ≡ exit.Stopped → ⊥) → now ≡ here
 
--- so a body of such bodies asks what fits, however many others it is called from
+-- so a body of such bodies asks what fits, however many others it is called from, of a task or of a line
 abbrev pub BodiesAskWhatFits : Type 0
 BodiesAskWhatFits =
-    (shapes : List Shape) (bodies : UnitBodies) (here next : OperationNumber) (outer : List OperationNumber) (values scalars : List ℤ)
+    (shapes : List Shape) (bodies : UnitBodies) (is_line : Bool) (here next : OperationNumber) (outer : List OperationNumber) (values scalars : List ℤ)
     → AreRanged shapes bodies
     → starts_fit values scalars (target shapes here.object here.operation) ≡ true
-    → Asks shapes (EndsWell shapes (here ∷ outer) (target shapes here.object here.operation)) next (here ∷ outer)
+    → Asks shapes (EndsWell shapes (free is_line (here ∷ outer)) (target shapes here.object here.operation)) next (free is_line (here ∷ outer))
     (operation_run_at bodies (suc (length outer)) here.object here.operation values scalars)
 
 -- a task does
 abbrev pub TasksAskWhatFits : Type 0
 TasksAskWhatFits =
     (shapes : List Shape) (bodies : UnitBodies) (actor requests : ℕ) (next : OperationNumber)
-    → AreRanged shapes bodies → Asks shapes (λ inside exit. Unit {0}) next [] (task_run bodies actor requests)
+    → AreRanged shapes bodies → Asks shapes (λ s exit. Unit {0}) next (free false []) (task_run bodies actor requests)
 
 -- an operation is a line's handler: it takes no values, and is no function (C.3.1)
 abbrev pub may_handle : Target → Bool
@@ -162,4 +205,4 @@ abbrev pub LinesAskWhatFits : Type 0
 LinesAskWhatFits =
     (shapes : List Shape) (bodies : UnitBodies) (handler : OperationNumber)
     → AreRanged shapes bodies → may_handle (target shapes handler.object handler.operation) ≡ true
-    → Asks shapes (λ inside outcome. Unit {0}) handler [] (line_run bodies handler.object handler.operation)
+    → Asks shapes (λ s outcome. Unit {0}) handler (free true []) (line_run bodies handler.object handler.operation)

@@ -1,6 +1,7 @@
 -- Why a run goes on or ends, behind what was done before.
-use Rattle.std.proofs.Common.{◌≡◌, ◌∙◌, ◌≤◌, ◌+◌, ◌-◌, ℕ, Bool, true, List, Option, Some, None, Ok, Err, inl, inr, refl, sym, ap, subst, arith, length, length-append}
+use Rattle.std.proofs.Common.{◌≡◌, ◌∙◌, ◌≤◌, ◌+◌, ◌-◌, ℕ, Bool, true, List, [], Option, Some, None, Ok, Err, inl, inr, refl, sym, ap, subst, arith, append-nil, length, length-append}
 use Rattle.std.specs.Prelude.{◌⊎◌, IfErr, IfOk, IfSome, Result}
+use Rattle.std.specs.Io.KnownBytes.{Appends}
 use Rattle.std.proofs.lemmas.Bool.Decides.{nat_tests}
 use Rattle.rv_behind.specs.Events.{history_at}
 use Rattle.rv_feed.specs.Hearing.{Hears, IsStopped}
@@ -9,17 +10,21 @@ use Rattle.rv_feed.specs.declared.feed.Came.TheVariants.{Bytes, Nothing, Over}
 use Rattle.rv_feed.specs.declared.piece.Piece.{Piece}
 use Rattle.rv_follow.specs.Following.{IsKept}
 use Rattle.rv_follow.proofs.Growing.{goes_on}
+use Rattle.rv_history.specs.History.{History}
+use Rattle.rv_history.specs.Journal.{journal_text}
 use Rattle.rv_history.specs.declared.limits.Limits.{Limits}
 use Rattle.rv_input.specs.Coming.{Reading}
 use Rattle.rv_input.specs.Whole.{HasCommand}
 use Rattle.rv_input.specs.declared.fault.InputFault.{InputFault}
 use Rattle.rv_keep.specs.Keeping.{Known}
 use Rattle.rv_port.specs.Traces.{Passing, limits_in}
+use Rattle.rv_script.specs.Prefixes.{WritesPrefix}
 use Rattle.rv_run.specs.Beside.{Ended, IsOfRun}
 use Rattle.rv_run.specs.Staging.{Outcome}
 use Rattle.rv_run.specs.declared.command.Goes.{Goes}
 use Rattle.rv_run.specs.declared.command.Goes.TheVariants.{On, Out}
 use Rattle.rv_run.specs.declared.outputs.KeptFailure.{KeptFailure}
+use Rattle.rv_run.specs.declared.outputs.KeptFailure.TheVariants.{File, Run}
 use Rattle.rv_tally.specs.Guarding.{is_below}
 use Rattle.rv_attend.specs.Attending.{Grows}
 use Rattle.rv_attend.specs.Going.{ClosesAs, CommandComes, FailsToKeep, IsLow, Terms, UnlessStopped, entries_seen, terms}
@@ -146,3 +151,12 @@ any_ok (Err error) = tt
 pub closes_as : (x : Unit {0}) (result : Ended) → IfErr result FailsToKeep → ClosesAs (Ok x) result
 closes_as x (Ok y) fails = tt
 closes_as x (Err failure) fails = fails
+
+-- what else is written at the end fails
+pub closes_less : (served : Ended) (x : Unit {0}) (error : _) → ClosesAs served (Ok x) → ClosesAs served (Err (File error))
+closes_less (Ok y) x error closes = tt
+closes_less (Err (Run failure)) x error closes = absurd closes
+closes_less (Err (File other)) x error closes = absurd (cc closes)
+
+pub file_less : (opened now : Known) (h : History) → Appends opened now (journal_text h) → WritesPrefix opened now (journal_text h)
+file_less opened now h whole = record { prefix = journal_text h; rest = []; whole = sym (append-nil (journal_text h)); written = whole }

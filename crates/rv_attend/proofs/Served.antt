@@ -125,9 +125,9 @@ come_line {C} holds m n result line input left plain shorter comes serves = by_a
         )
     by_answer (Some answered) heeds carried =
         let so = heeds.plain plain in
-        again_so (holds m.chores).terms m.stage n.stage line input left so.1 result so.0 shorter comes so.2
-        (subst (λ (x : Moment C). AskedAgain (with_control (reads m input left).stage so.1) x.stage line result) (sym carried.0)
-        (subst (λ (o : Outcome). AskedAgain (with_control (reads m input left).stage so.1) serves.heeded.stage line o) (sym carried.1) so.3))
+        again_so (holds m.chores).terms m.stage n.stage line input left so.1.0 result so.0 shorter comes so.1.1
+        (subst (λ (x : Moment C). AskedAgain (with_control (reads m input left).stage so.1.0) x.stage line result) (sym carried.0)
+        (subst (λ (o : Outcome). AskedAgain (with_control (reads m input left).stage so.1.0) serves.heeded.stage line o) (sym carried.1) so.1.2))
 
 next : {C : Type 0} (holds : C → Holding) (m n : Moment C) (result : Outcome) → IsPlain (holds m.chores) → ServesNextWith (attended holds) m n result
     → ServesSo (holds m.chores).terms m.stage n.stage result

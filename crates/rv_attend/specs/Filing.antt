@@ -22,10 +22,14 @@ ended text = text ++ (if is_open text then 10 ∷ [] else [])
 abbrev pub section_text : SectionText → List ℕ
 section_text section = section.opening ++ (10 ∷ ended section.text)
 
--- those of some sections, in order
+-- what is kept of a section
+abbrev pub kept_section : SectionText → List ℕ
+kept_section section = if is_kept (opening_of section.opening) then section_text section else []
+
+-- what is kept of some, in order
 abbrev pub kept_text : List SectionText → List ℕ
 kept_text [] = []
-kept_text (section ∷ sections) = (if is_kept (opening_of section.opening) then section_text section else []) ++ kept_text sections
+kept_text (section ∷ sections) = kept_section section ++ kept_text sections
 
 -- the section of a unit that a command brought
 abbrev pub loaded_text : List ℕ → List ℕ

@@ -1,7 +1,7 @@
 //! Where a run lasts, a command for which there is no room is asked again behind an archive.
 
 ghost use Rattle.std.specs.Prelude.{◌≡◌, ◌⊎◌, [], List, ℕ, Ok, Some, IfNone, IfOk, IfSome, true};
-ghost use Rattle.rv_attend.specs.Again.{AskedAgain, Asks, InVain, TakesRoom, full_line};
+ghost use Rattle.rv_attend.specs.Again.{AskedAgain, Asks, InVain, IsRequest, TakesRoom, full_line};
 ghost use Rattle.rv_attend.specs.Chores.{ChoresIn};
 ghost use Rattle.rv_follow.specs.Following.{Later};
 ghost use Rattle.rv_input.specs.Coming.{Reading};
@@ -38,21 +38,38 @@ impl Asked {
     fn is_full(&self) -> bool
         ensures { result ≡ true → (self.now.next ≡ Ok Go) × (self.now.text.items ≡ full_line) }
     {
-        matches!(self.next, Ok(Next::Go)) && self.text.as_slice() == FULL
+        match &self.next {
+            Ok(Next::Go) => self.text.as_slice() == FULL,
+            _ => false,
+        }
     }
 }
 
-// Whether a command line takes room that may come again: a change of the list, or ticks.
-fn is_request(alloc: Global, line: &str) -> bool
+// Whether a command takes room that may come again: a change of the list, or ticks.
+fn is_request(order: &Order) -> bool
+    ensures { result ≡ true → IsRequest order.now }
+{
+    match order {
+        Order::Change(_) => true,
+        Order::Tick(_) => true,
+        _ => false,
+    }
+}
+
+// Whether a command line asks one of these.
+fn takes_room(alloc: Global, line: &str) -> bool
     ensures { result ≡ true → TakesRoom line.now }
 {
-    matches!(order_of(alloc, line), Ok(Order::Change(_) | Order::Tick(_)))
+    match order_of(alloc, line) {
+        Ok(order) => is_request(&order),
+        Err(_) => false,
+    }
 }
 
 // Carries a command line out. What is to be said of it is kept.
 #[tactic(auto, using(rv_shell::proofs::Serving::read_serves))]
 fn ask<T: Wait>(rt: &T, alloc: Global, staff: &mut Staff, line: &str) -> Asked
-    ensures asks { Asks staff.old.control staff.new.control line.now result.text.items result.next }
+    ensures serves { Serves (Some []) (Some result.text.items) staff.old.control staff.new.control (words line.now) result.next }
     ensures crew { staff.new.crew ≡ staff.old.crew }
 {
     let mut text = Vec::new(alloc);
@@ -76,7 +93,6 @@ fn make_room<T: Wait, F>(rt: &T, staff: &mut Staff, follower: &mut Follower<'_, 
 }
 
 // Carries a command line out, and once more behind an archive where there was no room.
-#[tactic(none)]
 fn ask_again<T: Wait, F>(
     rt: &T,
     session: &mut Session,
@@ -111,7 +127,6 @@ fn put<W: Write>(writer: &mut W, text: &[u8]) -> Result<Next, LineFault>
 }
 
 // What a command came to, once it is said. What there was no memory to keep is as an answer that there is none for.
-#[tactic(none)]
 fn told<W: Write>(asked: Asked, writer: &mut W) -> Result<Next, LineFault>
     ensures serves { (v w : Passing) → (line : List ℕ) → TakesRoom line → Asks v w line asked.text.items asked.next
         → Serves (W.contents writer.old) (W.contents writer.new) v w (words line) result }
@@ -121,13 +136,13 @@ fn told<W: Write>(asked: Asked, writer: &mut W) -> Result<Next, LineFault>
     match next {
         Ok(_) => put(writer, text.as_slice()),
         Err(LineFault::Worn) => Err(LineFault::Worn),
-        Err(LineFault::NoMemory | LineFault::Write(_)) => Err(LineFault::NoMemory),
+        Err(LineFault::NoMemory) => Err(LineFault::NoMemory),
+        Err(LineFault::Write(_)) => Err(LineFault::NoMemory),
     }
 }
 
 /// Carries out a command that takes room, where the run lasts: where there is none, entries are given up that the file has, and it is asked
 /// again. None of another command, which is carried out as in any run.
-#[tactic(none)]
 pub(crate) fn answer_request<T: Wait, W: Write, F>(
     rt: &T,
     session: &mut Session,
@@ -145,7 +160,10 @@ pub(crate) fn answer_request<T: Wait, W: Write, F>(
     ensures room { follower.new.room ≡ follower.old.room }
     ensures source { follower.new.source ≡ follower.old.source }
 {
-    if !follower.asked.lasting || !is_request(session.alloc, line) {
+    if !follower.asked.lasting {
+        return None;
+    }
+    if !takes_room(session.alloc, line) {
         return None;
     }
     let asked = ask_again(rt, session, follower, line);

@@ -2,7 +2,7 @@
 
 ghost use Rattle.std.specs.Prelude.{◌≡◌, ◌<◌, ◌^◌, ◌++◌, ◌∷◌, [], IfOk, OnOk, length, string_bytes};
 ghost use Rattle.std.specs.Io.KnownBytes.{Appends};
-ghost use Rattle.rv_attend.specs.Filing.{ended, is_kept, is_open, kept_text, loaded_text, section_text};
+ghost use Rattle.rv_attend.specs.Filing.{ended, is_kept, is_open, kept_section, kept_text, loaded_text, section_text};
 ghost use Rattle.rv_script.specs.Openings.{opening_of};
 ghost use Rattle.rv_script.specs.Prefixes.{WritesPrefix};
 ghost use Rattle.rv_text.specs.Sections.{sections_of};
@@ -126,6 +126,17 @@ fn push_section(all: &mut String, section: &Section<'_>) -> Result<(), AllocErro
     })
 }
 
+// Pushes a section behind others, where it is kept.
+fn push_kept(all: &mut String, section: &Section<'_>) -> Result<(), AllocError>
+    ensures { OnOk result (string_bytes all.new ≡ string_bytes all.old ++ kept_section (record { line = section.now.line; opening = section.now.opening.now; text = section.now.text.now })) }
+{
+    if is_kept(opening_of(section.opening)) {
+        push_section(all, section)
+    } else {
+        Ok(())
+    }
+}
+
 // The sections of a script that are kept: settings and units.
 fn kept_text(alloc: Global, script: &str) -> Result<String, AllocError>
     requires { length script.now < 2 ^ 63 }
@@ -134,9 +145,7 @@ fn kept_text(alloc: Global, script: &str) -> Result<String, AllocError>
     let (_, mut sections) = open_script(script);
     let mut all = String::new(alloc);
     'each: while let Some(section) = sections.next_section() {
-        if is_kept(opening_of(section.opening)) {
-            push_section(&mut all, &section)?;
-        }
+        push_kept(&mut all, &section)?;
     }
     Ok(all)
 }
@@ -169,16 +178,32 @@ pub(crate) fn keep_sections<F: Write>(
     kept
 }
 
-// Keeps the unit of the last command `load`, where it was loaded: there are more units than before.
-fn keep_loaded<F: Write>(alloc: Global, filed: &mut Filed<F>, units: usize) -> io::Result<()> {
+// Writes the unit text of the last command `load`. It wasn't read only where memory for it was refused.
+fn put_loaded<F: Write>(alloc: Global, filed: &mut Filed<F>) -> io::Result<()> {
+    let Some(file) = &mut filed.units else {
+        return Ok(());
+    };
+    match &filed.loading {
+        Some(text) => put_made(file, loaded_text(alloc, text.as_str())),
+        None => Err(io::Error::from(ErrorKind::OutOfMemory)),
+    }
+}
+
+/// Keeps the unit of the last command `load`, where it was loaded: there are more units than before.
+pub(crate) fn keep_loaded<F: Write>(
+    alloc: Global,
+    filed: &mut Filed<F>,
+    units: usize,
+) -> io::Result<()> {
     if units <= filed.loaded {
         return Ok(());
     }
     filed.loaded = units;
-    let (Some(file), Some(text)) = (&mut filed.units, &filed.loading) else {
-        return Ok(());
-    };
-    put_made(file, loaded_text(alloc, text.as_str()))
+    let kept = put_loaded(alloc, filed);
+    if kept.is_err() {
+        filed.failed = Some(Beside::Units);
+    }
+    kept
 }
 
 // Whether a second went by since entries had their time.
@@ -219,18 +244,13 @@ fn stamp<R: Clock, F: Write>(
     }
 }
 
-/// Keeps a unit that came, and where it is time for that, at a command and once a second, by when the entries up to one were written.
-pub(crate) fn keep_beside<R: Clock, F: Write>(
+/// Writes, where it is time for that, at a command and once a second, by when the entries up to one were written.
+pub(crate) fn keep_times<R: Clock, F: Write>(
     rt: &R,
     alloc: Global,
     filed: &mut Filed<F>,
-    units: usize,
     entries: usize,
 ) -> io::Result<()> {
-    if let Err(e) = keep_loaded(alloc, filed, units) {
-        filed.failed = Some(Beside::Units);
-        return Err(e);
-    }
     if entries <= filed.stamped || !(filed.is_commanded || is_late(rt, filed.stamped_at)) {
         return Ok(());
     }

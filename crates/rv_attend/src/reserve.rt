@@ -10,7 +10,7 @@ use crate::archiving::small_line;
 use crate::attention::Attention;
 use crate::letting::{least_with, tasks_in};
 use crate::viewing::view_of;
-use rv_code::unit::Unit;
+use rv_code::Unit;
 use rv_fault::text_unit;
 use rv_input::Input;
 use rv_room::Books;

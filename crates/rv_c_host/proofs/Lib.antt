@@ -1,2 +1,3 @@
 mod Unrecorded
 mod Coming
+mod Ending

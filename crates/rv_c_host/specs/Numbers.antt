@@ -3,7 +3,7 @@ use Rattle.std.specs.Prelude.{ℕ, ℤ, pos, negsuc, List, [], length, Some, Non
 use Rattle.rv_event.specs.declared.entry.Answer.{Answer}
 use Rattle.rv_event.specs.declared.entry.Answer.TheVariants.{Started, Queued, Refused, Done, Suspended, Delayed, Woken, Accepted}
 use Rattle.rv_event.specs.declared.entry.Answer.TheVariants.{Misuse, Halted, Full, Busy, Waiting, Unattached, BadLine, OutOfMemory}
-use Rattle.rv_event.specs.declared.entry.Next.TheVariants.{Nothing, HandedTo, Dropped}
+use Rattle.rv_event.specs.declared.entry.Next.TheVariants.{HandedTo, Dropped}
 use Rattle.rv_event.specs.declared.entry.Rule.{Rule}
 use Rattle.rv_event.specs.declared.entry.Rule.TheVariants.{Grant, Blocking, Reentry, Ceiling, Queue, Waiter}
 use Rattle.rv_c_text.specs.Laid.{laid}
@@ -103,4 +103,17 @@ told_of answer before = record {
   count = length (scalars_of answer);
   value = value_of answer;
   scalars = laid (scalars_of answer) before.scalars;
+}
+
+-- the caller's answer of this kind, where it has components alone, if it has any part
+abbrev pub bare : ℤ → List ℤ → Told → Told
+bare kind values before = record {
+  kind = kind;
+  rule = pos 0;
+  line = 0;
+  version = 0;
+  actor = 0;
+  count = length values;
+  value = pos 0;
+  scalars = laid values before.scalars;
 }

@@ -1,7 +1,8 @@
 //! Asking a request of the host behind a handle.
 
-ghost use Rattle.std.specs.Prelude.{◌≡◌};
-ghost use Rattle.rv_event.specs.declared.entry.Request.TheVariants.{DelayUntil};
+ghost use Rattle.std.specs.Prelude.{◌≡◌, ◌≤◌, [], length};
+ghost use Rattle.rv_event.specs.declared.entry.Exit.{Exit};
+ghost use Rattle.rv_event.specs.declared.entry.Request.TheVariants.{Complete, DelayUntil};
 ghost use Rattle.rv_c_host.specs.Asked as asked;
 ghost use Rattle.rv_c_host.specs.Asked.{Asks, AsksIf, FiresLine, GoesOn, Orders};
 
@@ -27,10 +28,11 @@ pub fn plain(
 ) -> i32
     ensures { Asks actor request.now handle.old.value handle.new.value told.old told.new result }
 {
+    // First of all, since what is cleared at the same time is cleared at once.
+    let mut answer = Answer::Started(Scalars::new());
     let Some(mut kept) = handle.take(alloc) else {
         return NO_HOST;
     };
-    let mut answer = Answer::Started(Scalars::new());
     kept.host.put_answer(actor, request, &mut answer);
     handle.put(kept);
     tell(&answer, told)
@@ -49,64 +51,22 @@ pub fn command(alloc: Global, handle: &mut Handle, request: &Request) -> i32
     kind_of(&answer)
 }
 
-// Asks what may be no request.
-fn ask_if(
-    alloc: Global,
-    handle: &mut Handle,
-    actor: usize,
-    request: Option<Request>,
-    told: &mut Told,
-) -> i32
-    ensures { AsksIf actor request handle.old.value handle.new.value told.old told.new result }
-{
-    match request {
-        Some(request) => plain(alloc, handle, actor, &request, told),
-        None => BAD_REQUEST,
-    }
-}
-
-// The call of an operation of an object, with as many values as a call may have.
-fn call_of(target: Target, values: &[i64]) -> Option<Request>
-    ensures { result ≡ asked.call_of target.object target.operation values.now }
-{
-    if values.len() <= MOST_ARGS {
-        let values = Args::from_slice(values);
-        Some(Request::Call(target.object, target.operation, values))
-    } else {
-        None
-    }
-}
-
-// How a body ends, by a number from 0.
+// How a body ends, by a number from 0. Each way is made where it is taken, since values are large.
 fn exit_of(number: u32, values: Args) -> Option<Exit>
     ensures { result ≡ asked.exit_of number values }
 {
-    let exits = [
-        Exit::Return(values),
-        Exit::Raise(Exception::ConstraintError),
-        Exit::Raise(Exception::ProgramError),
-        Exit::Raise(Exception::AccessDenied),
-        Exit::Overrun,
-        Exit::Stopped,
-    ];
-    exits.get(number as usize).copied()
-}
-
-// The end of a body that leaves these components.
-fn end_of(scalars: &[i64], number: u32, values: &[i64]) -> Option<Request>
-    ensures { result ≡ asked.end_of scalars.now number values.now }
-{
-    if scalars.len() <= MOST_SCALARS && values.len() <= MOST_ARGS {
-        match exit_of(number, Args::from_slice(values)) {
-            Some(exit) => Some(Request::Complete(Scalars::from_slice(scalars), exit)),
-            None => None,
-        }
-    } else {
-        None
+    match number {
+        0 => Some(Exit::Return(values)),
+        1 => Some(Exit::Raise(Exception::ConstraintError)),
+        2 => Some(Exit::Raise(Exception::ProgramError)),
+        3 => Some(Exit::Raise(Exception::AccessDenied)),
+        4 => Some(Exit::Overrun),
+        5 => Some(Exit::Stopped),
+        _ => None,
     }
 }
 
-/// Calls an operation of an object.
+/// Calls an operation of an object, with as many values as a call may have.
 pub fn call(
     alloc: Global,
     handle: &mut Handle,
@@ -117,10 +77,38 @@ pub fn call(
 ) -> i32
     ensures { AsksIf actor (asked.call_of target.object target.operation values.now) handle.old.value handle.new.value told.old told.new result }
 {
-    ask_if(alloc, handle, actor, call_of(target, values), told)
+    if values.len() > MOST_ARGS {
+        return BAD_REQUEST;
+    }
+    let values = Args::from_slice(values);
+    let request = Request::Call(target.object, target.operation, values);
+    plain(alloc, handle, actor, &request, told)
 }
 
-/// Ends the innermost body of an actor.
+// Puts these components where there are none yet.
+fn fill(given: &mut Scalars, scalars: &[i64])
+    requires none { given.old ≡ [] }
+    requires within { length scalars.now ≤ 32 }
+    ensures { given.new ≡ scalars.now }
+{
+    for value in scalars {
+        given.push(*value);
+    }
+}
+
+// Gives the end of a body, which has no components yet, these: in place, since they are large.
+fn give(request: &mut Request, scalars: &[i64])
+    requires within { length scalars.now ≤ 32 }
+    requires end { (exit : Exit) × (request.old ≡ Complete [] exit) }
+    ensures { (exit : Exit) → request.old ≡ Complete [] exit → request.new ≡ Complete scalars.now exit }
+{
+    match request {
+        Request::Complete(given, _) => fill(given, scalars),
+        _ => {}
+    }
+}
+
+/// Ends the innermost body of an actor, which leaves as many components as an object may have.
 pub fn end(
     alloc: Global,
     handle: &mut Handle,
@@ -132,7 +120,15 @@ pub fn end(
 ) -> i32
     ensures { AsksIf actor (asked.end_of scalars.now number values.now) handle.old.value handle.new.value told.old told.new result }
 {
-    ask_if(alloc, handle, actor, end_of(scalars, number, values), told)
+    if scalars.len() > MOST_SCALARS || values.len() > MOST_ARGS {
+        return BAD_REQUEST;
+    }
+    let Some(exit) = exit_of(number, Args::from_slice(values)) else {
+        return BAD_REQUEST;
+    };
+    let mut request = Request::Complete(Scalars::new(), exit);
+    give(&mut request, scalars);
+    plain(alloc, handle, actor, &request, told)
 }
 
 /// Delays an actor until a time in ticks.

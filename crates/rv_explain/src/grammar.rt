@@ -1,5 +1,6 @@
 //! The cause of a fault of the grammar, from its reason.
 
+use crate::habits::{between, habit};
 use rv_cause::around::Around;
 use rv_cause::cause::Cause;
 use rv_cause::grammar::other_ada;
@@ -32,6 +33,16 @@ fn deed_of(word: Option<Kind>) -> &'static str {
         Some(Kind::Dot) => "stands within names",
         Some(Kind::DoubleDot) => "parts the bounds of a range",
         _ => "",
+    }
+}
+
+// The end of a statement in one word, by the word that opens it.
+fn joined_of(word: Kind) -> Option<&'static str> {
+    match word {
+        Kind::If => Some("endif"),
+        Kind::Case => Some("endcase"),
+        Kind::Loop => Some("endloop"),
+        _ => None,
     }
 }
 
@@ -95,6 +106,11 @@ impl<'a> Stop<'_, 'a> {
     fn of_missing(&self, at: usize, word: Kind) -> Cause<'a> {
         let words = Words::at(self.tokens, at);
         let before = words.back(1);
+        if word == Kind::Semicolon && at == self.at {
+            if let Some(cause) = between(&words, &self.around) {
+                return cause;
+            }
+        }
         match word {
             Kind::Literal => Cause::of(at, "a value is missing behind `{0}`", before),
             Kind::Identifier => Cause::of(at, "a name is missing behind `{0}`", before),
@@ -118,8 +134,24 @@ impl<'a> Stop<'_, 'a> {
         of_three(crossed.at, said, inner, word, outer).with_other(crossed.opener.at)
     }
 
+    // Where the end of a statement is written in one word, behind what opened it, if it is.
+    fn joined(&self, opener: Opener) -> Option<Cause<'a>> {
+        let wrong = joined_of(opener.word)?;
+        for token in self.tokens {
+            let is_between = token.place > opener.at && token.place < self.at;
+            if is_between && token.text.eq_ignore_ascii_case(wrong) {
+                let said = "`{0}` is written in two words: end {1} (5.3)";
+                return Some(Cause::pair(token.place, said, token.text, opener.word.spelling()));
+            }
+        }
+        None
+    }
+
     // That a construct has no end.
     fn no_end(&self, opener: Opener) -> Cause<'a> {
+        if let Some(cause) = self.joined(opener) {
+            return cause;
+        }
         let said = "`end {0}` is missing for the `{1}` of line {line}";
         let name = self.name_of(opener);
         Cause::pair(self.at, said, name, opener.word.spelling()).with_other(opener.at)
@@ -149,6 +181,17 @@ impl<'a> Stop<'_, 'a> {
         Cause::pair(self.at, said, word, unit)
     }
 
+    // Whether `then` stands between what opened an if statement and the word at fault.
+    fn has_then(&self, opener: Opener) -> bool {
+        for token in self.tokens {
+            let is_between = token.place > opener.at && token.place < self.at;
+            if is_between && token.kind == Kind::Then {
+                return true;
+            }
+        }
+        false
+    }
+
     // What is wrong where no small change helps.
     fn without_mend(&self, opener: Option<Opener>) -> Cause<'a> {
         let Some(opener) = opener else {
@@ -156,6 +199,10 @@ impl<'a> Stop<'_, 'a> {
         };
         if is_further_out(self.words.kind()) {
             return self.no_end(opener);
+        }
+        if opener.word == Kind::If && !self.has_then(opener) {
+            let said = "`then` is wanted behind the condition; `{0}` can't stand there (5.3)";
+            return Cause::of(self.at, said, self.words.word(0));
         }
         let said = "`{0}` can't stand behind `{1}` here (docs/GRAMMAR.md)";
         Cause::pair(self.at, said, self.words.word(0), self.words.back(1))
@@ -177,6 +224,9 @@ impl<'a> Stop<'_, 'a> {
     pub(crate) fn cause(&self, reason: &Reason) -> Cause<'a> {
         if let Some(crossed) = reason.crossed {
             return self.of_crossed(crossed);
+        }
+        if let Some(cause) = habit(&self.words, &self.around) {
+            return cause;
         }
         if let Some(cause) = other_ada(&self.words, &self.around) {
             return cause;

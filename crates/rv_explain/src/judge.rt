@@ -12,7 +12,7 @@ use rv_cause::words::Words;
 use rv_fault::Part;
 use rv_further::further;
 use rv_judged::judged::Judged;
-use rv_judged::{names, restrictions, types, unknown};
+use rv_judged::{bodies, elsewhere, names, restrictions, types, unknown, wrong};
 use rv_lex::token::Token;
 use rv_names::NameFault;
 use rv_names::resolve::resolve;
@@ -87,6 +87,35 @@ fn of_restriction<'a>(
     }
 }
 
+// The cause of a name that nothing is declared by.
+fn of_unknown<'a>(
+    alloc: Global,
+    seen: &Seen<'_, 'a, '_>,
+    judged: &Judged<'_, '_, '_, 'a>,
+) -> Result<Cause<'a>, AllocError> {
+    let words = &seen.words;
+    if let Some(cause) = members::unknown(words, &seen.around, seen.known) {
+        return Ok(cause);
+    }
+    if let Some(cause) = elsewhere::unknown(seen.tokens, words, &seen.around, judged) {
+        return Ok(cause);
+    }
+    unknown::unknown(alloc, words, &seen.around, judged)
+}
+
+// The cause of what can't stand where it does, or has no body.
+fn of_wrong<'a>(
+    alloc: Global,
+    seen: &Seen<'_, 'a, '_>,
+    judged: &Judged<'_, '_, '_, 'a>,
+) -> Result<Cause<'a>, AllocError> {
+    let words = &seen.words;
+    match bodies::misspelt(alloc, seen.tokens, words, &seen.around, seen.known)? {
+        Some(cause) => Ok(cause),
+        None => Ok(wrong::wrong_kind(words, &seen.around, judged)),
+    }
+}
+
 // The cause of a fault of names.
 fn of_names<'a>(
     alloc: Global,
@@ -96,15 +125,12 @@ fn of_names<'a>(
 ) -> Result<Cause<'a>, AllocError> {
     let words = &seen.words;
     match fault {
-        NameFault::Unknown(_) => match members::unknown(words, &seen.around, seen.known) {
-            Some(cause) => Ok(cause),
-            None => unknown::unknown(alloc, words, &seen.around, judged),
-        },
+        NameFault::Unknown(_) => of_unknown(alloc, seen, judged),
         NameFault::Duplicate(_) => Ok(names::duplicate(words, &seen.around, seen.known)),
         NameFault::NotVisible(_) => {
             Ok(names::not_visible(seen.tokens, words, &seen.around, judged))
         }
-        NameFault::WrongKind(_) => Ok(names::wrong_kind(words, &seen.around, judged)),
+        NameFault::WrongKind(_) => of_wrong(alloc, seen, judged),
         NameFault::EndName(_) => Ok(names::end_name(seen.tokens, words)),
         NameFault::NoMemory => Ok(Cause::plain(0, NO_MEMORY)),
     }
@@ -121,7 +147,7 @@ fn of_types<'a>(
     let words = &seen.words;
     match fault {
         TypeFault::Mismatch(_) => {
-            let (operand, whole) = wanted_types(alloc, judge.text, words)?;
+            let (operand, whole) = wanted_types(alloc, judge.text, judge.catalogue, words)?;
             Ok(types::mismatch(words, &seen.around, judged, operand, whole))
         }
         TypeFault::NotStatic(_) => Ok(types::not_static(words)),

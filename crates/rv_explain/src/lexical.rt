@@ -6,7 +6,7 @@ use rv_cause::words::Words;
 use rv_misread::{NameReason, NumberReason, name_reason, number_reason};
 
 // What is said of a character, by what stands there.
-const CHARACTERS: [Form; 5] = [
+const CHARACTERS: [Form; 12] = [
     Form {
         word: "\"",
         said: "there are no strings here, nor characters in quotes (2.6)",
@@ -27,6 +27,34 @@ const CHARACTERS: [Form; 5] = [
         word: "_",
         said: "a name begins with a letter, and no underscore (2.3)",
     },
+    Form {
+        word: "!",
+        said: "! is no operator in Ada: write not (4.5.6)",
+    },
+    Form {
+        word: "%",
+        said: "% is no operator in Ada: write mod or rem (4.5.5)",
+    },
+    Form {
+        word: "#",
+        said: "a comment begins with -- in Ada (2.7)",
+    },
+    Form {
+        word: "{",
+        said: "there are no braces in Ada: words as is, begin, then and loop open what an end closes",
+    },
+    Form {
+        word: "}",
+        said: "there are no braces in Ada: words as is, begin, then and loop open what an end closes",
+    },
+    Form {
+        word: "[",
+        said: "there are no square brackets here, nor arrays (3.6)",
+    },
+    Form {
+        word: "\\",
+        said: "a backslash stands in comments only (2.1)",
+    },
 ];
 
 const RELATIVE: &str =
@@ -34,6 +62,17 @@ const RELATIVE: &str =
 
 const REAL: &str =
     "{1} isn't in the part of Ada that is taken here, nor are fractions, as {0}: write Integer in smaller units, as hundredths";
+
+const PRIORITY: &str = "{0} has a fraction; a priority is a whole number, {1} here (D.1)";
+
+// The priorities that the aspect or the pragma takes whose value stands here.
+fn bounds_of<'w>(words: &Words<'_, '_>) -> &'w str {
+    if words.was(2, "Priority") {
+        "1 .. 40"
+    } else {
+        "31 .. 40"
+    }
+}
 
 // What stands from a byte of a text on.
 fn rest_from(text: &str, at: usize) -> &str {
@@ -102,6 +141,9 @@ pub(crate) fn bad_fraction<'a>(
     if before.was(1, "delay") {
         return Some(Cause::plain(at, RELATIVE));
     }
+    if before.fit("Priority|Interrupt_Priority =>|( ^_") {
+        return Some(Cause::pair(at, PRIORITY, front_of(rest), bounds_of(before)));
+    }
     if before.fit("Float|Long_Float|Duration := ^_") {
         return Some(Cause::pair(at, REAL, front_of(rest), before.back(2)));
     }
@@ -119,6 +161,10 @@ fn shown_of(rest: &str, reason: NumberReason) -> &str {
 /// Why digits are no number.
 pub(crate) fn bad_number<'a>(text: &'a str, at: usize) -> Cause<'a> {
     let rest = rest_from(text, at);
+    if let Some(("0", digits)) = front_of(rest).split_once('x') {
+        let said = "a number of the base 16 has another form in Ada: write 16#{0}# (2.4.2)";
+        return Cause::of(at, said, digits);
+    }
     let reason = number_reason(rest.as_bytes()).unwrap_or(NumberReason::Letter);
     Cause::of(at, said_of_number(reason), shown_of(rest, reason))
 }

@@ -11,6 +11,7 @@ mod excerpt;
 mod explanation;
 mod finding;
 mod grammar;
+mod habits;
 mod judge;
 mod lexical;
 mod line;

@@ -57,10 +57,46 @@ fn said_of(reason: LineReason) -> &'static str {
     }
 }
 
+const COMMENT: &str = "a comment of a list has a line of its own, which begins with #";
+
+// What is said of a word that stands behind a list's operation, but is no window.
+fn behind_operation<'a>(line: &Line<'a>, first: usize, number: usize) -> Option<Cause<'a>> {
+    let object = first.saturating_add(2);
+    let operation = first.saturating_add(3);
+    let window = first.saturating_add(4);
+    if line.word(window).starts_with("#") || line.word(window).starts_with("--") {
+        return Some(line.cause(window, COMMENT));
+    }
+    if line.word(operation).ends_with(",") {
+        let said = "a line of a list has one operation: write a line of its own for each";
+        return Some(line.cause(operation, said));
+    }
+    let word = line.word(object);
+    if is_identifier(word) && is_identifier(line.word(operation)) && number == window {
+        let said = "an object has its unit and a point before it: write {0}.{1}";
+        return Some(Cause::pair(line.at(object), said, word, line.word(operation)));
+    }
+    None
+}
+
+// What is said of a word that begins no line.
+fn said_of_first(word: &str) -> &'static str {
+    if word.starts_with("--") || word.starts_with("//") {
+        COMMENT
+    } else {
+        said_of(LineReason::NoVerb)
+    }
+}
+
 // What is said of a line whose first word of the list has a number.
 fn told<'a>(line: &Line<'a>, first: usize, reason: LineReason) -> Cause<'a> {
     let number = line.count().min(first.saturating_add(word_of(reason)));
     match reason {
+        LineReason::NoVerb => line.cause(number, said_of_first(line.word(number))),
+        LineReason::NoFrom | LineReason::NoWindow => match behind_operation(line, first, number) {
+            Some(cause) => cause,
+            None => line.cause(number, said_of(reason)),
+        },
         LineReason::NoObject => no_object(line, number),
         LineReason::Empty => {
             let low = line.word(number.saturating_sub(2));

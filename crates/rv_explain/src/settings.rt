@@ -111,10 +111,40 @@ fn no_key<'a>(
     }
 }
 
-// What is said by a reason.
-fn told<'a>(alloc: Global, reason: SettingsReason<'a>) -> Result<Cause<'a>, AllocError> {
+// The line of a text that a byte stands in.
+fn line_at(text: &str, at: usize) -> &str {
+    let front = text.get(..at).unwrap_or("");
+    let before = match front.rsplit_once('\n') {
+        Some((_, behind)) => behind,
+        None => front,
+    };
+    let start = front.len().saturating_sub(before.len());
+    let rest = text.get(start..).unwrap_or("");
+    match rest.split_once('\n') {
+        Some((line, _)) => line,
+        None => rest,
+    }
+}
+
+// What is said of a line that is no TOML.
+fn said_of_line(line: &str) -> &'static str {
+    if line.contains("--") || line.contains("//") {
+        "a comment of settings begins with #"
+    } else if line.contains(":") && !line.contains("=") {
+        "`=` stands between a key and its value: write key = value"
+    } else {
+        NOT_TOML
+    }
+}
+
+// What is said of a text by a reason.
+fn told<'a>(
+    alloc: Global,
+    text: &str,
+    reason: SettingsReason<'a>,
+) -> Result<Cause<'a>, AllocError> {
     match reason {
-        SettingsReason::NotToml(at) => Ok(Cause::plain(at, NOT_TOML)),
+        SettingsReason::NotToml(at) => Ok(Cause::plain(at, said_of_line(line_at(text, at)))),
         SettingsReason::NoKey(at, is_of_device, key) => no_key(alloc, at, is_of_device, key),
         SettingsReason::NoTable(at, word) => {
             Ok(Cause::of(at, "unknown table {0}; devices are [[device]]", word))
@@ -141,7 +171,7 @@ pub(crate) fn cause_of_settings(
         SettingsFault::BadValue => (bad_value(alloc, text)?, OTHER_VALUE),
     };
     match reason {
-        Some(reason) => told(alloc, reason),
+        Some(reason) => told(alloc, text, reason),
         None => Ok(Cause::plain(0, other)),
     }
 }

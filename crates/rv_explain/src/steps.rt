@@ -99,6 +99,10 @@ fn told<'a>(line: &Line<'a>, reason: StepReason) -> Cause<'a> {
             let said = "nothing may stand behind {0}; {1} does";
             Cause::pair(line.at(2), said, request, line.word(2))
         }
+        StepReason::NoOperation if line.word(3).contains("(") => line.cause(
+            3,
+            "the values of a call stand behind the operation, with blanks before them and no parentheses",
+        ),
         StepReason::NotOperator => { line.cause(0, "{0} can't change the list; the operator does") }
         StepReason::Other(number) => {
             let said = said_of(&REQUESTS, request).unwrap_or(NUMBERED);

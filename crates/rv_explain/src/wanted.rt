@@ -52,15 +52,20 @@ fn is_behind(fault: UnitFault, end: usize) -> bool {
     }
 }
 
-// Whether an expression of a text is right with a value in place of a part of it; the text may name no other unit.
-fn fits(alloc: Global, text: &str, span: Span, value: &str) -> Result<bool, AllocError> {
+// Whether an expression of a text is right with a value in place of a part of it, over the units that are loaded before it.
+fn fits(
+    alloc: Global,
+    text: &str,
+    catalogue: &Catalogue,
+    span: Span,
+    value: &str,
+) -> Result<bool, AllocError> {
     let front = text.get(..span.at).unwrap_or("");
     let behind = text.get(span.end..).unwrap_or("");
     let changed = format!(in alloc; "{front}{value}{behind}")?;
     let rest = span.whole.saturating_sub(span.end);
     let end = span.at.saturating_add(value.len()).saturating_add(rest);
-    let catalogue = Catalogue::new(alloc);
-    match compile(alloc, changed.as_str(), &catalogue) {
+    match compile(alloc, changed.as_str(), catalogue) {
         Ok(_) => Ok(true),
         Err(fault) => Ok(is_behind(fault, end)),
     }
@@ -100,6 +105,7 @@ fn end_of(words: &Words<'_, '_>, is_whole: bool) -> usize {
 fn fitting(
     alloc: Global,
     text: &str,
+    catalogue: &Catalogue,
     words: &Words<'_, '_>,
     is_whole: bool,
 ) -> Result<&'static str, AllocError> {
@@ -109,23 +115,24 @@ fn fitting(
         whole: end_of(words, true),
     };
     for value in &VALUES {
-        if fits(alloc, text, span, value.word)? {
+        if fits(alloc, text, catalogue, span, value.word)? {
             return Ok(value.name);
         }
     }
     Ok("")
 }
 
-/// The type that is wanted where a name or a literal of another stands, or else where the expression does that it begins; empty where
-/// that isn't known, as where the text names other units. Err where memory was refused.
+/// The type that is wanted where a name or a literal of another stands, or else where the expression does that it begins, over the units
+/// that are loaded before the text; empty where that isn't known. Err where memory was refused.
 pub(crate) fn wanted_types(
     alloc: Global,
     text: &str,
+    catalogue: &Catalogue,
     words: &Words<'_, '_>,
 ) -> Result<(&'static str, &'static str), AllocError> {
-    match fitting(alloc, text, words, false)? {
+    match fitting(alloc, text, catalogue, words, false)? {
         "" => {
-            let whole = fitting(alloc, text, words, true)?;
+            let whole = fitting(alloc, text, catalogue, words, true)?;
             Ok(("", whole))
         }
         operand => Ok((operand, "")),

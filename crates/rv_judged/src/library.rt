@@ -1,10 +1,12 @@
 //! What the predefined library packages declare.
 
+use rv_cause::known::near_among;
 use rv_cause::words::is_among;
 use rv_scope::Library;
+use std::alloc::{AllocError, Global};
 
 /// The predefined names that are near to a word's spelling, to look among.
-pub const NAMES: [&str; 17] = [
+pub const NAMES: [&str; 21] = [
     "Integer",
     "Natural",
     "Positive",
@@ -22,6 +24,10 @@ pub const NAMES: [&str; 17] = [
     "Set_False",
     "Current_State",
     "Suspend_Until_True",
+    "Ada",
+    "System",
+    "Standard",
+    "Host",
 ];
 
 // What is said of names, with `|` between them.
@@ -110,5 +116,61 @@ pub fn name_of(library: Library) -> &'static str {
         Library::Interrupts => "Ada.Interrupts",
         Library::InterruptNames => "Ada.Interrupts.Names",
         Library::Host => "Host",
+    }
+}
+
+// The library packages that a context clause names.
+const PACKAGES: [&str; 5] = [
+    "Ada.Real_Time",
+    "Ada.Synchronous_Task_Control",
+    "Ada.Interrupts.Names",
+    "System",
+    "Host",
+];
+
+/// The library package that a context clause may name whose name is nearest to this one; empty where none is near.
+pub fn near_package(alloc: Global, name: &str) -> Result<&'static str, AllocError> {
+    near_among(alloc, name, &PACKAGES)
+}
+
+const REAL_TIME: [&str; 4] = ["Time", "Time_Span", "Clock", "Milliseconds"];
+
+const TASK_CONTROL: [&str; 5] = [
+    "Suspension_Object",
+    "Set_True",
+    "Set_False",
+    "Current_State",
+    "Suspend_Until_True",
+];
+
+const PRIORITIES: [&str; 4] = [
+    "Priority",
+    "Interrupt_Priority",
+    "Any_Priority",
+    "Default_Priority",
+];
+
+/// Of the names that a library package declares the one that is nearest to a word; empty where none is near.
+pub fn near_in(alloc: Global, library: Library, word: &str) -> Result<&'static str, AllocError> {
+    match library {
+        Library::RealTime => near_among(alloc, word, &REAL_TIME),
+        Library::SynchronousTaskControl => near_among(alloc, word, &TASK_CONTROL),
+        Library::System => near_among(alloc, word, &PRIORITIES),
+        Library::Host => near_among(alloc, word, &["Access_Denied"]),
+        _ => Ok(""),
+    }
+}
+
+/// What a library package declares that is known here, in words; empty where that is said of none.
+pub fn held_by(library: Library) -> &'static str {
+    match library {
+        Library::RealTime => "Time, Time_Span, Clock and Milliseconds",
+        Library::SynchronousTaskControl => {
+            "Suspension_Object, Set_True, Set_False, Current_State and Suspend_Until_True"
+        }
+        Library::System => "Priority, Interrupt_Priority, Any_Priority and Default_Priority",
+        Library::InterruptNames => "Int_0 .. Int_9",
+        Library::Host => "Access_Denied",
+        _ => "",
     }
 }

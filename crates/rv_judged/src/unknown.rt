@@ -2,21 +2,21 @@
 
 use crate::judged::Judged;
 use crate::library;
-use crate::names::is_body;
+use crate::wrong::is_body;
 use rv_cause::around::Around;
 use rv_cause::cases::{Case, Within, first_of};
 use rv_cause::cause::Cause;
 use rv_cause::declared::Declared;
-use rv_cause::forms::{Form, said_of_name};
+use rv_cause::forms::{Form, is_listed, said_of_name};
 use rv_cause::known::{Group, Known, near_among};
 use rv_cause::words::Words;
-use rv_scope::Declared as Meaning;
+use rv_scope::{Declared as Meaning, Library};
 use rv_seen::{Stop, nearest_seen};
 use rv_text::is_same_name;
 use std::alloc::{AllocError, Global};
 
 // What is said of an attribute, and of a body that has no declaration.
-const CASES: [Case; 3] = [
+const CASES: [Case; 4] = [
     Case {
         within: Within::Anywhere,
         words: "' ^_",
@@ -32,6 +32,11 @@ const CASES: [Case; 3] = [
         words: "body ^_",
         said: "nothing named {0} is declared that this is the body of (3.11.1)",
     },
+    Case {
+        within: Within::Anywhere,
+        words: "accept ^_",
+        said: "there is no entry {0}: tasks have none here, and accept nothing (D.7)",
+    },
 ];
 
 const FLOAT: &str =
@@ -42,8 +47,8 @@ const TEXT: &str =
 
 const CLOCK: &str = "this host's clock counts milliseconds: write Milliseconds (..) (D.8)";
 
-// Names of Ada that this host doesn't have.
-const OTHER: [Form; 12] = [
+// Names of Ada that this host doesn't have, and names of other languages.
+const OTHER: [Form; 18] = [
     Form {
         word: "Float",
         said: FLOAT,
@@ -92,6 +97,30 @@ const OTHER: [Form; 12] = [
         word: "Put_Line",
         said: "this host has no Put_Line: units neither read nor write texts",
     },
+    Form {
+        word: "Bool",
+        said: "the type of truth values is Boolean in Ada: write Boolean (3.5.3)",
+    },
+    Form {
+        word: "Int",
+        said: "the type of whole numbers is Integer in Ada: write Integer (3.5.4)",
+    },
+    Form {
+        word: "Unsigned",
+        said: "whole numbers from 0 on are of the subtype Natural in Ada: write Natural (3.5.4)",
+    },
+    Form {
+        word: "Break",
+        said: "there is no break in Ada: exit leaves a loop (5.7)",
+    },
+    Form {
+        word: "Continue",
+        said: "there is no continue in Ada: write if .. end if around what is left out (5.3)",
+    },
+    Form {
+        word: "Sleep",
+        said: "a task delays until a time: write delay until Clock + Milliseconds (..) (D.7)",
+    },
 ];
 
 // A part of a name that isn't there: how many words behind it stands, what it would be a part of, and which parts there are.
@@ -137,13 +166,41 @@ fn named_behind<'a>(prefix: Meaning, item: &Declared<'a>, around: &Around<'a>) -
 
 const NOT_KNOWN: &str = "{0} has no {1} that is known here";
 
-// That a library package, whose name ends at a word, hasn't what stands behind it.
-fn no_item<'a>(words: &Words<'_, 'a>, behind: usize, library: &'a str) -> Cause<'a> {
+const NOT_HELD: &str = "{0} has no {1} that is known here; it has {2}";
+
+// A sentence about what a library package has in place of a word.
+fn of_library<'a>(
+    at: usize,
+    said: &'static str,
+    whole: &'a str,
+    word: &'a str,
+    has: &'a str,
+) -> Cause<'a> {
+    Cause::new(at, said, [whole, word, has])
+}
+
+// That a library package, whose name ends at a word, hasn't what stands behind it, with what is near or all that it has.
+fn no_item<'a>(
+    alloc: Global,
+    words: &Words<'_, 'a>,
+    behind: usize,
+    library: Library,
+) -> Result<Cause<'a>, AllocError> {
     let word = words.word(behind);
+    let at = words.place(behind);
     if let Some(said) = said_of_name(&OTHER, word) {
-        return Cause::plain(words.place(behind), said);
+        return Ok(Cause::plain(at, said));
     }
-    Cause::pair(words.place(behind), NOT_KNOWN, library, word)
+    let whole = library::name_of(library);
+    let near = library::near_in(alloc, library, word)?;
+    if !near.is_empty() {
+        return Ok(of_library(at, "{0} has no {1}; it has {2}", whole, word, near));
+    }
+    let held = library::held_by(library);
+    if held.is_empty() {
+        return Ok(Cause::pair(at, NOT_KNOWN, whole, word));
+    }
+    Ok(of_library(at, NOT_HELD, whole, word, held))
 }
 
 // Which part of a name with points isn't there.
@@ -158,7 +215,7 @@ fn dotted<'a>(
     };
     let behind = number.saturating_mul(2);
     if let Meaning::LibraryPackage(library) = prefix {
-        return Ok(no_item(words, behind, library::name_of(library)));
+        return no_item(alloc, words, behind, library);
     }
     match judged.item(prefix) {
         Some(item) => {
@@ -199,9 +256,33 @@ fn near_name<'a>(
 // Reserved words that are statements, or begin one that may look like a call.
 const STATEMENTS: [&str; 5] = ["null", "return", "exit", "raise", "others"];
 
+// The priorities that an aspect or a pragma takes whose value stands here; empty where none does.
+fn priorities_at<'w>(words: &Words<'_, '_>) -> &'w str {
+    if words.fit("Interrupt_Priority =>|( ^_") {
+        "31 .. 40"
+    } else if words.fit("Priority =>|( ^_") {
+        "1 .. 40"
+    } else {
+        ""
+    }
+}
+
+const NO_EXCEPTION: &str =
+    "nothing named {0} is declared; exceptions are Constraint_Error, Program_Error and Host.Access_Denied (11.1)";
+
+const NO_PRIORITY: &str =
+    "nothing named {0} is declared; a priority is a whole number, {1} here (D.1)";
+
 // That nothing of a simple name is declared, and nothing of a name near to it; it may be a reserved word.
 fn nameless<'a>(alloc: Global, words: &Words<'_, 'a>) -> Result<Cause<'a>, AllocError> {
     let word = words.word(0);
+    if words.was(1, "raise") {
+        return Ok(words.cause(0, NO_EXCEPTION));
+    }
+    let priorities = priorities_at(words);
+    if !priorities.is_empty() {
+        return Ok(Cause::pair(words.place(0), NO_PRIORITY, word, priorities));
+    }
     match near_among(alloc, word, &STATEMENTS)? {
         "" => Ok(words.cause(0, "nothing named {0} is declared (8.3)")),
         near => Ok(Cause::pair(
@@ -249,6 +330,27 @@ fn near_to<'a>(words: &Words<'_, 'a>, near: &'a str, item: Option<&Declared<'a>>
     }
 }
 
+// The words of a name, and behind them one more.
+fn with_last<'a>(name: [&'a str; 6], last: &'a str) -> [&'a str; 6] {
+    let [first, point, second, next, third, _] = name;
+    [first, point, second, next, third, last]
+}
+
+// That there is no library package of a name with points, with one that is near to it.
+fn no_package<'a>(alloc: Global, words: &Words<'_, 'a>) -> Result<Cause<'a>, AllocError> {
+    let at = words.place(0);
+    let name = words.name();
+    let [first, point, second, next, third, _] = name;
+    let whole = format!(in alloc; "{first}{point}{second}{next}{third}")?;
+    let near = library::near_package(alloc, whole.as_str())?;
+    if near.is_empty() {
+        let said = "this host has no library package {0}{1}{2}{3}{4} (10.1.2)";
+        return Ok(Cause::full(at, said, name));
+    }
+    let said = "this host has no library package {0}{1}{2}{3}{4}; {5} is there (10.1.2)";
+    Ok(Cause::full(at, said, with_last(name, near)))
+}
+
 // That a context clause names no library unit.
 fn in_context<'a>(
     alloc: Global,
@@ -258,8 +360,7 @@ fn in_context<'a>(
     let word = words.word(0);
     let at = words.place(0);
     if words.is(1, ".") {
-        let said = "this host has no library package {0}{1}{2}{3}{4} (10.1.2)";
-        return Ok(Cause::full(at, said, words.name()));
+        return no_package(alloc, words);
     }
     let own = words.package();
     if is_same_name(own, word) {
@@ -271,6 +372,15 @@ fn in_context<'a>(
             "no unit {0} is loaded before this one (10.1.2)",
         )),
         near => Ok(Cause::new(at, "no unit {0} is loaded here; {1} is", [word, near, ""])),
+    }
+}
+
+// What is said of an aspect that isn't there.
+fn said_of_aspect(name: &str) -> &'static str {
+    if is_listed(&["Ceiling", "Ceiling_Priority"], name) {
+        "the ceiling of a protected unit is its Priority: write Priority in place of {0} (D.3)"
+    } else {
+        "the aspect {0} has no effect here (13.1.1)"
     }
 }
 
@@ -296,7 +406,7 @@ pub fn unknown<'a>(
         return in_context(alloc, words, judged.known);
     }
     if around.is_in_head && words.fit("with|, ^_") {
-        return Ok(words.cause(0, "the aspect {0} has no effect here (13.1.1)"));
+        return Ok(words.cause(0, said_of_aspect(words.word(0))));
     }
     if words.is(1, ".") {
         return dotted(alloc, words, around, judged);

@@ -1,13 +1,14 @@
 -- What somebody may ask at no time fits it in no mode.
-use Rattle.std.proofs.Common.{◌≡◌, ◌⊎◌, inl, inr, ℕ, zero, suc, Bool, false, refl, ap, sym}
-use Rattle.std.specs.Prelude.{length, nat_le, ◌&&◌}
+use Rattle.std.proofs.Common.{◌≡◌, ◌⊎◌, arith, inl, inr, ℕ, Bool, false, refl, ap, sym}
+use Rattle.std.specs.Prelude.{length, ◌+◌, nat_le, nat_lt, ◌&&◌}
+use Rattle.std.proofs.lemmas.Bool.Decides.{nat_tests}
 use Rattle.std.proofs.lemmas.Bool.{and_cases, and_left, and_right, false≢true}
-use Rattle.rv_event.specs.Past.{held, innermost, mode}
+use Rattle.rv_event.specs.Past.{archived, held, innermost, mode}
 use Rattle.rv_event.specs.declared.entry.Mode.{Mode}
 use Rattle.rv_event.specs.declared.entry.Mode.TheVariants as Modes
 use Rattle.rv_event.specs.declared.entry.Request.{Request}
 use Rattle.rv_event.specs.declared.entry.Request.TheVariants.{Call, Complete, Settle, Resume, DelayUntil, Clock, Fire, Quit, Tick, Halt, Archive, Restart}
-use Rattle.rv_history.specs.Fitting.{awaits, call_fits, end_fits, fits_actor, idle_line, idle_task, in_body, is_archive, is_operator, is_settling, is_time, may_call}
+use Rattle.rv_history.specs.Fitting.{awaits, call_fits, end_fits, fits_actor, idle_line, idle_task, in_body, is_archive, is_operator, is_settling, is_time, may_call, most_entries}
 use Rattle.rv_history.specs.History.{History}
 use Rattle.rv_shape.specs.Catalogue.{Who, Operator, Line, Task, Nobody, target, who}
 use Rattle.rv_shape.specs.Units.{is_loaded}
@@ -40,8 +41,9 @@ no_delay w m b (inl e) = and_left (may_call w m) b (no_calls w m e)
 no_delay w m b (inr e) = and_right (may_call w m) b e
 
 no_entry : (h : History) (number : ℕ) → nat_le 1 number ≡ false → is_archive h number ≡ false
-no_entry h zero e = refl
-no_entry h (suc number) e = absurd (false≢true (sym e))
+no_entry h number e =
+    let none : nat_lt (archived h.past) number ≡ false = grind (arith, nat_tests, e) in
+    ap (λ (t : Bool). t && nat_le number (length h.past) && nat_lt (h.limits.capacity + number) most_entries) none
 
 no_archive : (h : History) (a number : ℕ) → (is_operator (who h.shapes a) ≡ false) ⊎ (nat_le 1 number ≡ false)
     → (is_operator (who h.shapes a) && is_archive h number) ≡ false

@@ -57,6 +57,11 @@ abbrev pub hands : Answer → Bool
 hands (Answers.Woken (Some s)) = true
 hands r = false
 
+-- none but `Started` starts a body
+pub unstarted : (r : Answer) → ((s : List ℤ) → r ≡ Answers.Started s → ⊥) → starts r ≡ false
+unstarted (Answers.Started s) none = absurd (none s refl)
+unstarted r none = refl
+
 not_started : (r : Answer) (s : List ℤ) → starts r ≡ false → r ≡ Answers.Started s → ⊥
 not_started r s e is = absurd (cc (e, is))
 

@@ -1,6 +1,6 @@
 -- What is asked and said makes what a command does.
-use Rattle.std.proofs.Common.{◌≡◌, ◌+◌, ℕ, true, List, Option, Some, None, Ok, Err, inl, inr, sym, ap, subst, IfNone, IfSome}
-use Rattle.std.specs.Prelude.{Bool, Result, codes}
+use Rattle.std.proofs.Common.{◌≡◌, ◌+◌, ℕ, Bool, true, List, Option, Some, None, Ok, Err, inl, inr, sym, ap, subst, IfNone, IfSome}
+use Rattle.std.specs.Prelude.{Result, codes}
 use Rattle.rv_code.specs.declared.unit.Unit.{Unit as Compiled}
 use Rattle.rv_event.specs.declared.entry.Answer.{Answer}
 use Rattle.rv_fault.specs.Sections.{GivesUnit}
@@ -68,6 +68,12 @@ commands_by {admits} s u said t line next result served crew follows = record {
   served = served;
   follows = subst (λ (v : Staffed). Follows admits (record s { staff = v; written = said }) t next result) (same_staff s.staff u crew) follows;
 }
+
+-- whether a unit is let in, over the units that are loaded
+pub admitted_so : (admits : Admission) (read shapes : List Shape) (shape : Shape) (answer admitted : Bool) → read ≡ shapes → answer ≡ admitted
+    → admits read shape answer → admits shapes shape admitted
+admitted_so admits read shapes shape answer admitted is same so =
+    subst (λ (all : List Shape). admits all shape admitted) is (subst (λ (b : Bool). admits read shape b) same so)
 
 -- the unit of a text was loaded
 pub loads_by : (admits : Admission) (v u w : Staffed) (old new : Known) (text : List ℕ) (unit : Compiled) (answer : Result Answer Worn) (result : Outcome)

@@ -3,7 +3,7 @@ use Rattle.std.specs.Prelude.{is_some}
 use Rattle.rv_event.specs.declared.entry.Answer.{Answer}
 use Rattle.rv_port.specs.Reaching.{waits_on, plain_of, start_of}
 use Rattle.rv_port.proofs.Asking.{sent_of}
-use Rattle.rv_port.proofs.Performing.{started_had, waited, first_plain, starts}
+use Rattle.rv_port.proofs.Performing.{started_had, waited, first_plain, starts, unstarted}
 use Rattle.rv_port.proofs.asker.Asker.go.Goals as goal
 
 pub run_begun-requires : goal.run_begun-requires
@@ -25,6 +25,6 @@ returns-then-is_wait g c =
 pub returns : goal.returns
 returns g c =
     let given = sent_of c.args.self.now.pass c.insist.new.self.pass c.args.request.now c.new-letter.result.request c.insist.new.letter.answer c.insist.new.letter.begun c.insist.new.letter.lent c.insist.result _ c.insist.ensures.reply c.new-letter.ensures c.in-Ok.is in
-    let plain : starts c.insist.new.letter.answer ≡ false = search (rules, tests) in
+    let plain : starts c.insist.new.letter.answer ≡ false = unstarted c.insist.new.letter.answer c.in_default-answer.not-Started in
     let e : waits_on c.insist.new.letter.answer ≡ false = search (rules, tests) in
     first_plain c.args.self.now.pass c.insist.new.self.pass c.args.self.now.is_refused c.insist.new.self.is_refused c.args.request.now c.insist.new.letter.answer c.insist.new.letter.begun c.insist.new.letter.lent c.plain.result given.0 given.1 c.insist.ensures.mark plain e (c.plain.ensures ∙ ap (λ (z : Bool). plain_of z c.insist.new.letter.answer) c.reads.ensures)

@@ -21,8 +21,8 @@ use Rattle.rv_shell.proofs.Serving.{asks_by}
 use Rattle.rv_staff.specs.Saying.{Known}
 use Rattle.rv_staff.specs.Staffs.{Staffed, Workers}
 use Rattle.rv_text.specs.Words.{words}
-use Rattle.rv_attend.specs.Again.{AskedAgain, Asks, HeedsPlainly, InVain, IsRequest, TakesRoom}
-use Rattle.rv_attend.specs.Chores.{Chores}
+use Rattle.rv_attend.specs.Again.{AskedAgain, Asks, HeedsPlainly, InVain, IsRequest, TakesRoom, full_line}
+use Rattle.rv_attend.specs.Chores.{Chores, ChoresIn}
 use Rattle.rv_attend.proofs.Chores.{chores_in_later}
 use Rattle.rv_attend.proofs.Growing.{commands_later, later_on, same_later, serves_later}
 
@@ -110,6 +110,24 @@ unkept_again old v w line text error is asked = by_serves asked.serves
         let obeys = subst (λ (o : Option Order). Carries (Some []) (Some text) v w o (Err (Write error))) is.read carries in
         inr (subst (λ (o : Option Order). Carries old old v w o (Err NoMemory)) (sym is.read) (unkept_order old v w is.order text error is.request obeys))
 
+-- It is asked in vain, and again
+
+pub in_vain : (v asked w : Passing) (line text : List ℕ) (next : Result Next LineFault) → Serves (Some []) (Some text) v asked (words line) next
+    → (next ≡ Ok Go) × (text ≡ full_line) → ChoresIn true asked w → InVain v w line
+in_vain v asked w line text next serves full gives = record {
+  asked = asked;
+  asks = record {
+    serves =
+        subst (λ (t : List ℕ). Serves (Some []) (Some t) v asked (words line) (Ok Go)) full.1
+        (subst (λ (n : Result Next LineFault). Serves (Some []) (Some text) v asked (words line) n) full.0 serves);
+  };
+  gives_up = gives;
+}
+
+pub goes_put : (old new : Known) (text : List ℕ) (result : Result Next LineFault) → Prints old new text result → IfOk result (λ n. n ≡ Go)
+goes_put old new text (Ok next) prints = prints.1
+goes_put old new text (Err fault) prints = tt
+
 -- Behind it the run goes on
 
 follows_done : (s t : Stage) (next : Result Next LineFault) (result : Outcome) → IfOk next (λ n. n ≡ Go) → IsDone s t next result → Follows AdmitsAll s t next result
@@ -153,10 +171,34 @@ again_later v again w old new line next before serves =
 
 -- With a line, where nobody is at a console
 
-pub heeds_plainly : (lasting : Bool) (first mid last : Staffed) (old new : Known) (line : List ℕ) (result : Option Outcome) → Chores first.control mid.control
+heeds_plainly : (lasting : Bool) (first mid last : Staffed) (old new : Known) (line : List ℕ) (result : Option Outcome) → Chores first.control mid.control
     → mid.crew ≡ first.crew → IfNone result ((last ≡ mid) × (new ≡ old)) → IfSome result (λ outcome. lasting ≡ true)
     → IfSome result (λ outcome. (input : Reading) → (left : Known) → AskedAgain (stage mid old input left) (stage last new input left) line outcome)
     → (input : Reading) → (left : Known) → HeedsPlainly lasting (stage first old input left) (stage last new input left) line result
 heeds_plainly lasting first mid last old new line None chores crew none is again = λ input left. none.1
 heeds_plainly lasting first mid last old new line (Some outcome) chores crew none is again = λ input left.
     (is, (mid.control, chores, subst (λ (s : Staffed). AskedAgain (stage s old input left) (stage last new input left) line outcome) (only_control first mid crew) (again input left)))
+
+-- behind a console that nobody is at
+pub heeds_behind : (lasting lasting' : Bool) (first first' mid last : Staffed) (old old' new : Known) (line : List ℕ) (result : Option Outcome)
+    → lasting' ≡ lasting → first' ≡ first → old' ≡ old → Chores first'.control mid.control
+    → mid.crew ≡ first'.crew → IfNone result ((last ≡ mid) × (new ≡ old')) → IfSome result (λ outcome. lasting' ≡ true)
+    → IfSome result (λ outcome. (input : Reading) → (left : Known) → AskedAgain (stage mid old' input left) (stage last new input left) line outcome)
+    → (input : Reading) → (left : Known) → HeedsPlainly lasting (stage first old input left) (stage last new input left) line result
+heeds_behind lasting lasting' first first' mid last old old' new line result asked same silent chores crew none is again = λ input left.
+    subst (λ (b : Bool). HeedsPlainly b (stage first old input left) (stage last new input left) line result) asked
+    (subst (λ (s : Staffed). HeedsPlainly lasting' (stage s old input left) (stage last new input left) line result) same
+    (subst (λ (o : Known). HeedsPlainly lasting' (stage first' o input left) (stage last new input left) line result) silent
+    (heeds_plainly lasting' first' mid last old' new line result chores crew none is again input left)))
+
+-- where nothing was asked, only chores were done
+pub chores_none : {X : Type 0} (v w : Passing) (mid last : Staffed) (A : Type 0) (result : Option X) → v ≡ w → Chores w mid.control → IfNone result ((last ≡ mid) × A)
+    → IfNone result (Chores v last.control)
+chores_none v w mid last A None same chores none =
+    subst (λ (p : Passing). Chores p last.control) (sym same) (subst (λ (s : Staffed). Chores w s.control) (sym none.0) chores)
+chores_none v w mid last A (Some x) same chores none = tt
+
+pub crew_none : {X : Type 0} (first mid last : Staffed) (A : Type 0) (result : Option X) → mid.crew ≡ first.crew → IfNone result ((last ≡ mid) × A)
+    → IfNone result (last.crew ≡ first.crew)
+crew_none first mid last A None crew none = ap (λ (s : Staffed). s.crew) none.0 ∙ crew
+crew_none first mid last A (Some x) crew none = tt
