@@ -311,6 +311,14 @@ fn renewed_by<T: Wait>(rt: &T, staff: &mut Staff, unit: &Name) -> Option<usize>
     }
 }
 
+// The unit that a command restarts, if it restarts one.
+fn restarted(read: &Result<Order, StepError>) -> Option<&Name> {
+    match read {
+        Ok(Order::Restart(unit)) => Some(unit),
+        _ => None,
+    }
+}
+
 /// Counts a restart that is to be carried out, and tells, where notes are told, of one that leaves less than is kept. One of a unit that has
 /// a task still there isn't counted, since it isn't carried out.
 #[tactic(auto, using(crate::proofs::Chores::no_chores))]
@@ -325,7 +333,10 @@ pub(crate) fn keep_restart<T: Wait, E: Write>(
     ensures chores { Chores session.old.staff.control session.new.staff.control }
     ensures crew { session.new.staff.crew ≡ session.old.staff.crew }
 {
-    let (Some(books), Ok(Order::Restart(unit))) = (reserve.books, read) else {
+    let Some(books) = reserve.books else {
+        return;
+    };
+    let Some(unit) = restarted(read) else {
         return;
     };
     let Some(tasks) = renewed_by(rt, &mut session.staff, unit) else {
