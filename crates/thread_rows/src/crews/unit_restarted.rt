@@ -62,10 +62,13 @@ fn read_again<R: Threads + Wait>(
 {
     let again = control.port_again(first);
     let idle = control.port_again(second);
-    if !begin(hands, &mut crew, again, Role::Reader) || crew.give_up(idle).is_err() {
+    if !begin(hands, &mut crew, again, Role::Reader) {
         return None;
     }
-    close(rt, crew, control)
+    match crew.give_up(idle) {
+        Ok(()) => close(rt, crew, control),
+        Err(_) => None,
+    }
 }
 
 /// Plays the game. None where there is no memory or no thread.
