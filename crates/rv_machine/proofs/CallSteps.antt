@@ -18,6 +18,8 @@ use Rattle.rv_exec.specs.Bodies.{operation_of}
 use Rattle.rv_exec.specs.Calls.{Outcome, internal, is_past, end_of, exit_of}
 use Rattle.rv_flat.specs.declared.unit.FlatUnit.{FlatUnit}
 use Rattle.rv_flat.specs.FlatUnits.{flat_view}
+use Rattle.rv_flat.specs.Tables.{trees}
+use Rattle.rv_flat.specs.Trees.{Tree}
 use Rattle.rv_frames.specs.Frames.{Frame, Control, calls, enters, asks_of, comes, closes, listed, reaches, outside, exited, ends_of, declares, opening, closing, resuming, answering, performing, completing, inner_setting, body_setting, denoted}
 use Rattle.rv_frames.proofs.Pushes.{calls_push}
 use Rattle.rv_frames.proofs.Arrivals.{calls_arrive}

@@ -90,7 +90,10 @@ none_aside ts (packed.Sequencing ss) x is = refl
 
 pub small_counted : (ts : List Tree) (ps all : List Packed) (p : Packed) (x : Frame) → all ≡ p ∷ ps → opened ts p ≡ Some x → count_aside all ≡ count_aside ps
 unfolding count_aside
-small_counted ts ps all p x top is = ap (λ (l : List Packed). count_aside l) top ∙ ap (λ (n : ℕ). n + count_aside ps) (none_aside ts p x is)
+small_counted ts ps all p x top is =
+    let at : count_aside all ≡ is_aside p + count_aside ps = ap (λ (l : List Packed). count_aside l) top in
+    let none = none_aside ts p x is in
+    omega (arith, at, none)
 
 pub counted : (ps all : List Packed) (p : Packed) → all ≡ p ∷ ps → count_aside ps ≤ count_aside all
 unfolding count_aside
