@@ -1,0 +1,4 @@
+pub mod Own
+pub mod Others
+pub mod Stood
+pub mod Texts
