@@ -10,4 +10,3 @@ pub mod GoingOn
 pub mod Unread
 pub mod Beginning
 pub mod Owing
-pub mod AskedAgain

@@ -1,3 +1,2 @@
 pub mod Actors
 pub mod Choices
-pub mod Files

@@ -5,7 +5,6 @@ pub mod actors;
 mod args;
 pub mod chosen;
 mod command;
-pub mod files;
 pub mod misuse;
 mod run_words;
 mod running;

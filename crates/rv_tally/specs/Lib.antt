@@ -1,3 +1,4 @@
+pub mod Denying
 pub mod Guarding
 pub mod Tallying
 pub mod Watching

@@ -1,6 +1,0 @@
-pub mod Ends
-pub mod Loads
-pub mod Payers
-pub mod Costs
-pub mod Keeping
-pub mod Booking
