@@ -3,7 +3,7 @@
 
     bench/causes_shown.py [--all]       with --all each sentence is told with its first row
 
-A sentence, or a part of one, is a text in the sources of rv_cause, rv_explain or rv_reason that has a space and no `^`, which the
+A sentence, or a part of one, is a text in the sources of rv_cause, rv_judged, rv_explain or rv_reason that has a space and no `^`, which the
 patterns of words have. A row (crates/rv_rows/data/NAME.explained) shows it where what is said there has its words in order, whatever
 stands for `{..}`; one that tells a line isn't shown by one that tells none, nor the other way round. UNSAID has what no script
 makes the program say: it stands for the end of a search that finds something wherever such a fault is, or for want of memory.
@@ -22,7 +22,8 @@ UNSAID = frozenset((
     "{0} stands twice", "a name stands twice", "a number is out of range", "an object with a handler has a ceiling of 31 .. 40 (C.3.1)",
     "this can't be used in the profile Ravenscar (D.13)", "{0} is declared here already; give one of them another name (8.3)",
     "{0} is declared further down; put that before this (8.3)", "{0} isn't declared yet; put its declaration before this (8.3)",
-    "{0} has no place in this command", "an interrupt line has a handler already (C.3.1)", "this is no step",
+    "{0} has no place in this command", "{0} denotes nothing that can stand here (8.6)",
+    "an interrupt line has a handler already (C.3.1)", "this is no step",
     "an interrupt line of this unit has a handler already (C.3.1)", "a protected unit with a handler has a priority of 31 .. 40 (C.3.1)"))
 # Texts that aren't said: a form of a line that is compared, a value that is tried, and the form of a further fault.
 OTHER = frozenset(("Milliseconds (1)", "also: {number}:{column}: {sentence}"))
@@ -36,7 +37,7 @@ def said_by_rows() -> dict[str, list[str]]:
 
 def texts() -> Iterator[tuple[str, str]]:
     """Each sentence or part of one, and where it stands."""
-    for crate in ("rv_cause", "rv_explain", "rv_reason"):
+    for crate in ("rv_cause", "rv_judged", "rv_explain", "rv_reason"):
         for file in sorted((CRATES / crate / "src").rglob("*.rt")):
             source = "\n".join("" if line.lstrip().startswith("//") else line for line in file.read_text(encoding="utf-8").splitlines())
             for found in TEXT.finditer(source):

@@ -33,7 +33,9 @@ WORDED = {
     "--tick": ("MS", "1 to 3600000", ("0", "3600001", *NUMBERS[2:])),
     "--halt-below": ("N", "1 to 1048576", NUMBERS),
     "--quota": ("N", "1 to 1048576", NUMBERS),
+    "--operator-room": ("K", "1 to 1048576", NUMBERS),
     "--grace": ("MS", "1 to 3600000", ("0", "3600001", *NUMBERS[2:])),
+    "--rotate": ("MIB", "1 to 1048576", NUMBERS),
     "--notes": ("WHEN", "auto, always or never", ("x", "", "Auto", "al")),
     "--color": ("WHEN", "auto, always or never", ("blue", "", "NEVER")),
 }
@@ -187,8 +189,15 @@ def misuses(asked: Asked) -> None:
     is_told("'--lasting' needs '--journal <FILE>'", "run", "--lasting")
     is_told("'--lasting' goes without '--halt-below <N>'", "run", "--lasting", "--journal", "kept", "--halt-below", "9")
     is_told("'--lasting' goes without '--quota <N>'", "run", "--journal", "kept", "--quota", "9", "--lasting")
+    is_told("'--operator-room <K>' needs '--quota <N>'", "run", "--operator-room", "9")
+    is_told("'--quota <N>' needs '--explain'", "audit", "--quota", "9")
+    is_told("'--quota <N>' needs '--explain'", "audit", "--journal", "nowhere", "--quota", "9")
+    vain = asked.start("run", "--grace", "-5")
+    asked.due("a number below 0", (vain.status, b"\n  tip: no flag takes a number below 0\n" in vain.err, b"use '--" in vain.err), (2, True, False))
+    for flag, value in (("--rotate", "MIB"), ("--keep-units", "FILE"), ("--times", "FILE")):
+        is_told(f"'{flag} <{value}>' needs '--journal <FILE>'", "run", flag, "1")
     # (the first of several)
-    wrong = {"--sync": "x", "--tick": "0", "--halt-below": "0", "--quota": "0", "--grace": "0", "--notes": "x", "--color": "x"}
+    wrong = {"--sync": "x", "--tick": "0", "--halt-below": "0", "--quota": "0", "--operator-room": "0", "--grace": "0", "--notes": "x", "--color": "x"}
     left = list(wrong)
     while left:
         first = left[0]
@@ -217,7 +226,7 @@ def manuals(asked: Asked) -> None:
         seen = asked.start(*words)
         asked.due(f"{words}", (seen.status, seen.out, seen.err.startswith(b"error: ")), (2, b"", True))
     full = subprocess.run(["bash", "-c", '"$0" manual >/dev/full', str(asked.program)], capture_output=True, timeout=SECONDS, check=False)
-    asked.due("manual on a full disk", (full.returncode, full.stderr), (4, b"ravenhost: No space left on device (os error 28)\n"))
+    asked.due("manual on a full disk", (full.returncode, full.stderr), (4, b"ravenhost: standard output: No space left on device (os error 28)\n"))
     none = asked.start()
     asked.due("no subcommand", (none.status, none.out, none.err), (2, b"", (USAGE / "none").read_bytes()))
 

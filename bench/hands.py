@@ -1,16 +1,19 @@
 #!/usr/bin/env python3
 """Does what careless or hostile hands do to `./ravenhost`, and says where it doesn't end as it should; then the status is 1.
 
-    bench/hands.py [LAUNCHER [CASE..]]  the launcher is ./ravenhost of this checkout where none is named; only these cases, where any are
+    bench/hands.py [LAUNCHER [CASE..]]           the launcher is ./ravenhost of this checkout where none is named; only these cases, where any are
+    bench/hands.py --drawn N [--seed S] PROGRAM  N drawn and mutated runs of the four commands (hands_drawn.py), on from where ./hands-S.json is
+    bench/hands.py --growth PROGRAM              what constructs of 250 kB take beside the plainest (hands_growth.py)
 
 Two runs on one journal; a journal that others cut off, remove or replace; standard input, output or error closed before the
 start; a limit on the size of files; a journal's file that a wrong command line would leave behind; texts that are sent to a run, and
 hold commands, are cut short or large, by several senders at once; scripts that are named to the wrong command; notes on long lists, and on
 many changes of one; shapes of more lines than fit; a large type with many objects; choices that overlap; parts of a script in files of
 their own that hold sections, are cut short or refused; plays that never end, and are ended by signals and Ctrl-C; runs
-whose bodies won't end; units that fill a journal, under a quota; words that the launcher alone takes. It needs flock, and a program: the proved one or the trial that is kept. Where ravenreview isn't there, its questions aren't
+whose bodies won't end; units that fill a journal, under a quota, and the room that is kept from them; words that the launcher alone takes. It needs flock, and a program: the proved one or the trial that is kept. Where ravenreview isn't there, its questions aren't
 asked.
 """
+import argparse
 import contextlib
 import fcntl
 import os
@@ -26,6 +29,10 @@ import termios
 import time
 from pathlib import Path
 from typing import Callable
+
+from hands_drawn import drawn_runs
+from hands_growth import growth
+from hands_room import ROOM_CASES
 
 TOP = Path(__file__).resolve().parents[1]
 SECONDS = 240
@@ -286,11 +293,15 @@ def scripts_to_the_wrong_command(hands: Hands) -> None:
 BESIDE_PARTS = (["check"], ["play"], ["run"], ["audit", "--journal", "empty"], ["refusals", "--journal", "empty"])
 
 
+def by_program(told: bytes) -> bytes:
+    """What was told on standard error, but that a trial answers."""
+    return b"".join(line for line in told.splitlines(keepends=True) if b"not proved: a trial answers" not in line)
+
+
 def of_parts(hands: Hands, words: list[str], given: bytes = b"", terminal: bool = False) -> tuple[int, bytes, bytes]:
     """What a start in the folder comes to: its status, its output, and what it told, but that a trial answers."""
     done = subprocess.run([hands.launcher, *words], cwd=hands.folder, input=given, capture_output=True, timeout=SECONDS, check=False)
-    told = b"".join(line for line in done.stderr.splitlines(keepends=True) if b"not proved: a trial answers" not in line)
-    return done.returncode, done.stdout, told
+    return done.returncode, done.stdout, by_program(done.stderr)
 
 
 def hostile_parts(hands: Hands) -> None:
@@ -604,7 +615,7 @@ def ends_that_are_hurried(hands: Hands) -> None:
             out, told = run.communicate(b"quit\n", timeout=SECONDS)
             took = time.monotonic() - begun
         hands.due(f"a run with {words} ends within its grace", 0.25 <= took <= 2, took)
-        hands.due(f"a run with {words} names whom it left behind, alone", told == b"lost Slow.Busy\n", told)
+        hands.due(f"a run with {words} names whom it left behind, alone", by_program(told) == b"lost Slow.Busy\n", told)
         hands.due(f"a run with {words} has status 6", run.returncode == 6, run.returncode)
         lines = journal.read_bytes()
         hands.due(f"a run with {words} says how long its whole journal is", out.endswith(b"entries %d\n" % lines.count(b"\n")), (out[-100:], lines.count(b"\n")))
@@ -614,7 +625,7 @@ def ends_that_are_hurried(hands: Hands) -> None:
     begun = time.monotonic()
     done = hands.asked(["run", "--grace", "60000", "--journal", str(journal)], PLANT + b"tick 1\nquit\n")
     hands.due("a run whose threads end waits for nothing more", time.monotonic() - begun <= 20, time.monotonic() - begun)
-    hands.due("and ends as without the flag", (done.returncode, done.stderr) == (0, b""), (done.returncode, done.stderr))
+    hands.due("and ends as without the flag", (done.returncode, by_program(done.stderr)) == (0, b""), (done.returncode, done.stderr))
     done = hands.asked(["run", "--grace", "0"], PLANT + b"quit\n")
     hands.due("a grace of nothing is no grace", done.returncode == 2 and b"invalid value '0' for '--grace <MS>': 1 to 3600000" in done.stderr, done)
 
@@ -785,10 +796,25 @@ CASES: tuple[Callable[[Hands], None], ...] = (
     two_runs_on_one_file, journals_that_others_change, streams_that_are_closed, limits_on_files, wrong_command_lines, texts_that_are_sent,
     senders_at_once, wrong_sends, scripts_to_the_wrong_command, hostile_parts, parts_that_are_taken, faults_of_parts, runs_of_parts, notes_on_long_lists,
     notes_on_many_appends, shapes_of_many_lines, bodies_that_objects_share, choices_that_overlap, many_bad_commands, plays_that_are_ended, ends_that_are_hurried,
-    units_that_spend, words_of_the_launcher)
+    units_that_spend, words_of_the_launcher, *ROOM_CASES)
+
+
+def measured(words: list[str]) -> int:
+    """What isn't done case by case."""
+    asks = argparse.ArgumentParser(usage=__doc__)
+    asks.add_argument("--drawn", type=int)
+    asks.add_argument("--seed", type=int, default=1)
+    asks.add_argument("--growth", action="store_true")
+    asks.add_argument("program", type=Path)
+    asked = asks.parse_args(words)
+    if asked.growth:
+        return 1 if growth(asked.program.resolve()) else 0
+    return 1 if drawn_runs(asked.program.resolve(), asked.drawn, asked.seed, Path(f"hands-{asked.seed}.json")) else 0
 
 
 def main(words: list[str]) -> int:
+    if words[:1] in (["--drawn"], ["--growth"]):
+        return measured(words)
     named = [case for case in CASES if case.__name__ in words[1:]]
     if len(named) != len(words[1:]) or words[:1] and words[0].startswith("-"):
         print(__doc__, file=sys.stderr)

@@ -1,8 +1,9 @@
 #!/usr/bin/env python3
 """Lets a run that lasts go on for so many seconds (600): four units, in which tasks call without a pause, while the operator ticks and changes
 the list. Once with a capacity of 4,096, and once with the least that is taken. Its memory at the end may be at most 1 MiB above that after
-the first minute, or after the first third where it is shorter; no text may end by Full, no answer may take 0.1 s, and the file has to be
-audited as legal. Says how many entries there were. Ends with 1 where something is wrong. It is no test.
+the first minute, or after the first third where it is shorter; no text may end by Full, no answer may take 0.1 s, and the files that it leaves,
+of 64 MiB at most, have to be audited as legal over the file of its units. Of its file of times each line has to come behind the one before.
+In 600 seconds there have to be ten million entries at 4,096. Says how many there were. Ends with 1 where something is wrong. It is no test.
 
     bench/run_lasting.py [SECONDS [PROGRAM [FOLDER]]]
 """
@@ -13,7 +14,7 @@ import sys
 import tempfile
 import time
 
-from run_pipe import PLANT, Run, expect_that, faults, free, judged_over, unit
+from run_pipe import PLANT, Run, expect_that, faults, free, unit
 from run_soak import memory
 
 SLOWEST = 0.1  # the longest that an answer may take, in seconds
@@ -35,36 +36,68 @@ def least(program, folder):
 
 
 def drive(run, seconds):
-    """Ticks and changes the list. Gives the slowest answer, and the memory behind the first minute and at the end."""
-    start, slowest, first = time.monotonic(), 0.0, None
+    """Ticks and changes the list. Gives the slowest answer, the memory behind the first minute and at the end, and how often there was no room."""
+    start, slowest, first, full = time.monotonic(), 0.0, None, 0
     while time.monotonic() < start + seconds and not faults:
         for command in ("tick 1", "append deny Nobody * *", "remove 2"):
             before = time.monotonic()
             answer = run.ask(command)
             slowest = max(slowest, time.monotonic() - before)
             expect_that(command, answer in ("accepted 0", "full"), answer)
+            full += answer == "full"
             if answer == "full" and command.startswith("append"):
                 break
         if first is None and time.monotonic() > start + min(60, seconds / 3):
             first = memory(run.process)
         time.sleep(0.02)
-    return slowest, first, memory(run.process)
+    return slowest, first, memory(run.process), full
+
+
+def journals(file):
+    """The files of a journal, in order."""
+    names = [file]
+    while os.path.exists(name := f"{file}.{len(names):06}"):
+        names.append(name)
+    return names
+
+
+def audit(program, names, units, *words):
+    """What an audit of these files says, over a file of units."""
+    given = [word for name in names for word in ("--journal", name)]
+    done = subprocess.run([program, "audit", *given, *words, units], stdin=subprocess.DEVNULL, stdout=subprocess.PIPE, stderr=subprocess.PIPE)
+    return done.stdout.decode(), done.stderr.decode()
+
+
+def look_at_times(times, entries):
+    """Each line says by when more entries were written than the line before it, and no more than there are."""
+    with open(times, encoding="ascii") as lines:
+        stamps = [line.split() for line in lines]
+    numbers = [int(stamp[0]) for stamp in stamps]
+    expect_that("lines of times", stamps and all(re.fullmatch(r"\d{4}-\d\d-\d\dT\d\d:\d\d:\d\d(\.\d+)?Z", stamp[1]) for stamp in stamps), stamps[:3])
+    expect_that("entries of times", numbers == sorted(set(numbers)) and numbers[-1] <= entries, numbers[-3:])
 
 
 def soak(program, folder, capacity, seconds):
-    file = os.path.join(folder, f"journal{capacity}")
-    run = Run(program, sections(capacity) + "@run\n", ("--lasting", "--journal", file, "--sync", "never", "--notes", "always"))
-    slowest, first, last = drive(run, seconds)
+    file, units, times = (os.path.join(folder, f"{what}{capacity}") for what in ("journal", "units", "times"))
+    run = Run(program, sections(capacity) + "@run\n", ("--lasting", "--journal", file, "--rotate", "64", "--keep-units", units, "--times", times,
+                                                       "--sync", "never", "--notes", "always"))
+    slowest, first, last, full = drive(run, seconds)
     out, err, status = run.end()
     entries = int(out.split()[-1]) if out.startswith("entries ") else 0
-    print(f"capacity {capacity}: {entries} entries in {seconds} s, the slowest answer {slowest:.3f} s, memory {first} KiB, at the end {last} KiB")
+    print(f"capacity {capacity}: {entries} entries in {seconds} s, the slowest answer {slowest:.3f} s, {full} answers full, memory {first} KiB, "
+          f"at the end {last} KiB, {len(journals(file))} files")
     expect_that("quit", entries and status == 0, (out, status))
     expect_that("no text ended by Full", "ended: full" not in err, err[-500:])
     expect_that("the slowest answer", slowest < SLOWEST, slowest)
     expect_that("memory", first is not None and last <= first + MOST_GROWN, (first, last))
-    done = subprocess.run([program, "audit", "--journal", file], input=judged_over(sections(capacity)), stdout=subprocess.PIPE, stderr=subprocess.PIPE)
-    expect_that("the audit", done.stdout == f"legal {entries} entries\n".encode(), (done.stdout, done.stderr))
-    os.remove(file)
+    expect_that("entries", seconds < 600 or capacity < 4096 or entries >= 10_000_000, entries)
+    with open(units, encoding="utf-8") as kept:
+        expect_that("the file of units", kept.read() == sections(capacity).split("@list")[0])
+    look_at_times(times, entries)
+    said = audit(program, journals(file), units)
+    expect_that("the audit", said == (f"legal {entries} entries\n", ""), said)
+    for name in journals(file):
+        os.remove(name)
 
 
 def main():

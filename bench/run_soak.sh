@@ -7,9 +7,16 @@
 # period, in place of the operator's ticks. Says how much memory it took, and what stalled. Ends with 1 where something is wrong.
 # It is no test. It needs python3.
 #
+# With --lasting a run lasts so long in place of that (bench/run_lasting.py).
+#
 #     bench/run_soak.sh [SECONDS [PROGRAM [FILE [TICK]]]]
+#     bench/run_soak.sh SECONDS --lasting [PROGRAM]
 set -eu
 
 cd "$(dirname "$(readlink -f "$0")")/.."
+if [ "${2:-}" = --lasting ]; then
+    [ -n "${3:-}" ] || ./ravenhost --prove
+    PYTHONDONTWRITEBYTECODE=1 exec python3 bench/run_lasting.py "$1" "${3:-crates/ravenhost/out/ravenhost}"
+fi
 [ -n "${2:-}" ] || ./ravenhost --prove
 PYTHONDONTWRITEBYTECODE=1 exec python3 bench/run_soak.py "${1:-600}" "${2:-crates/ravenhost/out/ravenhost}" ${3:+"$3"} ${4:+"$4"}

@@ -33,7 +33,7 @@ WORDS = {"FILE": FILES, "COMMAND": COMMANDS}
 OWN_WORDS = {"who": ("CALLED", NOTHING), "whatif": ("LIST", FILES), "state": ("N", NOTHING), "explain": ("N", NOTHING)}
 # Of numbers, some that are usual.
 VALUES = {"FILE": FILES, "PIPE": FILES, "PREFIX": FOLDERS, "WHEN": ("auto", "always", "never"), "HOW": ("each", "second", "never"),
-          "MS": ("1000", "100", "10"), "N": ("100", "1000", "10000"), "TASK=IN,OUT": NOTHING}
+          "MS": ("1000", "100", "10"), "MIB": ("64", "256", "1024"), "N": ("100", "1000", "10000"), "K": ("64", "256", "1024"), "TASK=IN,OUT": NOTHING}
 
 
 class Flag:

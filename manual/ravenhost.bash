@@ -15,7 +15,7 @@ _ravenhost_flags() {
         "") echo "-h --help -V --version" ;;
         play) echo "--all --explain --no-explain --notes --warnings-are-errors --color -h --help" ;;
         check) echo "--explain --no-explain --script --notes --warnings-are-errors --color -h --help" ;;
-        run) echo "--journal --sync --explain --no-explain --halt-below --quota --tick --stop-by --console --end-status --sections-end --grace --lasting --actor --notes --warnings-are-errors --color -h --help" ;;
+        run) echo "--journal --sync --explain --no-explain --halt-below --quota --operator-room --tick --stop-by --console --end-status --sections-end --grace --lasting --actor --rotate --keep-units --times --notes --warnings-are-errors --color -h --help" ;;
         audit) echo "--journal --torn --quota --explain --notes --color -h --help" ;;
         manual) echo "-h --help" ;;
     esac
@@ -64,10 +64,13 @@ _ravenhost_value() {
         --sync) echo "each second never" ;;
         --halt-below) echo "100 1000 10000" ;;
         --quota) echo "100 1000 10000" ;;
+        --operator-room) echo "64 256 1024" ;;
         --tick) echo "1000 100 10" ;;
         --stop-by) echo "files" ;;
         --grace) echo "1000 100 10" ;;
         --actor) echo "nothing" ;;
+        --rotate) echo "64 256 1024" ;;
+        --keep-units) echo "files" ;;
         --times) echo "files" ;;
         --since) echo "entry: tick:" ;;
         --by) echo "nothing" ;;

@@ -2,22 +2,22 @@
 
 use crate::progress::Progress;
 use crate::reading::read;
+use crate::series::{JoinedFiles, unless_gap};
 use crate::status::Stop;
 use crate::telling::{Telling, ended};
 use crate::unread::{Noting, note_file, note_journals, note_section};
 use rv_fault::Failure;
-use rv_shown::Shown;
 use rv_verdict::{audit, audit_explained, audit_file, audit_file_explained};
 use std::alloc::Global;
-use std::fs;
 use std::io::{Read, Write};
 use std::rt::Files;
 use std::time::Clock;
 
-/// A file whose journal is judged.
+/// A journal in files of its own that is judged.
 #[derive(Clone, Copy)]
 pub struct AuditedFile<'a> {
-    pub name: &'a str,
+    /// The names of the files, in order.
+    pub names: &'a [&'a str],
     /// Whether a last line without its line feed was cut off.
     pub takes_torn: bool,
     /// Whether the ends of bodies are explained.
@@ -26,6 +26,17 @@ pub struct AuditedFile<'a> {
     pub allowance: Option<u32>,
     /// Whether somebody waits at a terminal.
     pub is_watched: bool,
+}
+
+/// Stops where it is said how many entries each unit could spend, and no end is explained, by which alone that is asked.
+pub fn unless_idle<R: Eprint>(rt: &R, explains: bool, allowance: Option<u32>) -> Result<(), Stop> {
+    if explains || allowance.is_none() {
+        return Ok(());
+    }
+    let _ = eprintln!(rt;
+        "error: '--quota <N>' needs '--explain'\n\nFor more information, try '--help'."
+    );
+    Err(Stop::Usage)
 }
 
 // What is told of a journal.
@@ -114,7 +125,7 @@ fn tell_torn<R: Eprint>(rt: &R, bytes: usize) {
     }
 }
 
-// What is found of a journal's file.
+// What is found of a journal's files.
 #[derive(Clone, Copy)]
 struct Found {
     // Whether nothing is found against it, its ends among that where they are explained.
@@ -125,7 +136,7 @@ struct Found {
     torn: usize,
 }
 
-// Judges what a journal's file holds.
+// Judges what a journal's files hold.
 fn judged<R: Clock + Eprint, J: Read, W: Write>(
     alloc: Global,
     file: AuditedFile<'_>,
@@ -166,7 +177,7 @@ fn judged<R: Clock + Eprint, J: Read, W: Write>(
     })
 }
 
-/// Judges a journal in a file of its own over the sections of a script; a note says why it is unreadable.
+/// Judges a journal in files of its own over the sections of a script; a note says why it is unreadable.
 pub fn judge_file<R: Files + Clock + Eprint, I: Read, W: Write>(
     rt: &R,
     alloc: Global,
@@ -175,14 +186,8 @@ pub fn judge_file<R: Files + Clock + Eprint, I: Read, W: Write>(
     reader: &mut I,
     writer: &mut W,
 ) -> Result<(), Stop> {
-    let name = Shown { text: file.name };
-    let mut journal = match fs::open(rt, file.name) {
-        Ok(journal) => journal,
-        Err(e) => {
-            let _ = eprintln!(rt; "ravenhost: {name}: {e}");
-            return Err(Stop::BadFile);
-        }
-    };
+    unless_gap(rt, alloc, file.names)?;
+    let mut journal = JoinedFiles::open(rt, file.names)?;
     let script = script_in(alloc, reader)?;
     let mut progress = Progress::new(rt, file.is_watched);
     let done = judged(

@@ -5,6 +5,7 @@ use clap::Error;
 use clap::error::ErrorKind;
 use rv_choice::actors::{ActorWords, actors_of};
 use rv_choice::chosen::{Unchosen, chosen};
+use rv_choice::files::{FileWords, files_of, journals_of};
 use rv_choice::selection::Selection;
 use rv_fault::Failure;
 use rv_shown::Shown;
@@ -15,9 +16,24 @@ use std::{env, io};
 // What stands below what is wrong with a command line, as clap has it.
 const HINT: &str = "\n\nFor more information, try '--help'.\n";
 
+// Whether a line tells how a number below 0 could be given, which no flag takes.
+fn is_vain_tip(line: &str) -> bool {
+    match line.strip_prefix("  tip: to pass '-") {
+        Some(rest) => rest
+            .as_bytes()
+            .first()
+            .is_some_and(|byte| byte.is_ascii_digit()),
+        None => false,
+    }
+}
+
 // Writes lines to standard error, as they are shown: words of the command line stand in them.
 fn tell_shown<R: Eprint>(rt: &R, text: &str) {
     for line in text.split_inclusive('\n') {
+        if is_vain_tip(line) {
+            let _ = eprintln!(rt; "  tip: no flag takes a number below 0");
+            continue;
+        }
         let _ = match line.strip_suffix('\n') {
             Some(front) => {
                 let shown = Shown { text: front };
@@ -111,6 +127,30 @@ pub fn actors<'a, R: Print + Eprint>(
 ) -> Result<Vec<ActorWords<'a>>, Stop> {
     match actors_of(alloc, words) {
         Ok(actors) => Ok(actors),
+        Err(why) => Err(unchosen(rt, alloc, why)),
+    }
+}
+
+/// The files that a run writes beside its journal, by words that `choice` took.
+pub fn files<'a, R: Print + Eprint>(
+    rt: &R,
+    alloc: Global,
+    words: &'a [&'a str],
+) -> Result<FileWords<'a>, Stop> {
+    match files_of(alloc, words) {
+        Ok(files) => Ok(files),
+        Err(why) => Err(unchosen(rt, alloc, why)),
+    }
+}
+
+/// The files of the journal that is judged, by words that `choice` took.
+pub fn journals<'a, R: Print + Eprint>(
+    rt: &R,
+    alloc: Global,
+    words: &'a [&'a str],
+) -> Result<Vec<&'a str>, Stop> {
+    match journals_of(alloc, words) {
+        Ok(names) => Ok(names),
         Err(why) => Err(unchosen(rt, alloc, why)),
     }
 }

@@ -5,6 +5,7 @@ ghost use Rattle.std.specs.Io.KnownBytes.{Consumes};
 ghost use Rattle.rv_script.specs.Whole.{most_bytes};
 
 use crate::status::Stop;
+use crate::telling::Telling;
 use rv_fault::Failure;
 use rv_input::{Before, Input};
 use rv_run::command::of_input;
@@ -88,6 +89,17 @@ pub fn source_of<R: Files + Eprint>(
         bytes,
         goes_on: false,
     })
+}
+
+/// Tells, where notes are told, of a file that has nothing.
+pub fn note_empty<R: Eprint>(rt: &R, telling: Telling, name: Option<&str>, given: &Given) {
+    let Some(name) = name else {
+        return;
+    };
+    if telling.is_shown && given.bytes.len() == 0 {
+        let name = Shown { text: name };
+        let _ = eprintln!(rt; "note: {name} is empty");
+    }
 }
 
 /// What stands before the commands of a script for `run`, and what had to be read with it: with what is left the whole.

@@ -4,6 +4,7 @@ ghost use Rattle.std.specs.Prelude.{◌≡◌};
 ghost use Rattle.ravenhost.specs.Status.{status_of};
 
 use rv_fault::Failure;
+use std::io::ErrorKind;
 
 /// The status where memory or a thread is refused before anything is done.
 pub const NO_MEANS: u8 = 3;
@@ -54,5 +55,17 @@ pub fn status_of(outcome: &Result<(), Stop>) -> u8
         Err(Stop::Failed(Failure::Io(_)) | Stop::BadFile) => 4,
         Err(Stop::EndedItself) => 5,
         Err(Stop::LeftBehind) => 6,
+    }
+}
+
+/// Which standard stream failed, as far as the kind of an error tells.
+pub fn stream_of(kind: ErrorKind) -> Option<&'static str> {
+    match kind {
+        ErrorKind::BrokenPipe
+        | ErrorKind::WriteZero
+        | ErrorKind::StorageFull
+        | ErrorKind::FileTooLarge => Some("standard output"),
+        ErrorKind::IsADirectory => Some("standard input"),
+        _ => None,
     }
 }

@@ -1,7 +1,6 @@
 -- Chores, one after another.
 use Rattle.std.proofs.Common.{◌≡◌, ℕ, zero, suc, Bool, true, false, Ok, Err, inl, inr, refl, sym, subst}
 use Rattle.std.specs.Prelude.{IfErr, IfOk, Result, min, pos}
-use Rattle.rv_access.specs.declared.change.Change.TheVariants as changes
 use Rattle.rv_behind.specs.Acting.{Does}
 use Rattle.rv_behind.specs.Events.{by}
 use Rattle.rv_behind.specs.declared.event.Ask.{Ask}
@@ -24,12 +23,9 @@ use Rattle.rv_turn.specs.Passes.{Acted}
 use Rattle.rv_turn.specs.declared.pass.Worn.{Worn as Spent}
 use Rattle.rv_attend.specs.Chores.{Chores, ChoresIn, ChoresOn, IsAsked, IsChore}
 use Rattle.rv_attend.specs.Going.{Terms}
-use Rattle.rv_attend.specs.Rooming.{DeniesUnit, DoesDue}
 use Rattle.rv_attend.specs.Ticking.{AsksInAll, AsksOf, AsksRoom, Ticks, TicksOnce}
 use Rattle.rv_attend.proofs.Growing.{acted_later, later_on, same_later}
 use Rattle.rv_view.specs.Views.{Shown}
-use Rattle.rv_tally.specs.declared.guard.Due.{Due}
-use Rattle.rv_tally.specs.declared.guard.Due.TheVariants as Dues
 
 pub no_chores_in : (lasting : Bool) (v w : Passing) → w ≡ v → ChoresIn lasting v w
 no_chores_in lasting v w same = (0, same)
@@ -65,7 +61,6 @@ as_asked true request is = absurd is
 
 as_chore : (lasting : Bool) (ask : Ask) → IsChore false ask → IsChore lasting ask
 as_chore lasting (asks.Step request) is = as_asked lasting request is
-as_chore lasting (asks.Change change) is = is
 as_chore lasting (asks.Read from) is = tt
 as_chore lasting asks.View is = tt
 as_chore lasting ask is = absurd is
@@ -82,9 +77,6 @@ widen lasting v w chores = (chores.0, widen_on lasting chores.0 v w chores.1)
 pub chores_tend : (a b : Terms) (v u w : Passing) → b ≡ a → ChoresIn a.asked.lasting v u → ChoresIn b.asked.lasting u w → ChoresIn a.asked.lasting v w
 chores_tend a b v u w same first last =
     chores_in_on a.asked.lasting v u w first (subst (λ (t : Terms). ChoresIn t.asked.lasting u w) same last)
-
-pub as_terms : (a b : Terms) (v w : Passing) → b ≡ a → ChoresIn a.asked.lasting v w → ChoresIn b.asked.lasting v w
-as_terms a b v w same chores = subst (λ (t : Terms). ChoresIn t.asked.lasting v w) (sym same) chores
 
 -- what the operator has seen only grows by them
 later : (lasting : Bool) (count : ℕ) (v w : Passing) → ChoresOn lasting count v w → Later v w
@@ -139,19 +131,6 @@ read (suc count) v w reads = chores_on v reads.0 w (read count v reads.0 reads.3
 
 pub reads_chores : (v w : Passing) → Reads v w → Chores v w
 reads_chores v w reads = read reads.0 v w reads.1
-
--- Denials
-
-denies : (v w : Passing) (place : ℕ) (result : Result Answer Spent) → DeniesUnit v w place result → Chores v w
-denies v w place (Ok answer) (inl told) = chore_told v w (Ask.Change (changes.Append told.0)) answer (told.1.0.name, told.1.2) told.2
-denies v w place (Ok answer) (inr same) = no_chores v w same.0
-denies v w place (Err x) worn = no_chores v w worn.1
-
-pub due_chores : (v w : Passing) (due : Due) → DoesDue due v w → Chores v w
-due_chores v w Dues.Nothing same = no_chores v w same
-due_chores v w (Dues.Tell level) same = no_chores v w same
-due_chores v w (Dues.Deny place) does = denies v w place does.0 does.1
-due_chores v w Dues.Halt same = no_chores v w same
 
 -- What is shown of the host
 

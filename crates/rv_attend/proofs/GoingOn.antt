@@ -1,83 +1,47 @@
 -- Why a run goes on or ends, behind what was done before.
-use Rattle.std.proofs.Common.{◌≡◌, ◌∙◌, ◌≤◌, ◌+◌, ◌-◌, ℕ, Bool, true, List, Option, Some, None, Ok, Err, inl, inr, refl, sym, ap, subst, arith, length, length-append}
+use Rattle.std.proofs.Common.{◌≡◌, ◌∙◌, ◌≤◌, ◌+◌, ◌-◌, ℕ, Bool, true, List, [], Option, Some, None, Ok, Err, inl, inr, refl, sym, ap, subst, arith, append-nil, length, length-append}
 use Rattle.std.specs.Prelude.{◌⊎◌, IfErr, IfOk, IfSome, Result}
+use Rattle.std.specs.Io.KnownBytes.{Appends}
 use Rattle.std.proofs.lemmas.Bool.Decides.{nat_tests}
 use Rattle.rv_behind.specs.Events.{history_at}
-use Rattle.rv_event.specs.declared.entry.Answer.{Answer}
-use Rattle.rv_event.specs.declared.entry.Answer.TheVariants.{OutOfMemory}
 use Rattle.rv_feed.specs.Hearing.{Hears, IsStopped}
 use Rattle.rv_feed.specs.declared.feed.Came.{Came}
 use Rattle.rv_feed.specs.declared.feed.Came.TheVariants.{Bytes, Nothing, Over}
 use Rattle.rv_feed.specs.declared.piece.Piece.{Piece}
 use Rattle.rv_follow.specs.Following.{IsKept}
 use Rattle.rv_follow.proofs.Growing.{goes_on}
+use Rattle.rv_history.specs.History.{History}
+use Rattle.rv_history.specs.Journal.{journal_text}
 use Rattle.rv_history.specs.declared.limits.Limits.{Limits}
 use Rattle.rv_input.specs.Coming.{Reading}
 use Rattle.rv_input.specs.Whole.{HasCommand}
 use Rattle.rv_input.specs.declared.fault.InputFault.{InputFault}
 use Rattle.rv_keep.specs.Keeping.{Known}
 use Rattle.rv_port.specs.Traces.{Passing, limits_in}
+use Rattle.rv_script.specs.Prefixes.{WritesPrefix}
 use Rattle.rv_run.specs.Beside.{Ended, IsOfRun}
 use Rattle.rv_run.specs.Staging.{Outcome}
 use Rattle.rv_run.specs.declared.command.Goes.{Goes}
 use Rattle.rv_run.specs.declared.command.Goes.TheVariants.{On, Out}
 use Rattle.rv_run.specs.declared.outputs.KeptFailure.{KeptFailure}
-use Rattle.rv_tally.specs.Denying.{ends_run}
+use Rattle.rv_run.specs.declared.outputs.KeptFailure.TheVariants.{File, Run}
 use Rattle.rv_tally.specs.Guarding.{is_below}
 use Rattle.rv_attend.specs.Attending.{Grows}
-use Rattle.rv_attend.specs.Chores.{ChoresIn}
-use Rattle.rv_attend.specs.Going.{CannotDeny, ClosesAs, CommandComes, FailsToKeep, HaltIsDue, Terms, UnlessStopped, entries_seen, terms}
+use Rattle.rv_attend.specs.Going.{ClosesAs, CommandComes, FailsToKeep, IsLow, Terms, UnlessStopped, entries_seen, terms}
 use Rattle.rv_attend.specs.Lasting.{GoesFor, Halts, State}
-use Rattle.rv_attend.specs.Rooming.{DeniesUnit, DoesDue}
-use Rattle.rv_tally.specs.declared.guard.Due.TheVariants.{Deny}
 use Rattle.rv_attend.specs.declared.attention.Attention.{Attention}
-use Rattle.rv_attend.specs.declared.room.Then.{Then}
-use Rattle.rv_attend.specs.declared.room.Then.TheVariants.{End}
 use Rattle.rv_attend.specs.declared.waiting.Heard.{Heard}
 use Rattle.rv_attend.specs.declared.waiting.Heard.TheVariants.{Command}
 use Rattle.rv_attend.proofs.Attended.{grows_same}
-use Rattle.rv_attend.proofs.Chores.{chores_in_on, no_chores_in}
 
 -- The room
 
-pub low_due : (asked : Attention) (capacity used : ℕ) (v w : Passing) (is : Bool) → is ≡ is_below asked.halt_below (capacity - used) → is ≡ true
-    → HaltIsDue (terms asked capacity) used v w
-low_due asked capacity used v w is same low = inl (sym same ∙ low)
+pub low_due : (asked : Attention) (capacity used : ℕ) (is : Bool) → is ≡ is_below asked.halt_below (capacity - used) → is ≡ true → IsLow (terms asked capacity) used
+low_due asked capacity used is same low = sym same ∙ low
 
-pub cannot_by : (asked : Attention) (capacity quota place : ℕ) (v w : Passing) (answer : Answer) (then' : Then) → asked.quota ≡ Some quota
-    → DeniesUnit v w place (Ok answer) → (then' ≡ End → ends_run answer ≡ true) → then' ≡ End → CannotDeny (terms asked capacity) v w
-cannot_by asked capacity quota place v w answer then' some denies ends is = record {
-  quota = quota;
-  is_quota = some;
-  before = v;
-  chores = no_chores_in asked.lasting v v refl;
-  place = place;
-  answer = answer;
-  denies = denies;
-  ends = ends is;
-}
-
--- nothing is asked
-pub denies_none : (v : Passing) (place : ℕ) → DoesDue (Deny place) v v
-denies_none v place = (Ok OutOfMemory, inr (refl, refl))
-
-pub halt_after : (terms : Terms) (used : ℕ) (v u w : Passing) → ChoresIn terms.asked.lasting v u → HaltIsDue terms used u w → HaltIsDue terms used v w
-halt_after terms used v u w first (inl low) = inl low
-halt_after terms used v u w first (inr cannot) = inr record {
-  quota = cannot.quota;
-  is_quota = cannot.is_quota;
-  before = cannot.before;
-  chores = chores_in_on terms.asked.lasting v u cannot.before first cannot.chores;
-  place = cannot.place;
-  answer = cannot.answer;
-  denies = cannot.denies;
-  ends = cannot.ends;
-}
-
-pub halt_as : (asked : Attention) (capacity capacity' used used' : ℕ) (v w : Passing) → capacity' ≡ capacity → used ≡ used' → HaltIsDue (terms asked capacity) used v w
-    → HaltIsDue (terms asked capacity') used' v w
-halt_as asked capacity capacity' used used' v w same is due =
-    subst (λ (n : ℕ). HaltIsDue (terms asked n) used' v w) (sym same) (subst (λ (n : ℕ). HaltIsDue (terms asked capacity) n v w) is due)
+pub low_as : (asked : Attention) (capacity capacity' used used' : ℕ) → capacity' ≡ capacity → used ≡ used' → IsLow (terms asked capacity) used → IsLow (terms asked capacity') used'
+low_as asked capacity capacity' used used' same is low =
+    subst (λ (n : ℕ). IsLow (terms asked n) used') (sym same) (subst (λ (n : ℕ). IsLow (terms asked capacity) n) is low)
 
 less_room : (least : Option ℕ) (capacity used more : ℕ) → used ≤ more → is_below least (capacity - used) ≡ true → is_below least (capacity - more) ≡ true
 less_room None capacity used more h low = low
@@ -93,9 +57,9 @@ seen_long opened now v next (inr since) =
     omega (arith, same, long, since.kept.within)
 
 -- what was written of a journal is no more than the operator has seen of it
-pub halt_seen : (terms : Terms) (opened now : Known) (v w : Passing) (next : ℕ) → IsKept opened now w next → HaltIsDue terms (next - 1) v w → HaltIsDue terms (entries_seen w) v w
-halt_seen terms opened now v w next kept (inl low) = inl (less_room terms.asked.halt_below terms.capacity (next - 1) (entries_seen w) (seen_long opened now w next kept) low)
-halt_seen terms opened now v w next kept (inr cannot) = inr cannot
+pub low_seen : (terms : Terms) (opened now : Known) (w : Passing) (next : ℕ) → IsKept opened now w next → IsLow terms (next - 1) → IsLow terms (entries_seen w)
+low_seen terms opened now w next kept low =
+    less_room terms.asked.halt_below terms.capacity (next - 1) (entries_seen w) (seen_long opened now w next kept) low
 
 -- The input
 
@@ -128,11 +92,9 @@ comes_by heard heard' old new Nothing found hears told is = by_word (told is)
 
 -- The run goes on, or ends
 
-pub goes_after : (s u t : State) (input : Reading) (heard : List Piece) (told : Option (List Piece)) (goes : Goes) → ChoresIn t.terms.asked.lasting s.staff.control u.staff.control
-    → GoesFor u t input heard told goes → GoesFor s t input heard told goes
-goes_after s u t input heard told On first comes = comes
-goes_after s u t input heard told Out first (inl due) = inl (halt_after t.terms (t.next - 1) s.staff.control u.staff.control t.staff.control first due)
-goes_after s u t input heard told Out first (inr stopped) = inr stopped
+pub goes_after : (s u t : State) (input : Reading) (heard : List Piece) (told : Option (List Piece)) (goes : Goes) → GoesFor u t input heard told goes → GoesFor s t input heard told goes
+goes_after s u t input heard told On comes = comes
+goes_after s u t input heard told Out ends = ends
 
 -- behind a look at the pipe that ends it
 pub goes_unless : (s t : State) (input : Reading) (heard heard' : List Piece) (told told' : Option (List Piece)) (goes result : Goes) → heard' ≡ heard
@@ -171,11 +133,10 @@ leaves_out Why (Ok goes) result out is why = subst (λ (r : Result Goes KeptFail
 leaves_out Why (Err failure) result out is why = subst (λ (r : Result Goes KeptFailure). IfOk r Why) (sym is) tt
 
 -- behind chores that are done once a command has come
-pub caught_up : (s u t : State) (input : Reading) (heard heard' : List Piece) (told : Option (List Piece)) (goes : Goes) → ChoresIn t.terms.asked.lasting s.staff.control u.staff.control
+pub caught_up : (s u t : State) (input : Reading) (heard heard' : List Piece) (told : Option (List Piece)) (goes : Goes)
     → heard' ≡ heard → CommandComes heard input → (goes ≡ Out → Halts u t) → GoesFor s t input heard' told goes
-caught_up s u t input heard heard' told On first same comes halts = subst (λ (h : List Piece). CommandComes h input) (sym same) comes
-caught_up s u t input heard heard' told Out first same comes halts =
-    inl (halt_after t.terms (t.next - 1) s.staff.control u.staff.control t.staff.control first (halts refl))
+caught_up s u t input heard heard' told On same comes halts = subst (λ (h : List Piece). CommandComes h input) (sym same) comes
+caught_up s u t input heard heard' told Out same comes halts = inl (halts refl)
 
 pub if_ok : {X E : Type 0} (result : Result X E) (P Q : X → Type 0) → ((x : X) → P x → Q x) → IfOk result P → IfOk result Q
 if_ok (Ok x) P Q map fact = map x fact
@@ -190,3 +151,12 @@ any_ok (Err error) = tt
 pub closes_as : (x : Unit {0}) (result : Ended) → IfErr result FailsToKeep → ClosesAs (Ok x) result
 closes_as x (Ok y) fails = tt
 closes_as x (Err failure) fails = fails
+
+-- what else is written at the end fails
+pub closes_less : (served : Ended) (x : Unit {0}) (error : _) → ClosesAs served (Ok x) → ClosesAs served (Err (File error))
+closes_less (Ok y) x error closes = tt
+closes_less (Err (Run failure)) x error closes = absurd closes
+closes_less (Err (File other)) x error closes = absurd (cc closes)
+
+pub file_less : (opened now : Known) (h : History) → Appends opened now (journal_text h) → WritesPrefix opened now (journal_text h)
+file_less opened now h whole = record { prefix = journal_text h; rest = []; whole = sym (append-nil (journal_text h)); written = whole }

@@ -33,7 +33,7 @@ use Rattle.rv_text.specs.Words.{words}
 use Rattle.rv_turn.specs.Histories.{StartsWith}
 use Rattle.rv_turn.specs.Passes.{Acted, IsWorn}
 use Rattle.rv_turn.specs.declared.pass.Worn.{Worn as Spent}
-use Rattle.rv_run.specs.Commanding.{Commands, Follows, LoadsIn, LoadsNext, LoadsText, StartsOn}
+use Rattle.rv_run.specs.Commanding.{Admission, Commands, Follows, LoadsIn, LoadsNext, LoadsText, StartsOn}
 use Rattle.rv_run.specs.Staging.{Outcome, Stage}
 use Rattle.rv_run.specs.declared.command.Goes.TheVariants.{On, Out}
 
@@ -93,7 +93,7 @@ carries_later : (old new : Known) (v w : Passing) (order : Option Order) (result
 carries_later old new v w (Some order) result obeys = obeys_later old new v w order result obeys
 carries_later old new v w None result says = same_later v w says.0
 
-serves_later : (old new : Known) (v w : Passing) (line : List (List ℕ)) (result : Result Next LineFault) → Serves old new v w line result → Later v w
+pub serves_later : (old new : Known) (v w : Passing) (line : List (List ℕ)) (result : Result Next LineFault) → Serves old new v w line result → Later v w
 serves_later old new v w line result (inl none) = same_later v w none.0
 serves_later old new v w line result (inr carries) = carries_later old new v w (order_of line) result carries
 
@@ -122,29 +122,30 @@ starts_on_later v w old new (Ok On) result starts = starts_later v w old new res
 starts_on_later v w old new (Ok Out) result same = same_later v.control w.control (ap (λ (s : Staffed). s.control) same.0)
 starts_on_later v w old new (Err failure) result same = same_later v.control w.control (ap (λ (s : Staffed). s.control) same.0)
 
-loads_text_later : (v w : Staffed) (old new : Known) (text : List ℕ) (result : Outcome) → LoadsText v w old new text result → Later v.control w.control
+loads_text_later : {admits : Admission} (v w : Staffed) (old new : Known) (text : List ℕ) (result : Outcome) → LoadsText admits v w old new text result → Later v.control w.control
 loads_text_later v w old new text result (inl loads) =
     later_on v.control loads.loaded w.control (loads_later v.control loads.loaded loads.unit.shape loads.unit.bodies loads.answer loads.told)
     (starts_on_later (record v { control = loads.loaded }) w loads.welcomed.noted new loads.welcomed.goes result loads.welcomed.started)
-loads_text_later v w old new text result (inr refused) = same_later v.control w.control (ap (λ (s : Staffed). s.control) refused.same)
+loads_text_later v w old new text result (inr (inl turned)) = same_later v.control w.control (ap (λ (s : Staffed). s.control) turned.same)
+loads_text_later v w old new text result (inr (inr refused)) = same_later v.control w.control (ap (λ (s : Staffed). s.control) refused.same)
 
-loads_next_later : (s t : Stage) (result : Outcome) → LoadsNext s t result → Later s.staff.control t.staff.control
+loads_next_later : {admits : Admission} (s t : Stage) (result : Outcome) → LoadsNext admits s t result → Later s.staff.control t.staff.control
 loads_next_later s t result (inl text) = loads_text_later s.staff t.staff s.written t.written text.text result text.loads
 loads_next_later s t result (inr (inl none)) = same_later _ _ (ap (λ (x : Staffed). x.control) none.nothing.staff)
 loads_next_later s t result (inr (inr fails)) = same_later _ _ (ap (λ (x : Staffed). x.control) fails.nothing.staff)
 
-follows_later : (s t : Stage) (next : Result Next LineFault) (result : Outcome) → Follows s t next result → Later s.staff.control t.staff.control
-follows_later s t (Ok Nexts.Load) result follows = loads_next_later s t result follows
-follows_later s t (Ok (Nexts.Raise line)) result follows = same_later _ _ (ap (λ (x : Staffed). x.control) follows.same)
-follows_later s t (Ok Nexts.Go) result follows = same_later _ _ (ap (λ (x : Staffed). x.control) follows.same)
-follows_later s t (Ok Nexts.Quit) result follows = same_later _ _ (ap (λ (x : Staffed). x.control) follows.same)
-follows_later s t (Err fault) result follows = same_later _ _ (ap (λ (x : Staffed). x.control) follows.same)
+follows_later : (admits : Admission) (s t : Stage) (next : Result Next LineFault) (result : Outcome) → Follows admits s t next result → Later s.staff.control t.staff.control
+follows_later admits s t (Ok Nexts.Load) result follows = loads_next_later s t result follows
+follows_later admits s t (Ok (Nexts.Raise line)) result follows = same_later _ _ (ap (λ (x : Staffed). x.control) follows.same)
+follows_later admits s t (Ok Nexts.Go) result follows = same_later _ _ (ap (λ (x : Staffed). x.control) follows.same)
+follows_later admits s t (Ok Nexts.Quit) result follows = same_later _ _ (ap (λ (x : Staffed). x.control) follows.same)
+follows_later admits s t (Err fault) result follows = same_later _ _ (ap (λ (x : Staffed). x.control) follows.same)
 
-pub commands_later : (s t : Stage) (line : List ℕ) (result : Outcome) → Commands s t line result → Later s.staff.control t.staff.control
+pub commands_later : {admits : Admission} (s t : Stage) (line : List ℕ) (result : Outcome) → Commands admits s t line result → Later s.staff.control t.staff.control
 commands_later s t line result commands =
     later_on s.staff.control commands.asked t.staff.control
     (serves_later s.written commands.said s.staff.control commands.asked (words line) commands.next commands.served)
-    (follows_later (record s { staff = record s.staff { control = commands.asked }; written = commands.said }) t commands.next result commands.follows)
+    (follows_later _ (record s { staff = record s.staff { control = commands.asked }; written = commands.said }) t commands.next result commands.follows)
 
 -- The console
 

@@ -10,3 +10,4 @@ pub mod GoingOn
 pub mod Unread
 pub mod Beginning
 pub mod Owing
+pub mod AskedAgain

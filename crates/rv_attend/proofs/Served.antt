@@ -1,15 +1,19 @@
 -- Without a console the lines of what came are served as commands, each behind what was due.
 use Rattle.std.proofs.Common.{◌≡◌, ◌∙◌, ℕ, arith, zero, suc, Bool, true, false, List, [], Option, Some, None, Ok, Err, inl, inr, refl, sym, ap, subst, le_of_lt}
-use Rattle.std.specs.Prelude.{◌⊎◌, IfNone, IfOk, Result}
+use Rattle.std.specs.Prelude.{◌⊎◌, IfOk, Result}
 use Rattle.rv_staff.specs.Staffs.{Workers}
 use Rattle.rv_feed.specs.Hearing.{HearsOn, IsStopped}
 use Rattle.rv_follow.specs.Following.{IsKept}
 use Rattle.rv_follow.proofs.Reading.{kept_later}
 use Rattle.rv_input.specs.Coming.{GivesLine, Reading, Shortens}
 use Rattle.rv_keep.specs.Keeping.{Known as Filed}
+use Rattle.rv_port.specs.Traces.{Passing}
+use Rattle.rv_shell.specs.declared.shell.LineFault.{LineFault}
+use Rattle.rv_shell.specs.declared.shell.Next.{Next}
+use Rattle.rv_shell.specs.declared.shell.Next.TheVariants as Nexts
 use Rattle.rv_staff.specs.Saying.{Known}
 use Rattle.rv_run.specs.Beside.{Ended, IsOfRun, Moment}
-use Rattle.rv_run.specs.Commanding.{Commands}
+use Rattle.rv_run.specs.Commanding.{Admission, AdmitsAll, Commands, Follows}
 use Rattle.rv_run.specs.Finishing.{Served}
 use Rattle.rv_run.specs.FinishingBeside.{GoesOnByWith, GoesWith, ServesIfWith}
 use Rattle.rv_run.specs.ServingBeside.{CarriesOut, ServesAllWith, ServesIfOn, ServesLine, ServesNextWith, ServesOneWith, ServesUpToWith, reads}
@@ -17,13 +21,16 @@ use Rattle.rv_run.specs.Staging.{Comes, Outcome, Stage}
 use Rattle.rv_run.specs.declared.command.Goes.{Goes}
 use Rattle.rv_run.specs.declared.command.Goes.TheVariants.{On, Out}
 use Rattle.rv_run.specs.declared.outputs.KeptFailure.{KeptFailure}
-use Rattle.rv_attend.specs.Attending.{AttendedAll, AttendedBy, AttendedIf, AttendedOne, AttendedUpTo, Attends, EndsFor, EndsOut, GoesAttended, Point, ServesBehind, ServesHeard}
-use Rattle.rv_attend.specs.Going.{CommandComes, HaltIsDue, Terms, entries_seen}
-use Rattle.rv_attend.specs.Holding.{Holding, IsPlain, attended, point_of, state_of}
+use Rattle.rv_attend.specs.Attending.{AttendedAll, AttendedBy, AttendedIf, AttendedOne, AttendedUpTo, Attends, EndsFor, EndsOut, GoesAttended, Point, ServesHeard, ServesSo}
+use Rattle.rv_attend.specs.Again.{AskedAgain, InVain, with_control}
+use Rattle.rv_attend.specs.Chores.{Chores}
+use Rattle.rv_attend.specs.Going.{CommandComes, IsLow, Terms, entries_seen}
+use Rattle.rv_attend.specs.Holding.{HeedsTo, Holding, IsPlain, attended, point_of, state_of}
 use Rattle.rv_attend.specs.KeepingRuns.{Stands}
+use Rattle.rv_attend.specs.Letting.{LetsIn}
 use Rattle.rv_attend.specs.Lasting.{GoesFor, Halts}
 use Rattle.rv_attend.proofs.Chores.{no_chores}
-use Rattle.rv_attend.proofs.GoingOn.{halt_seen}
+use Rattle.rv_attend.proofs.GoingOn.{low_seen}
 use Rattle.rv_attend.proofs.Growing.{starts_later}
 use Rattle.rv_attend.proofs.Lasted.{next_grown, up_to_lasts}
 use Rattle.rv_attend.proofs.Unread.{next_none}
@@ -39,38 +46,92 @@ only_asked s t crew written input left =
     ∙ ap (λ (r : Reading). record { staff = record s.staff { control = t.staff.control }; written = s.written; input = r; left = t.left }) input
     ∙ ap (λ (l : Known). record { staff = record s.staff { control = t.staff.control }; written = s.written; input = s.input; left = l }) left
 
-unanswered : {C : Type 0} (holds : C → Holding) (m n : Moment C) (line : List ℕ) (answer : Option Outcome) (result : Outcome) → answer ≡ None
-    → CarriesOut (attended holds) m line answer n result → Commands m.stage n.stage line result
-unanswered holds m n line (Some answered) result none same = absurd (cc none)
-unanswered holds m n line None result none does = subst (λ (x : Moment _). Commands m.stage x.stage line result) (sym does.4) does.2
+unanswered : {C : Type 0} (holds : C → Holding) (m n : Moment C) (line : List ℕ) (result : Outcome)
+    → CarriesOut (attended holds) m line None n result → Commands (LetsIn (holds m.chores).terms) m.stage n.stage line result
+unanswered holds m n line result does = subst (λ (x : Moment _). Commands (LetsIn (holds m.chores).terms) m.stage x.stage line result) (sym does.4) does.2
 
-at_none : (answer : Option Outcome) (P : Type 0) → answer ≡ None → IfNone answer P → P
-at_none (Some answered) P none fact = absurd (cc none)
-at_none None P none fact = fact
+-- what is no load is carried out so, whichever units are let in
+follows_any : (admits : Admission) (s t : Stage) (next : Result Next LineFault) (result : Outcome) → IfOk next (λ n. n ≡ Nexts.Go)
+    → Follows AdmitsAll s t next result → Follows admits s t next result
+follows_any admits s t (Ok Nexts.Go) result is done = done
+follows_any admits s t (Ok Nexts.Load) result is done = absurd (cc is)
+follows_any admits s t (Ok (Nexts.Raise line)) result is done = absurd (cc is)
+follows_any admits s t (Ok Nexts.Quit) result is done = absurd (cc is)
+follows_any admits s t (Err fault) result is done = done
 
-come_line : {C : Type 0} (holds : C → Holding) (m n : Moment C) (result : Outcome) (line : List ℕ) (input : Reading) (left : Known) → IsPlain (holds m.chores) → Shortens m.stage.left left
-    → Comes m.stage (reads m input left).stage (GivesLine input.given (Some line)) → ServesLine (attended holds) (reads m input left) n line result
-    → ServesBehind m.stage.staff m.stage n.stage result
-come_line holds m n result line input left plain shorter comes serves =
-    let heeds = serves.heeds in
-    let none = heeds.plain plain in
-    let is = only_asked (reads m input left).stage serves.heeded.stage (at_none serves.answer _ none.0 heeds.crew) none.1 heeds.unread.input heeds.unread.left in (
-      serves.heeded.stage.staff.control,
-      at_none serves.answer _ none.0 heeds.chores,
+commands_any : (admits : Admission) (s t : Stage) (line : List ℕ) (result : Outcome) → (commands : Commands AdmitsAll s t line result)
+    → IfOk commands.next (λ n. n ≡ Nexts.Go) → Commands admits s t line result
+commands_any admits s t line result commands goes = record {
+  next = commands.next;
+  asked = commands.asked;
+  said = commands.said;
+  served = commands.served;
+  follows = follows_any admits (record s { staff = record s.staff { control = commands.asked }; written = commands.said }) t commands.next result goes commands.follows;
+}
+
+-- the next line is one that was carried out behind an archive, if need be
+again_so : (terms : Terms) (s t : Stage) (line : List ℕ) (input : Reading) (left : Known) (u : Passing) (result : Outcome) → terms.asked.lasting ≡ true → Shortens s.left left
+    → Comes s (record s { input = input; left = left }) (GivesLine input.given (Some line)) → Chores s.staff.control u
+    → AskedAgain (with_control (record s { input = input; left = left }) u) t line result → ServesSo terms s t result
+again_so terms s t line input left u result is shorter comes chores asked = by_before asked.before
+  where
+    by_before : (asked.again ≡ u) ⊎ InVain u asked.again line → ServesSo terms s t result
+    by_before (inl same) = inl (
+      u,
+      chores,
       inl record {
         line = line;
         read = input;
         left = left;
         comes = comes;
         shorter = shorter;
-        commands = subst (λ (x : Stage). Commands x n.stage line result) is (unanswered holds serves.heeded n line serves.answer result none.0 serves.carried);
+        commands = subst (λ (v : Passing). Commands (LetsIn terms) (with_control (record s { input = input; left = left }) v) t line result) same
+            (commands_any (LetsIn terms) (with_control (record s { input = input; left = left }) asked.again) t line result asked.commands asked.goes);
+      },
+    )
+    by_before (inr vain) = inr (
+      is,
+      record {
+        noted = u;
+        chores = chores;
+        again = asked.again;
+        comes = record { line = line; read = input; left = left; comes = comes; shorter = shorter; commands = asked.commands };
+        vain = vain;
       },
     )
 
+come_line : {C : Type 0} (holds : C → Holding) (m n : Moment C) (result : Outcome) (line : List ℕ) (input : Reading) (left : Known) → IsPlain (holds m.chores) → Shortens m.stage.left left
+    → Comes m.stage (reads m input left).stage (GivesLine input.given (Some line)) → ServesLine (attended holds) (reads m input left) n line result
+    → ServesSo (holds m.chores).terms m.stage n.stage result
+come_line {C} holds m n result line input left plain shorter comes serves = by_answer serves.answer serves.heeds serves.carried
+  where
+    by_answer : (answer : Option Outcome) → HeedsTo holds (reads m input left) serves.heeded line answer
+        → CarriesOut (attended holds) serves.heeded line answer n result → ServesSo (holds m.chores).terms m.stage n.stage result
+    by_answer None heeds carried =
+        let is = only_asked (reads m input left).stage serves.heeded.stage heeds.crew (heeds.plain plain) heeds.unread.input heeds.unread.left in
+        inl (
+          serves.heeded.stage.staff.control,
+          heeds.chores,
+          inl record {
+            line = line;
+            read = input;
+            left = left;
+            comes = comes;
+            shorter = shorter;
+            commands = subst (λ (x : Stage). Commands (LetsIn (holds m.chores).terms) x n.stage line result) is
+                (subst (λ (h : Holding). Commands (LetsIn h.terms) serves.heeded.stage n.stage line result) heeds.same (unanswered holds serves.heeded n line result carried));
+          },
+        )
+    by_answer (Some answered) heeds carried =
+        let so = heeds.plain plain in
+        again_so (holds m.chores).terms m.stage n.stage line input left so.1.0 result so.0 shorter comes so.1.1
+        (subst (λ (x : Moment C). AskedAgain (with_control (reads m input left).stage so.1.0) x.stage line result) (sym carried.0)
+        (subst (λ (o : Outcome). AskedAgain (with_control (reads m input left).stage so.1.0) serves.heeded.stage line o) (sym carried.1) so.1.2))
+
 next : {C : Type 0} (holds : C → Holding) (m n : Moment C) (result : Outcome) → IsPlain (holds m.chores) → ServesNextWith (attended holds) m n result
-    → ServesBehind m.stage.staff m.stage n.stage result
+    → ServesSo (holds m.chores).terms m.stage n.stage result
 next holds m n result plain (inl line) = come_line holds m n result line.line line.input line.left plain line.shorter line.comes line.serves
-next holds m n result plain (inr (inl none)) = (
+next holds m n result plain (inr (inl none)) = inl (
   m.stage.staff.control,
   no_chores m.stage.staff.control m.stage.staff.control refl,
   inr (inl record {
@@ -82,7 +143,7 @@ next holds m n result plain (inr (inl none)) = (
     ends = (none.leaves plain).1;
   }),
 )
-next holds m n result plain (inr (inr fails)) = (
+next holds m n result plain (inr (inr fails)) = inl (
   m.stage.staff.control,
   no_chores m.stage.staff.control m.stage.staff.control refl,
   inr (inr record {
@@ -90,6 +151,11 @@ next holds m n result plain (inr (inr fails)) = (
     fails = fails.fails;
   }),
 )
+
+-- nothing else can be read behind it
+so_none : (terms : Terms) (s t : Stage) (result : Outcome) → result ≡ Ok On → ServesSo terms s t result → s.left ≡ Some [] → t.left ≡ Some []
+so_none terms s t result on (inl behind) none = next_none (with_control s behind.0) t result on behind.2 none
+so_none terms s t result on (inr again) none = next_none (with_control s again.1.again) t result on (inl again.1.comes) none
 
 -- One command after another
 
@@ -110,7 +176,7 @@ went_on (Err failure) result is on = absurd (cc (is, on))
 -- what is served once the next command has come
 serves_on : {C : Type 0} (holds : C → Holding) (m u n : Moment C) (result : Result Goes KeptFailure) → IsPlain (holds u.chores) → u.stage.left ≡ Some []
     → HearsOn (holds m.chores).heard (holds u.chores).heard m.stage.input u.stage.input → CommandComes (holds u.chores).heard u.stage.input
-    → ServesIfOn (attended holds) (Ok On) u n result → ServesHeard (point_of holds m) (point_of holds u) (point_of holds n) result
+    → ServesIfOn (attended holds) (Ok On) u n result → ServesHeard (holds u.chores).terms (point_of holds m) (point_of holds u) (point_of holds n) result
 serves_on holds m u n result plain unread hears comes serves =
     let grown = next_grown holds u n serves.0 serves.1 in
     let behind = next holds u n serves.0 plain serves.1 in
@@ -120,9 +186,7 @@ serves_on holds m u n result plain unread hears comes serves =
       serves = (serves.0, behind, serves.2);
       heard = ap (λ (h : Holding). h.heard) grown.1;
       told = ap (λ (h : Holding). h.told) grown.1;
-      unread = λ on.
-          next_none (record u.stage { staff = record u.stage.staff { control = behind.0 } }) n.stage serves.0 (went_on serves.0 result serves.2 on) behind.2 unread
-          ∙ sym unread;
+      unread = λ on. so_none (holds u.chores).terms u.stage n.stage serves.0 (went_on serves.0 result serves.2 on) behind unread ∙ sym unread;
     }
 
 -- why it ends
@@ -134,10 +198,10 @@ ends_out : {C : Type 0} (holds : C → Holding) (terms : Terms) (opened : Filed)
 ends_out holds terms opened m u same hears kept why = record { hears = hears; why = by_why why }
   where
     by_why : Halts (state_of holds m) (state_of holds u) ⊎ IsStopped (holds u.chores).told
-        → HaltIsDue terms (entries_seen u.stage.staff.control) m.stage.staff.control u.stage.staff.control ⊎ IsStopped (holds u.chores).told
+        → IsLow terms (entries_seen u.stage.staff.control) ⊎ IsStopped (holds u.chores).told
     by_why (inl due) =
-        inl (subst (λ (t : Terms). HaltIsDue t (entries_seen u.stage.staff.control) m.stage.staff.control u.stage.staff.control) same
-        (halt_seen (holds u.chores).terms opened (holds u.chores).file m.stage.staff.control u.stage.staff.control (holds u.chores).next kept due))
+        inl (subst (λ (t : Terms). IsLow t (entries_seen u.stage.staff.control)) same
+        (low_seen (holds u.chores).terms opened (holds u.chores).file u.stage.staff.control (holds u.chores).next kept due))
     by_why (inr stopped) = inr stopped
 
 if_on : {C : Type 0} (holds : C → Holding) (terms : Terms) (opened : Filed) (m u n : Moment C) (tended result : Result Goes KeptFailure)
@@ -146,9 +210,11 @@ if_on : {C : Type 0} (holds : C → Holding) (terms : Terms) (opened : Filed) (m
     → IfOk tended (GoesFor (state_of holds m) (state_of holds u) u.stage.input (holds u.chores).heard (holds u.chores).told)
     → Stands opened (holds u.chores).file u.stage.staff.control (holds u.chores).next tended
     → ServesIfOn (attended holds) tended u n result
-    → ServesHeard (point_of holds m) (point_of holds u) (point_of holds n) result
+    → ServesHeard terms (point_of holds m) (point_of holds u) (point_of holds n) result
     ⊎ ((point_of holds n ≡ point_of holds u) × EndsFor terms (point_of holds m) (point_of holds u) result)
-if_on holds terms opened m u n (Ok On) result plain same unread hears goes stands serves = inl (serves_on holds m u n result plain unread hears goes serves)
+if_on holds terms opened m u n (Ok On) result plain same unread hears goes stands serves =
+    inl (subst (λ (t : Terms). ServesHeard t (point_of holds m) (point_of holds u) (point_of holds n) result) same
+    (serves_on holds m u n result plain unread hears goes serves))
 if_on holds terms opened m u n (Ok Out) result plain same unread hears goes stands ends =
     inr (
       ap (λ (x : Moment _). point_of holds x) ends.0,
@@ -174,7 +240,7 @@ one holds terms opened m n result is serves =
 still_unread : (terms : Terms) (p q : Point) → AttendedOne terms p q (Ok On) → p.stage.left ≡ Some [] → q.stage.left ≡ Some []
 still_unread terms p q attends none = by_word attends.served
   where
-    by_word : ServesHeard p attends.between q (Ok On) ⊎ ((q ≡ attends.between) × EndsFor terms p attends.between (Ok On)) → q.stage.left ≡ Some []
+    by_word : ServesHeard terms p attends.between q (Ok On) ⊎ ((q ≡ attends.between) × EndsFor terms p attends.between (Ok On)) → q.stage.left ≡ Some []
     by_word (inl serves) = serves.unread refl ∙ (attends.attended.left ∙ none)
     by_word (inr (same, ends)) = absurd ends
 

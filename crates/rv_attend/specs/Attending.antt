@@ -9,8 +9,10 @@ use Rattle.rv_port.specs.Traces.{Passing}
 use Rattle.rv_staff.specs.Giving.{Starts}
 use Rattle.rv_staff.specs.Saying.{Known}
 use Rattle.rv_staff.specs.Staffs.{Staffed}
+use Rattle.rv_attend.specs.Again.{ServesAgain}
 use Rattle.rv_attend.specs.Chores.{Chores, ChoresIn}
-use Rattle.rv_attend.specs.Going.{CommandComes, HaltIsDue, Terms, entries_seen}
+use Rattle.rv_attend.specs.Going.{CommandComes, IsLow, Terms, entries_seen}
+use Rattle.rv_attend.specs.Letting.{LetsIn}
 use Rattle.rv_run.specs.Beside.{Ended, IsOfRun}
 use Rattle.rv_run.specs.Finishing.{Served}
 use Rattle.rv_run.specs.ServingLines.{ServesNext, most_commands}
@@ -36,12 +38,17 @@ pub record Attends (lasting : Bool) (s t : Stage) : Type 0 where
   pub written : Keeps s.written t.written
   pub left : t.left ≡ s.left
 
--- The next command of what came is carried out, behind chores for the notes on it.
-abbrev pub ServesBehind : Staffed → Stage → Stage → Outcome → Type 0
-ServesBehind first s t outcome = (u : Passing) × Chores first.control u × ServesNext (record s { staff = record first { control = u } }) t outcome
+-- The next command of what came is carried out, behind chores for the notes on it. Units are let in as the terms have it.
+abbrev pub ServesBehind : Terms → Staffed → Stage → Stage → Outcome → Type 0
+ServesBehind terms first s t outcome =
+    (u : Passing) × Chores first.control u × ServesNext (LetsIn terms) (record s { staff = record first { control = u } }) t outcome
 
-abbrev pub ServesCome : Stage → Stage → Result Goes KeptFailure → Type 0
-ServesCome s t result = (outcome : Outcome) × ServesBehind s.staff s t outcome × IsOfRun outcome result
+-- the same, or in a run that lasts it is asked once in vain before
+abbrev pub ServesSo : Terms → Stage → Stage → Outcome → Type 0
+ServesSo terms s t outcome = ServesBehind terms s.staff s t outcome ⊎ ((terms.asked.lasting ≡ true) × ServesAgain s t outcome)
+
+abbrev pub ServesCome : Terms → Stage → Stage → Result Goes KeptFailure → Type 0
+ServesCome terms s t result = (outcome : Outcome) × ServesSo terms s t outcome × IsOfRun outcome result
 
 -- what an attended run is at, and the pieces that were heard of its input, and of the pipe that ends it, where there is one
 pub record Point : Type 0 where
@@ -54,18 +61,18 @@ point stage heard told = record { stage = stage; heard = heard; told = told }
 
 -- More of the input was heard, and the next command has come whole, or no more comes: then it is carried out. Where the run goes on
 -- nothing else can be read yet.
-pub record ServesHeard (first between last : Point) (result : Result Goes KeptFailure) : Type 0 where
+pub record ServesHeard (terms : Terms) (first between last : Point) (result : Result Goes KeptFailure) : Type 0 where
   pub hears : HearsOn first.heard between.heard first.stage.input between.stage.input
   pub come : CommandComes between.heard between.stage.input
-  pub serves : ServesCome between.stage last.stage result
+  pub serves : ServesCome terms between.stage last.stage result
   pub heard : last.heard ≡ between.heard
   pub told : last.told ≡ between.told
   pub unread : result ≡ Ok On → last.stage.left ≡ between.stage.left
 
--- The run ends, since a halt is due by the journal as far as the operator has seen it, or since it was ended from outside.
+-- The run ends, since the journal has too little room as far as the operator has seen it, or since it was ended from outside.
 pub record EndsOut (terms : Terms) (first last : Point) : Type 0 where
   pub hears : HearsOn first.heard last.heard first.stage.input last.stage.input
-  pub why : HaltIsDue terms (entries_seen last.stage.staff.control) first.stage.staff.control last.stage.staff.control ⊎ IsStopped last.told
+  pub why : IsLow terms (entries_seen last.stage.staff.control) ⊎ IsStopped last.told
 
 -- it ends; or it fails, of which no more is said
 abbrev pub EndsFor : Terms → Point → Point → Result Goes KeptFailure → Type 0
@@ -77,7 +84,7 @@ EndsFor terms first last (Err failure) = Unit {0}
 pub record AttendedOne (terms : Terms) (first last : Point) (result : Result Goes KeptFailure) : Type 0 where
   pub between : Point
   pub attended : Attends terms.asked.lasting first.stage between.stage
-  pub served : ServesHeard first between last result ⊎ ((last ≡ between) × EndsFor terms first between result)
+  pub served : ServesHeard terms first between last result ⊎ ((last ≡ between) × EndsFor terms first between result)
 
 -- the first so many commands, behind each of which the run goes on
 abbrev pub AttendedUpTo : Terms → ℕ → Point → Point → Type 0

@@ -1,14 +1,11 @@
 -- What the operator's thread asks by itself between two commands. (own)
 use Rattle.std.specs.Prelude.{◌≡◌, ℕ, zero, suc, Bool, true, false, List}
-use Rattle.rv_access.specs.declared.change.Change.{Change}
-use Rattle.rv_access.specs.declared.change.Change.TheVariants.{Append}
 use Rattle.rv_behind.specs.Acting.{Does}
 use Rattle.rv_behind.specs.Events.{by}
 use Rattle.rv_behind.specs.declared.event.Ask.{Ask}
 use Rattle.rv_behind.specs.declared.event.Ask.TheVariants.{Step, Read, View}
 use Rattle.rv_behind.specs.declared.event.Ask.TheVariants as asks
 use Rattle.rv_behind.specs.declared.event.Reply.{Reply}
-use Rattle.rv_tally.specs.Denied.{denial}
 use Rattle.rv_event.specs.declared.entry.Request.{Request}
 use Rattle.rv_event.specs.declared.entry.Request.TheVariants.{Archive, Tick}
 use Rattle.rv_port.specs.Traces.{Passing}
@@ -20,15 +17,9 @@ IsAsked lasting (Tick ticks) = Unit {0}
 IsAsked true (Archive number) = Unit {0}
 IsAsked lasting request = ⊥
 
--- a unit is denied everything
-abbrev pub IsDenial : Change → Type 0
-IsDenial (Append line) = (unit : List ℕ) × (line ≡ denial unit)
-IsDenial change = ⊥
-
--- these, that a unit be denied everything, pages of the journal, and what is shown of the host
+-- these, pages of the journal, and what is shown of the host
 abbrev pub IsChore : (lasting : Bool) → Ask → Type 0
 IsChore lasting (Step request) = IsAsked lasting request
-IsChore lasting (asks.Change change) = IsDenial change
 IsChore lasting (Read from) = Unit {0}
 IsChore lasting View = Unit {0}
 IsChore lasting ask = ⊥

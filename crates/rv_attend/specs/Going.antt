@@ -1,7 +1,6 @@
 -- Why an attended run goes on, and why it ends. (own)
 use Rattle.std.specs.Prelude.{◌≡◌, ◌⊎◌, ℕ, ◌-◌, Bool, true, false, List, Option, Some, None, length, Ok, Err}
 use Rattle.rv_behind.specs.Events.{history_at}
-use Rattle.rv_event.specs.declared.entry.Answer.{Answer}
 use Rattle.rv_fault.specs.declared.failure.Failure.TheVariants.{Memory}
 use Rattle.rv_feed.specs.Hearing.{IsStopped}
 use Rattle.rv_feed.specs.Order.{IsOver}
@@ -14,10 +13,7 @@ use Rattle.rv_run.specs.declared.command.Goes.{Goes}
 use Rattle.rv_run.specs.declared.command.Goes.TheVariants.{On, Out}
 use Rattle.rv_run.specs.declared.outputs.KeptFailure.{KeptFailure}
 use Rattle.rv_run.specs.declared.outputs.KeptFailure.TheVariants.{Run, File}
-use Rattle.rv_tally.specs.Denying.{ends_run}
 use Rattle.rv_tally.specs.Guarding.{is_below}
-use Rattle.rv_attend.specs.Chores.{ChoresIn}
-use Rattle.rv_attend.specs.Rooming.{DeniesUnit}
 use Rattle.rv_attend.specs.declared.attention.Attention.{Attention}
 
 -- what is asked of a run, and how many entries its journal may have
@@ -43,22 +39,6 @@ IsLow terms used = is_below terms.asked.halt_below (terms.capacity - used) ≡ t
 -- so many entries are there, as far as the operator has seen
 abbrev pub entries_seen : Passing → ℕ
 entries_seen v = length (history_at (limits_in v.about) v.seen).past
-
--- Behind chores a unit is to be denied everything, where there is a quota, and can't be: the list has no line left, or the journal
--- no room.
-pub record CannotDeny (terms : Terms) (v w : Passing) : Type 0 where
-  pub quota : ℕ
-  pub is_quota : terms.asked.quota ≡ Some quota
-  pub before : Passing
-  pub chores : ChoresIn terms.asked.lasting v before
-  pub place : ℕ
-  pub answer : Answer
-  pub denies : DeniesUnit before w place (Ok answer)
-  pub ends : ends_run answer ≡ true
-
--- a halt is due, with so many entries
-abbrev pub HaltIsDue : Terms → ℕ → Passing → Passing → Type 0
-HaltIsDue terms used v w = IsLow terms used ⊎ CannotDeny terms v w
 
 -- the end of a run from outside is heard of one that would go on
 abbrev pub UnlessStopped : Option (List Piece) → Option (List Piece) → Goes → Goes → Type 0

@@ -10,10 +10,12 @@ use Rattle.rv_run.specs.Staging.{Outcome, ReadsNothing}
 use Rattle.rv_run.specs.declared.command.Goes.{Goes}
 use Rattle.rv_run.specs.declared.command.Goes.TheVariants.{Out}
 use Rattle.rv_run.specs.declared.outputs.KeptFailure.{KeptFailure}
+use Rattle.rv_attend.specs.Again.{HeedsPlainly}
 use Rattle.rv_attend.specs.Attending.{Attends, Point, point}
 use Rattle.rv_attend.specs.Chores.{Chores}
 use Rattle.rv_attend.specs.Going.{ClosesAs, HurriesBy, Terms}
 use Rattle.rv_attend.specs.KeepingRuns.{Leaving}
+use Rattle.rv_attend.specs.Letting.{LetsIn}
 use Rattle.rv_attend.specs.Lasting.{GoesFor, State, Tends, at}
 
 -- what it holds: what its file has, the entry that is written there next, what is asked of it, and the pieces that were heard of its
@@ -46,9 +48,10 @@ pub record TendsTo {C : Type 0} (holds : C → Holding) (m n : Moment C) (result
   pub hears : IfOk result (λ goes. HearsOn (holds m.chores).heard (holds n.chores).heard m.stage.input n.stage.input)
   pub goes : IfOk result (GoesFor (state_of holds m) (state_of holds n) n.stage.input (holds n.chores).heard (holds n.chores).told)
 
--- With a line that came: only a word of a console is answered. Of any other line only chores are done, for the notes on it.
-pub record HeedsTo {C : Type 0} (holds : C → Holding) (m n : Moment C) (answer : Option Outcome) : Type 0 where
-  pub plain : IsPlain (holds m.chores) → (answer ≡ None) × (n.stage.written ≡ m.stage.written)
+-- With a line that came: a word of a console is answered, and where the run lasts a command that takes room is carried out, behind an archive
+-- if need be. Of any other line only chores are done, for the notes on it.
+pub record HeedsTo {C : Type 0} (holds : C → Holding) (m n : Moment C) (line : List ℕ) (answer : Option Outcome) : Type 0 where
+  pub plain : IsPlain (holds m.chores) → HeedsPlainly (holds m.chores).terms.asked.lasting m.stage n.stage line answer
   pub chores : IfNone answer (Chores m.stage.staff.control n.stage.staff.control)
   pub crew : IfNone answer (n.stage.staff.crew ≡ m.stage.staff.crew)
   pub later : Later m.stage.staff.control n.stage.staff.control
@@ -65,8 +68,9 @@ pub record ClosesTo {C : Type 0} (holds : C → Holding) (chores : C) (closed : 
 abbrev pub attended : {C : Type 0} → (C → Holding) → Beside C
 attended holds = record {
   tends = λ m n result. TendsTo holds m n result;
-  heeds = λ m line n answer. HeedsTo holds m n answer;
+  heeds = λ m line n answer. HeedsTo holds m n line answer;
   hears = λ chores old new. Unit {0};
+  admits = λ chores. LetsIn (holds chores).terms;
   leaves = λ chores old new result. IsPlain (holds chores) → (new ≡ old) × (result ≡ Ok Out);
   hurries = λ chores hurried. HurriesBy (holds chores).terms hurried;
   closes = λ chores errors closed served chores' errors' kept. ClosesTo holds chores closed served chores' kept;

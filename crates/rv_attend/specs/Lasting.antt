@@ -7,7 +7,7 @@ use Rattle.rv_input.specs.Coming.{Reading}
 use Rattle.rv_keep.specs.Keeping.{Known}
 use Rattle.rv_staff.specs.Staffs.{Staffed}
 use Rattle.rv_attend.specs.Chores.{ChoresIn}
-use Rattle.rv_attend.specs.Going.{CommandComes, HaltIsDue, Terms, terms}
+use Rattle.rv_attend.specs.Going.{CommandComes, IsLow, Terms, terms}
 use Rattle.rv_attend.specs.declared.follower.Follower.{Follower}
 use Rattle.rv_attend.specs.KeepingRuns.{KeepsOn}
 use Rattle.rv_run.specs.declared.command.Goes.{Goes}
@@ -40,9 +40,9 @@ Tends s t result =
     KeepsOn s.file s.staff.control s.next t.file t.staff.control t.next result × ChoresIn s.terms.asked.lasting s.staff.control t.staff.control
     × (t.staff.crew ≡ s.staff.crew) × (t.terms ≡ s.terms)
 
--- a halt is due, with the entries that were written
+-- the entries that were written leave less room than the run is to have, whatever it was at before
 abbrev pub Halts : State → State → Type 0
-Halts s t = HaltIsDue t.terms (t.next - 1) s.staff.control t.staff.control
+Halts s t = IsLow t.terms (t.next - 1)
 
 -- The next command is served where it has come, or no more comes. The run ends where a halt is due, or it was ended from outside.
 abbrev pub GoesFor : State → State → Reading → List Piece → Option (List Piece) → Goes → Type 0

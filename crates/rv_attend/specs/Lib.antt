@@ -1,9 +1,12 @@
 pub mod Ticking
-pub mod Rooming
+pub mod Reserving
 pub mod Chores
 pub mod Going
+pub mod Again
 pub mod Attending
 pub mod KeepingRuns
 pub mod Lasting
 pub mod Holding
 pub mod Least
+pub mod Filing
+pub mod Letting

@@ -16,6 +16,8 @@ pub struct Attention {
     pub period: Option<u64>,
     /// How many entries each unit may spend, where that is bounded.
     pub quota: Option<u32>,
+    /// How many entries are kept for the operator's list changes, where units have a quota.
+    pub operator_room: Option<u32>,
     /// The room of the journal below which the run ends.
     pub halt_below: Option<u32>,
     /// Whether the run lasts: entries are given up once the file has them, and at Full a port asks again.

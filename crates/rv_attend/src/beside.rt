@@ -7,6 +7,7 @@ ghost use Rattle.rv_feed.specs.Hearing.{heard, told};
 use crate::closing::close;
 use crate::console::leave;
 use crate::follower::Follower;
+use crate::letting::lets_in;
 use crate::tending::{attend, heed};
 use rv_crew::crew::Closed;
 use rv_fault::{Failure, What};
@@ -14,6 +15,8 @@ use rv_input::Input;
 use rv_run::chores::Chores;
 use rv_run::command::Goes;
 use rv_run::outputs::{KeptFailure, Outputs};
+use rv_shape::catalogue::Catalogue;
+use rv_shape::shape::UnitShape;
 use rv_shell::Order;
 use rv_staff::{Grace, Session};
 use rv_step::reading::StepError;
@@ -48,6 +51,11 @@ impl<'a, T: Wait + Clock, W: Write, E: Write, F: Write> Chores<T, W, E> for Foll
 
     fn hear(&self, what: What, errors: &mut E) {
         self.given.explain_text(what, errors);
+    }
+
+    fn admits(&self, catalogue: &Catalogue, shape: &UnitShape) -> bool {
+        let counted = self.reserve.counted();
+        lets_in(&self.asked, counted, self.room.capacity, catalogue, shape)
     }
 
     fn leave(&self, writer: &mut W) -> Result<Goes, Failure> {

@@ -5,6 +5,8 @@ ghost use Rattle.rv_attend.specs.Going.{HurriesBy, terms};
 
 use crate::attention::Attention;
 use crate::explaining::Given;
+use crate::filing::Filed;
+use crate::reserve::Reserve;
 use crate::room::Room;
 use crossbeam_channel::Receiver;
 use rv_console::Console;
@@ -32,6 +34,8 @@ pub struct Follower<'a, T, F> {
     pub outsiders: Vec<Outsider>,
     /// How long its end waits for threads, where that is asked.
     pub grace: Option<Grace>,
+    /// What is written beside the journal.
+    pub filed: Filed<F>,
     // How many threads were given up at its end.
     pub(crate) abandoned: usize,
     // What was given up of its journal, where the run lasts.
@@ -41,6 +45,8 @@ pub struct Follower<'a, T, F> {
     // The ticks that a real clock makes due, once it is looked at.
     pub(crate) pace: Option<Pace>,
     pub(crate) room: Room,
+    // What is kept for the operator's list changes.
+    pub(crate) reserve: Reserve,
     // What is shown a person, where there is a console.
     pub(crate) console: Console,
     // What threads tell of their ends, where notes are told.
@@ -73,11 +79,13 @@ impl<'a, T, F> Follower<'a, T, F> {
             asked,
             outsiders: Vec::new(alloc),
             grace: None,
+            filed: Filed::none(),
             abandoned: 0,
             archive: Archive::new(0),
             units: 0,
             pace: None,
             room: Room::new(alloc, &asked),
+            reserve: Reserve::new(),
             console: Console::new(alloc, asked.columns),
             notices: None,
             given: Given::new(alloc),

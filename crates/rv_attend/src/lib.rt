@@ -4,18 +4,23 @@
 
 mod advising;
 mod archiving;
+mod asking;
 mod attention;
 mod beside;
+mod brought;
 mod closing;
 mod console;
 mod due;
 mod ending;
 mod explaining;
+mod filing;
 mod follower;
 mod kept;
 mod least;
+mod letting;
 mod notes;
 mod outsiders;
+mod reserve;
 mod room;
 mod spending;
 mod telling;
@@ -26,5 +31,6 @@ mod waiting;
 
 pub use archiving::LASTING_BUDGET;
 pub use attention::{Attention, Typing};
+pub use filing::{Beside, Filed};
 pub use follower::Follower;
 pub use kept::run_kept;

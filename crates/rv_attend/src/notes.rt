@@ -6,6 +6,7 @@ ghost use Rattle.rv_attend.specs.Chores.{Chores};
 use crate::advising::{is_of_console, is_told_over, tell_over, tell_plain};
 use crate::attention::Attention;
 use crate::follower::Follower;
+use crate::reserve::keep_books;
 use crate::viewing::view_of;
 use rv_input::Input;
 use rv_shell::Order;
@@ -116,7 +117,7 @@ pub(crate) fn keep_word<T, F>(follower: &mut Follower<'_, T, F>, line: &str)
     }
 }
 
-/// Tells the notes on a command, where notes are told, and explains what stands against it, where that is asked for.
+/// Tells the notes on a command, where notes are told, explains what stands against it, where that is asked for, and counts it.
 pub(crate) fn tell_before<T: Wait, E: Write, F>(
     rt: &T,
     session: &mut Session,
@@ -135,4 +136,12 @@ pub(crate) fn tell_before<T: Wait, E: Write, F>(
 {
     tell_if(rt, &follower.asked, session, input, line, read, errors);
     explain_if(follower, input, line, read, errors);
+    keep_books(
+        &*session,
+        &follower.asked,
+        input,
+        read,
+        &mut follower.reserve,
+        errors,
+    );
 }

@@ -1,35 +1,24 @@
-//! What is done as a journal fills: the room left is told, units are denied everything, or the run ends.
+//! What is done as a journal fills: the room left is told, or the run ends.
 
 ghost use Rattle.std.specs.Prelude.{◌≡◌, ◌-◌, true};
-ghost use Rattle.rv_behind.specs.Events.{catalogue_of};
-ghost use Rattle.rv_attend.specs.Chores.{Chores};
-ghost use Rattle.rv_attend.specs.Going.{CannotDeny, HaltIsDue, terms};
-ghost use Rattle.rv_attend.specs.Rooming.{DeniesUnit, DoesDue};
+ghost use Rattle.rv_attend.specs.Going.{IsLow, terms};
 ghost use Rattle.rv_attend.specs.declared.room.Then.TheVariants.{End};
 ghost use Rattle.rv_run.specs.declared.command.Goes.TheVariants.{Out};
-ghost use Rattle.rv_tally.specs.Denying.{ends_run};
 ghost use Rattle.rv_tally.specs.Guarding.{is_below};
-ghost use Rattle.rv_tally.specs.declared.guard.Due.TheVariants.{Deny};
 
 use crate::attention::Attention;
-use rv_event::entry::Answer;
 use rv_run::command::Goes;
-use rv_shape::catalogue::MOST_UNITS;
 use rv_staff::{Session, say};
-use rv_tally::{
-    Due, Guard, Tally, denial_line, denial_of, ends_run, is_too_much, promise_line, room_line,
-};
-use rv_turn::Worn;
+use rv_tally::{Due, Guard, Tally, room_line};
 use std::alloc::{AllocError, Global};
 use std::io::Write;
-use std::sync::Wait;
 use std::time::{Clock, Duration, Instant};
 
 // How long it is from one look at the room to the next, in milliseconds.
 const BETWEEN: u64 = 20;
 
-// How much may be due at a look: each level of room, and a denial of each unit.
-const MOST_DUES: usize = MOST_UNITS + 5;
+// How much may be due at a look: each level of room, and the end.
+const MOST_DUES: usize = 6;
 
 // What is said where a run ends for want of room.
 const ENDS: &str = "journal: the run ends, as --halt-below has it\n";
@@ -46,8 +35,6 @@ pub struct Room {
     tells: bool,
     // Whether anything is to be looked after.
     is_watched: bool,
-    // How many units there were at the last look.
-    units: usize,
     looked: Option<Instant>,
     // Whether the run ended for want of room.
     pub(crate) has_ended: bool,
@@ -68,7 +55,6 @@ impl Room {
     /// Before the run.
     pub(crate) fn new(alloc: Global, asked: &Attention) -> Room {
         let Attention {
-            quota,
             halt_below,
             tells,
             lasting,
@@ -77,12 +63,10 @@ impl Room {
         Room {
             alloc,
             tally: Tally::new(),
-            // The host itself keeps the quota: what would be past it is answered Full.
-            guard: Guard::new(None, halt_below, tells && !lasting),
+            guard: Guard::new(halt_below, tells && !lasting),
             capacity: 0,
             tells,
-            is_watched: quota.is_some() || halt_below.is_some() || (tells && !lasting),
-            units: 0,
+            is_watched: halt_below.is_some() || (tells && !lasting),
             looked: None,
             has_ended: false,
         }
@@ -128,25 +112,6 @@ fn is_low(asked: &Attention, capacity: usize, used: usize) -> bool
     }
 }
 
-// Where units came, says whether the journal doesn't hold what quotas let them add.
-fn check_promise<E: Write>(session: &Session, asked: &Attention, room: &mut Room, errors: &mut E)
-    ensures { room.new.capacity ≡ room.old.capacity }
-{
-    let catalogue = session.staff.catalogue();
-    let units = catalogue.shapes().len();
-    let Some(quota) = asked.quota else {
-        return;
-    };
-    if units == room.units {
-        return;
-    }
-    room.units = units;
-    if is_too_much(catalogue, quota, room.capacity) {
-        let line = promise_line(room.alloc, quota, room.capacity);
-        room.tell(line, errors);
-    }
-}
-
 // Says how much room is left.
 fn tell_room<E: Write>(session: &Session, room: &Room, used: usize, errors: &mut E) {
     let catalogue = session.staff.catalogue();
@@ -154,103 +119,17 @@ fn tell_room<E: Write>(session: &Session, room: &Room, used: usize, errors: &mut
     room.tell(line, errors);
 }
 
-// Says what came of a denial.
-fn tell_denial<E: Write>(
-    session: &Session,
-    room: &Room,
-    quota: u32,
-    place: usize,
-    answer: &Answer,
-    errors: &mut E,
-) {
-    let Some(shape) = session.staff.catalogue().shapes().get(place) else {
-        return;
-    };
-    room.tell(denial_line(room.alloc, shape.name(), quota, answer), errors);
-}
-
-// What comes behind a denial with this answer. One for which memory was refused is asked again at the next look.
-fn behind_denial<E: Write>(
-    session: &Session,
-    room: &mut Room,
-    quota: u32,
-    place: usize,
-    answer: Answer,
-    errors: &mut E,
-) -> Then
-    ensures ends { result ≡ End → ends_run answer ≡ true }
-    ensures capacity { room.new.capacity ≡ room.old.capacity }
-{
-    if ends_run(&answer) {
-        tell_denial(session, room, quota, place, &answer, errors);
-        return Then::End;
-    }
-    match answer {
-        Answer::Accepted(_) => {
-            tell_denial(session, room, quota, place, &answer, errors);
-            room.guard.note(Due::Deny(place));
-            Then::Next
-        }
-        _ => Then::Rest,
-    }
-}
-
-// Asks that the unit at a place be denied everything; none where memory was refused, or no act is left.
-fn ask_denial<T: Wait>(
-    rt: &T,
-    alloc: Global,
-    session: &mut Session,
-    place: usize,
-) -> Result<Answer, Worn>
-    ensures denies { DeniesUnit session.old.staff.control session.new.staff.control place result }
-    ensures crew { session.new.staff.crew ≡ session.old.staff.crew }
-{
-    match denial_of(alloc, session.staff.catalogue(), place) {
-        Ok(line) => session.staff.append_line(rt, line),
-        Err(_) => Ok(Answer::OutOfMemory),
-    }
-}
-
-// Denies the unit at a place everything, since its tasks have passed the quota.
-#[tactic(auto, using(crate::proofs::GoingOn::cannot_by, crate::proofs::GoingOn::denies_none))]
-fn deny<T: Wait, E: Write>(
-    rt: &T,
-    session: &mut Session,
-    asked: &Attention,
-    room: &mut Room,
-    place: usize,
-    errors: &mut E,
-) -> Then
-    ensures does { DoesDue (Deny place) session.old.staff.control session.new.staff.control }
-    ensures crew { session.new.staff.crew ≡ session.old.staff.crew }
-    ensures ends { result ≡ End
-        → CannotDeny (terms asked.now room.old.capacity) session.old.staff.control session.new.staff.control }
-    ensures capacity { room.new.capacity ≡ room.old.capacity }
-{
-    let Some(quota) = asked.quota else {
-        return Then::Rest;
-    };
-    match ask_denial(rt, room.alloc, session, place) {
-        Ok(answer) => behind_denial(session, room, quota, place, answer, errors),
-        Err(_) => Then::Rest,
-    }
-}
-
-// Does what is due. The guard finds a halt due only where the room is low, and a denial only where there is a quota.
+// Does what is due. The guard finds a halt due only where the room is low.
 #[tactic(auto, using(crate::proofs::GoingOn::low_due))]
-fn do_due<T: Wait, E: Write>(
-    rt: &T,
-    session: &mut Session,
+fn do_due<E: Write>(
+    session: &Session,
     asked: &Attention,
     room: &mut Room,
     due: Due,
     used: usize,
     errors: &mut E,
 ) -> Then
-    ensures does { DoesDue due session.old.staff.control session.new.staff.control }
-    ensures crew { session.new.staff.crew ≡ session.old.staff.crew }
-    ensures ends { result ≡ End
-        → HaltIsDue (terms asked.now room.old.capacity) used session.old.staff.control session.new.staff.control }
+    ensures ends { result ≡ End → IsLow (terms asked.now room.old.capacity) used }
     ensures capacity { room.new.capacity ≡ room.old.capacity }
 {
     match due {
@@ -265,32 +144,29 @@ fn do_due<T: Wait, E: Write>(
             Then::End
         }
         Due::Halt => Then::Rest,
-        Due::Deny(place) => deny(rt, session, asked, room, place, errors),
     }
 }
 
 /// Looks at the room that so many entries leave, at most every 20 ms, and does what is due. Gives whether the run goes on.
-pub(crate) fn keep_room<T: Wait + Clock, E: Write>(
+pub(crate) fn keep_room<T: Clock, E: Write>(
     rt: &T,
-    session: &mut Session,
+    session: &Session,
     asked: &Attention,
     room: &mut Room,
     used: usize,
     errors: &mut E,
 ) -> Goes
-    ensures chores { Chores session.old.staff.control session.new.staff.control }
-    ensures crew { session.new.staff.crew ≡ session.old.staff.crew }
-    ensures ends { result ≡ Out
-        → HaltIsDue (terms asked.now room.old.capacity) used session.old.staff.control session.new.staff.control }
+    ensures ends { result ≡ Out → IsLow (terms asked.now room.old.capacity) used }
     ensures capacity { room.new.capacity ≡ room.old.capacity }
 {
     if !room.is_due(rt) {
         return Goes::On;
     }
-    check_promise(session, asked, room, errors);
     for _ in 0..MOST_DUES {
-        let due = room.guard.next(session.staff.catalogue(), &room.tally, room.capacity, used);
-        match do_due(rt, session, asked, room, due, used, errors) {
+        let due = room
+            .guard
+            .next(session.staff.catalogue(), room.capacity, used);
+        match do_due(session, asked, room, due, used, errors) {
             Then::Next => {}
             Then::Rest => return Goes::On,
             Then::End => {

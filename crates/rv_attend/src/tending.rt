@@ -3,6 +3,7 @@
 ghost use Rattle.std.specs.Prelude.{◌≡◌, IfNone, IfOk, None};
 ghost use Rattle.std.specs.Io.KnownBytes.{Keeps};
 ghost use Rattle.rv_follow.specs.Following.{Later};
+ghost use Rattle.rv_attend.specs.Again.{HeedsPlainly};
 ghost use Rattle.rv_attend.specs.Attending.{Attends, Grows};
 ghost use Rattle.rv_attend.specs.Chores.{Chores};
 ghost use Rattle.rv_attend.specs.Lasting.{GoesFor, Tends, standing};
@@ -10,6 +11,7 @@ ghost use Rattle.rv_feed.specs.Hearing.{HearsOn, heard, told};
 ghost use Rattle.rv_run.specs.Staging.{stage};
 ghost use Rattle.rv_staff.specs.Saying.{Known};
 
+use crate::asking::answer_request;
 use crate::attention::Attention;
 use crate::console::{answer_word, leave, prompt};
 use crate::due::do_chores;
@@ -109,8 +111,8 @@ fn note_line<T, F>(follower: &mut Follower<'_, T, F>, read: &Result<Order, StepE
     }
 }
 
-/// Looks at a line before it is carried out: a word of a console is answered, and of a command is told what there is to tell.
-/// None where it is to be carried out.
+/// Looks at a line before it is carried out: a word of a console is answered, and of a command is told what there is to tell. Where the run
+/// lasts, one that takes room is carried out, and asked again behind an archive if need be. None where it is to be carried out.
 pub(crate) fn heed<T: Wait, W: Write, E: Write, F>(
     rt: &T,
     session: &mut Session,
@@ -120,7 +122,9 @@ pub(crate) fn heed<T: Wait, W: Write, E: Write, F>(
     read: &Result<Order, StepError>,
     outputs: &mut Outputs<W, E>,
 ) -> Option<Result<Goes, Failure>>
-    ensures plain { follower.old.asked.console ≡ None → (result ≡ None) × (W.contents outputs.new.writer ≡ W.contents outputs.old.writer) }
+    ensures plain { (left : Known) → follower.old.asked.console ≡ None
+        → HeedsPlainly follower.old.asked.lasting (stage session.old.staff (W.contents outputs.old.writer) input.now left)
+        (stage session.new.staff (W.contents outputs.new.writer) input.now left) line.now result }
     ensures chores { IfNone result (Chores session.old.staff.control session.new.staff.control) }
     ensures crew { IfNone result (session.new.staff.crew ≡ session.old.staff.crew) }
     ensures later { Later session.old.staff.control session.new.staff.control }
@@ -130,6 +134,7 @@ pub(crate) fn heed<T: Wait, W: Write, E: Write, F>(
     ensures source { follower.new.source ≡ follower.old.source }
 {
     note_line(follower, read);
+    follower.filed.hear(follower.alloc, read, input.ahead());
     match answer_word(rt, session, follower, line, read, &mut outputs.writer) {
         Some(answered) => {
             keep_word(follower, line);
@@ -145,7 +150,7 @@ pub(crate) fn heed<T: Wait, W: Write, E: Write, F>(
                 read,
                 &mut outputs.errors,
             );
-            None
+            answer_request(rt, session, follower, line, &mut outputs.writer)
         }
     }
 }

@@ -1,12 +1,15 @@
 //! The host's clock follows a real one.
 
-ghost use Rattle.std.specs.Prelude.{◌≡◌, ◌≤◌, None, option_map};
+ghost use Rattle.std.specs.Prelude.{◌≡◌, ◌≤◌, None, false, option_map, true};
 ghost use Rattle.std.specs.Time.{instant_nanos};
+ghost use Rattle.rv_behind.specs.Events.{catalogue_of};
 ghost use Rattle.rv_attend.specs.Chores.{Chores};
 ghost use Rattle.rv_attend.specs.Ticking.{AsksOf, AsksRoom, Begins, KeepsPace, KeepsPaceOnce, Ticks, TicksOnce, had_room};
+ghost use Rattle.rv_attend.specs.Reserving.{fit_ticks};
 
 use rv_event::entry::Answer;
 use rv_pace::Pace;
+use rv_room::Books;
 use rv_staff::Staff;
 use rv_turn::Worn;
 use std::sync::Wait;
@@ -126,6 +129,57 @@ pub(crate) fn keep_pace_lasting<T: Wait>(
     };
     match pace {
         Some(pace) => tick_once(rt, staff, pace, now),
+        None => *pace = begun(period, now),
+    }
+}
+
+// Asks the ticks that are due at a moment, at most 1,000,000, and counts that.
+#[tactic(auto, using(crate::proofs::Ticked::once_none, crate::proofs::Ticked::once_asked, crate::proofs::Ticked::once_full))]
+fn tick_counted<T: Wait>(
+    rt: &T,
+    staff: &mut Staff,
+    pace: &mut Pace,
+    now: Instant,
+    books: &mut Books,
+)
+    ensures ticks { TicksOnce staff.old.control staff.new.control pace.old pace.new (instant_nanos now) }
+    ensures crew { staff.new.crew ≡ staff.old.crew }
+{
+    let ticks = pace.step(now);
+    if ticks == 0 {
+        return;
+    }
+    *books = (*books).with_ticks();
+    if ask_room(rt, staff, ticks) {
+        return;
+    }
+    pace.give_back(ticks);
+}
+
+/// The same where entries are kept for the operator: ticks are asked only where these are left behind them, once at a reading.
+pub(crate) fn keep_pace_within<T: Wait>(
+    rt: &T,
+    staff: &mut Staff,
+    period: Option<u64>,
+    reading: Option<Instant>,
+    pace: &mut Option<Pace>,
+    books: &mut Books,
+    capacity: usize,
+)
+    ensures kept { fit_ticks (catalogue_of staff.old.control.seen) books.old capacity ≡ false → staff.new.control ≡ staff.old.control }
+    ensures ticks { fit_ticks (catalogue_of staff.old.control.seen) books.old capacity ≡ true
+        → KeepsPaceOnce staff.old.control staff.new.control period (option_map instant_nanos reading) pace.old pace.new }
+    ensures chores { Chores staff.old.control staff.new.control }
+    ensures crew { staff.new.crew ≡ staff.old.crew }
+{
+    if !(*books).with_ticks().fit(staff.catalogue(), capacity) {
+        return;
+    }
+    let Some(now) = reading else {
+        return;
+    };
+    match pace {
+        Some(pace) => tick_counted(rt, staff, pace, now, books),
         None => *pace = begun(period, now),
     }
 }

@@ -1,7 +1,8 @@
 -- The command line (own): `play`, which may be given `--all`, `check`, which may be given `--script`, and `run`, which may be
 -- given `--journal FILE` and, with it, `--sync HOW`, `--halt-below N`, `--quota N`, `--tick MS`, `--stop-by PIPE`, `--console`,
--- `--end-status`, `--sections-end`, `--lasting` and, once or more, `--actor TASK=IN,OUT`, all three with `--no-explain` and `--warnings-are-errors`; and `audit`, which
--- may be given `--journal FILE` and, with it, `--torn`. Each may be given `--explain`, `--notes WHEN`, `--color WHEN` and the FILE of
+-- `--end-status`, `--sections-end`, `--lasting`, with `--journal` `--rotate MIB`, `--keep-units FILE` and `--times FILE`, and, once or more,
+-- `--actor TASK=IN,OUT`, all three with `--no-explain` and `--warnings-are-errors`; and `audit`, which may be given `--journal FILE`, once or
+-- more, and, with it, `--torn`. Each may be given `--explain`, `--notes WHEN`, `--color WHEN` and the FILE of
 -- its script.
 -- Beside them `manual`, which may be given the name of one of them. What words come to is what `clap` says of this command.
 use Rattle.std.specs.Prelude.{◌≡◌, ℕ, Bool, true, false, ◌&&◌, nat_le, nat_lt, if◌then◌else◌, List, [], ◌∷◌, Option, Some, None, is_some, codes, option_map, Result, Ok, Err}
@@ -84,9 +85,13 @@ keeping = with_explanations (with_rule (with_rule (new_app (codes "run")) file_r
 abbrev pub guarding : App
 guarding = with_rule (with_rule keeping (value_rule (codes "halt-below"))) (value_rule (codes "quota"))
 
+-- which may be told how many list changes its operator has room for
+abbrev pub reserving : App
+reserving = with_rule guarding (value_rule (codes "operator-room"))
+
 -- whose clock may follow a real one, and which may be ended from outside
 abbrev pub attending : App
-attending = with_rule (with_rule guarding (value_rule (codes "tick"))) (value_rule (codes "stop-by"))
+attending = with_rule (with_rule reserving (value_rule (codes "tick"))) (value_rule (codes "stop-by"))
 
 -- which may serve a person by a console
 abbrev pub consoled : App
@@ -112,12 +117,16 @@ lasting = with_rule hurried (flag_rule (codes "lasting"))
 abbrev pub acting : App
 acting = with_rule lasting (many_rule (codes "actor"))
 
-abbrev pub running : App
-running = with_file (with_color (with_notes acting))
+-- whose journal may stand in several files, and which may write its units, and when entries were written, into others
+abbrev pub filing : App
+filing = with_rule (with_rule (with_rule acting (value_rule (codes "rotate"))) (value_rule (codes "keep-units"))) (value_rule (codes "times"))
 
--- `audit`, which may be given the name of a file and a flag that goes with it, and how many entries each unit could spend
+abbrev pub running : App
+running = with_file (with_color (with_notes filing))
+
+-- `audit`, which may be given the names of files and a flag that goes with them, and how many entries each unit could spend
 abbrev pub judging : App
-judging = with_rule (with_rule (with_rule (new_app (codes "audit")) file_rule) (flag_rule (codes "torn"))) (value_rule (codes "quota"))
+judging = with_rule (with_rule (with_rule (new_app (codes "audit")) (many_rule (codes "journal"))) (flag_rule (codes "torn"))) (value_rule (codes "quota"))
 
 abbrev pub audited : App
 audited = with_file (with_color (with_rule (with_rule judging explain_rule) notes_rule))
@@ -260,7 +269,8 @@ abbrev pub most_entries : ℕ
 most_entries = 1048576
 
 -- What a run does beside its commands: the file that its journal is kept in, the milliseconds between two ticks, the room of the
--- journal below which it ends, how many entries each unit may spend, the pipe whose end ends it, whether it has a console,
+-- journal below which it ends, how many entries each unit may spend, how many are kept for the operator's list changes, the pipe whose
+-- end ends it, whether it has a console,
 -- whether its status says that it ended by itself, whether nothing starts without a line `@run`, the milliseconds that its end
 -- waits for threads, and whether its journal goes on without end.
 pub record RunWords : Type 0 where
@@ -268,6 +278,7 @@ pub record RunWords : Type 0 where
   pub tick : Option ℕ
   pub halt_below : Option ℕ
   pub quota : Option ℕ
+  pub operator_room : Option ℕ
   pub stop : Option Text
   pub console : Bool
   pub tells_end : Bool
@@ -282,6 +293,7 @@ words_of run = record {
   tick = run.tick;
   halt_below = run.halt_below;
   quota = run.quota;
+  operator_room = run.operator_room;
   stop = option_map (λ s. s.now) run.stop_by;
   console = run.console;
   tells_end = run.tells_end;
@@ -295,7 +307,8 @@ abbrev pub IsRun : List Row → RunWords → Type 0
 IsRun rows run =
     Keeps rows run.kept × (number_of longest_period (first_of (codes "tick") rows) ≡ Some run.tick)
     × (number_of most_entries (first_of (codes "halt-below") rows) ≡ Some run.halt_below)
-    × (number_of most_entries (first_of (codes "quota") rows) ≡ Some run.quota) × (run.stop ≡ first_of (codes "stop-by") rows)
+    × (number_of most_entries (first_of (codes "quota") rows) ≡ Some run.quota)
+    × (number_of most_entries (first_of (codes "operator-room") rows) ≡ Some run.operator_room) × (run.stop ≡ first_of (codes "stop-by") rows)
     × IsFlag (one_of (codes "console") rows) run.console
     × IsFlag (one_of (codes "end-status") rows) run.tells_end × IsFlag (one_of (codes "sections-end") rows) run.wants_run
     × (number_of longest_period (first_of (codes "grace") rows) ≡ Some run.grace)
@@ -303,7 +316,7 @@ IsRun rows run =
 
 -- nothing of that
 abbrev pub no_run : RunWords
-no_run = record { kept = None; tick = None; halt_below = None; quota = None; stop = None; console = false; tells_end = false; wants_run = false; grace = None; lasting = false }
+no_run = record { kept = None; tick = None; halt_below = None; quota = None; operator_room = None; stop = None; console = false; tells_end = false; wants_run = false; grace = None; lasting = false }
 
 -- nothing of that but how many entries each unit could spend, by what `audit` is given
 abbrev pub IsAllowing : List Row → RunWords → Type 0
@@ -388,7 +401,8 @@ beside_wrong rows =
     (or_else (number_wrong Flags.Tick (codes "tick") longest_period rows)
     (or_else (number_wrong Flags.HaltBelow (codes "halt-below") most_entries rows)
     (or_else (number_wrong Flags.Quota (codes "quota") most_entries rows)
-    (number_wrong Flags.Grace (codes "grace") longest_period rows))))
+    (or_else (number_wrong Flags.OperatorRoom (codes "operator-room") most_entries rows)
+    (number_wrong Flags.Grace (codes "grace") longest_period rows)))))
 
 -- with `run`,
 abbrev pub run_wrong : List Row → Option Wrong

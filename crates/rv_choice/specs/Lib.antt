@@ -1,2 +1,3 @@
 pub mod Actors
 pub mod Choices
+pub mod Files

@@ -23,7 +23,7 @@ pub enum Unchosen<'a> {
     Usage(Error),
     /// There is no subcommand of this name.
     NoCommand,
-    /// A flag is given wrongly: the first of `--sync`, `--tick`, `--halt-below`, `--quota`, `--grace`, `--notes` and `--color`, or of `--torn`, `--notes`
+    /// A flag is given wrongly: the first of `--sync`, `--tick`, `--halt-below`, `--quota`, `--operator-room`, `--grace`, `--notes` and `--color`, or of `--torn`, `--notes`
     /// and `--color`.
     Misused(Misuse<'a>),
     /// Memory was refused.

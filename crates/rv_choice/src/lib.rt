@@ -5,6 +5,7 @@ pub mod actors;
 mod args;
 pub mod chosen;
 mod command;
+pub mod files;
 pub mod misuse;
 mod run_words;
 mod running;

@@ -16,6 +16,8 @@ pub enum Flag {
     HaltBelow,
     /// How many entries each unit may spend.
     Quota,
+    /// How many entries are kept for the operator's list changes.
+    OperatorRoom,
     /// How long the end of a run waits.
     Grace,
     /// When notes are told.
@@ -26,6 +28,12 @@ pub enum Flag {
     Torn,
     /// Which task belongs to another process.
     Actor,
+    /// How many MiB a file of a journal has.
+    Rotate,
+    /// The file of the units.
+    KeepUnits,
+    /// The file of the times.
+    Times,
 }
 
 impl Flag {
@@ -36,11 +44,15 @@ impl Flag {
             Flag::Tick => "--tick <MS>",
             Flag::HaltBelow => "--halt-below <N>",
             Flag::Quota => "--quota <N>",
+            Flag::OperatorRoom => "--operator-room <K>",
             Flag::Grace => "--grace <MS>",
             Flag::Notes => "--notes <WHEN>",
             Flag::Color => "--color <WHEN>",
             Flag::Torn => "--torn",
             Flag::Actor => "--actor <TASK=IN,OUT>",
+            Flag::Rotate => "--rotate <MIB>",
+            Flag::KeepUnits => "--keep-units <FILE>",
+            Flag::Times => "--times <FILE>",
         }
     }
 
@@ -49,7 +61,8 @@ impl Flag {
         match self {
             Flag::Sync => "each, second or never",
             Flag::Tick | Flag::Grace => "1 to 3600000",
-            Flag::HaltBelow | Flag::Quota => "1 to 1048576",
+            Flag::HaltBelow | Flag::Quota | Flag::OperatorRoom | Flag::Rotate => "1 to 1048576",
+            Flag::KeepUnits | Flag::Times => "the name of a file",
             Flag::Notes | Flag::Color => "auto, always or never",
             Flag::Torn => "no word",
             Flag::Actor => "the name of a task, as Plant.Sensor, and of two pipes",

@@ -77,8 +77,8 @@ fn number_of(word: Option<&str>, most: u32) -> Option<Option<u32>>
     }
 }
 
-// The same, by the word that a flag of this name was given.
-fn given_number<'a>(
+/// The same, by the word that a flag of this name was given.
+pub(crate) fn given_number<'a>(
     words: &ArgMatches<'a>,
     flag: Flag,
     name: &str,
@@ -122,6 +122,7 @@ pub fn with_quota(quota: Option<u32>) -> RunWords<'static>
         tick: None,
         halt_below: None,
         quota,
+        operator_room: None,
         stop_by: None,
         console: false,
         tells_end: false,
@@ -152,6 +153,15 @@ pub fn run_words<'a>(words: &ArgMatches<'a>) -> Result<RunWords<'a>, Misuse<'a>>
         Ok(quota) => quota,
         Err(misuse) => return Err(misuse),
     };
+    let operator_room = match given_number(
+        words,
+        Flag::OperatorRoom,
+        "operator-room",
+        MOST_ENTRIES,
+    ) {
+        Ok(operator_room) => operator_room,
+        Err(misuse) => return Err(misuse),
+    };
     let grace = match given_number(words, Flag::Grace, "grace", LONGEST_PERIOD) {
         Ok(grace) => grace,
         Err(misuse) => return Err(misuse),
@@ -161,6 +171,7 @@ pub fn run_words<'a>(words: &ArgMatches<'a>) -> Result<RunWords<'a>, Misuse<'a>>
         tick,
         halt_below,
         quota,
+        operator_room,
         stop_by: stop_of(words),
         console: has_flag(words, "console"),
         tells_end: has_flag(words, "end-status"),

@@ -3,7 +3,7 @@
 ghost use Rattle.std.specs.Prelude.{◌≡◌, false, IfOk};
 ghost use Rattle.clap.specs.Words.{app_of};
 ghost use Rattle.clap.specs.declared.builder.command.Command.TheViews.{out-Command as fields_of};
-ghost use Rattle.rv_choice.specs.Choices.{acting, attending, consoled, ending, guarding, hurried, keeping, lasting, running};
+ghost use Rattle.rv_choice.specs.Choices.{acting, attending, consoled, ending, filing, guarding, hurried, keeping, lasting, reserving, running};
 
 use crate::args::{
     coloured, explained, file_arg, flag, noted, sync_arg, with_file, with_value, with_values,
@@ -49,6 +49,20 @@ fn guarding_subcommand<'a>(alloc: Global) -> Result<Command<'a>, AllocError>
     )
 }
 
+// The same, which may be told how many list changes its operator has room for.
+fn reserving_subcommand<'a>(alloc: Global) -> Result<Command<'a>, AllocError>
+    ensures app { IfOk result (λ c. app_of c ≡ reserving) }
+    ensures local { IfOk result (λ c. (fields_of c).has_globals ≡ false) }
+{
+    with_value(
+        alloc,
+        guarding_subcommand(alloc)?,
+        "operator-room",
+        "K",
+        "With --quota: keep room for K list changes, whatever units do; 64 where this isn't said",
+    )
+}
+
 // The same, whose clock may follow a real one, and which may be ended from outside.
 fn attending_subcommand<'a>(alloc: Global) -> Result<Command<'a>, AllocError>
     ensures app { IfOk result (λ c. app_of c ≡ attending) }
@@ -56,7 +70,7 @@ fn attending_subcommand<'a>(alloc: Global) -> Result<Command<'a>, AllocError>
 {
     let command = with_value(
         alloc,
-        guarding_subcommand(alloc)?,
+        reserving_subcommand(alloc)?,
         "tick",
         "MS",
         "Have the clock follow the real one, a tick a millisecond: every MS milliseconds one tick MS",
@@ -92,7 +106,7 @@ fn ending_subcommand<'a>(alloc: Global) -> Result<Command<'a>, AllocError>
     let end = flag(
         alloc,
         "end-status",
-        "End with status 5 where the run ended by itself: by --halt-below, for want of room, behind its last command, or at a line that is none",
+        "End with status 5 where the run ended by itself: by --halt-below, behind its last command, or at a line that is none",
     );
     let run = flag(
         alloc,
@@ -144,12 +158,40 @@ fn acting_subcommand<'a>(alloc: Global) -> Result<Command<'a>, AllocError>
     )
 }
 
+// The same, whose journal may stand in several files, and which may write its units, and when entries were written, into others.
+fn filing_subcommand<'a>(alloc: Global) -> Result<Command<'a>, AllocError>
+    ensures app { IfOk result (λ c. app_of c ≡ filing) }
+    ensures local { IfOk result (λ c. (fields_of c).has_globals ≡ false) }
+{
+    let command = with_value(
+        alloc,
+        acting_subcommand(alloc)?,
+        "rotate",
+        "MIB",
+        "With --journal: go on in FILE.000001, FILE.000002 and so on, each new and of at most MIB MiB of whole lines",
+    )?;
+    let command = with_value(
+        alloc,
+        command,
+        "keep-units",
+        "FILE",
+        "With --journal: write the settings and each unit that is loaded into this file, which must be new or empty; audit judges over it",
+    )?;
+    with_value(
+        alloc,
+        command,
+        "times",
+        "FILE",
+        "With --journal: write into this file, which must be new or empty, by which time entries were written, once a second and at each command",
+    )
+}
+
 /// The same, which may be told of notes.
 pub fn run_subcommand<'a>(alloc: Global) -> Result<Command<'a>, AllocError>
     ensures app { IfOk result (λ c. app_of c ≡ running) }
     ensures local { IfOk result (λ c. (fields_of c).has_globals ≡ false) }
 {
-    let command = acting_subcommand(alloc)?;
+    let command = filing_subcommand(alloc)?;
     let command = noted(alloc, command)?;
     let command = coloured(alloc, command)?;
     with_file(

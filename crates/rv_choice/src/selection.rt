@@ -60,6 +60,8 @@ pub struct RunWords<'a> {
     pub halt_below: Option<u32>,
     /// How many entries each unit may spend, also of the run whose journal is judged.
     pub quota: Option<u32>,
+    /// How many entries are kept for the operator's list changes, where that is said.
+    pub operator_room: Option<u32>,
     /// The name of the pipe whose end ends it, where one is given.
     pub stop_by: Option<&'a str>,
     /// Whether a person is served by a console.
@@ -78,12 +80,13 @@ impl RunWords<'_> {
     /// Whether there is anything beside its commands.
     pub fn is_attended(&self) -> bool
         ensures { result ≡ (is_some self.now.kept || is_some self.now.tick || is_some self.now.halt_below || is_some self.now.quota
-            || is_some self.now.stop_by || self.now.console || self.now.tells_end || self.now.wants_run || is_some self.now.grace || self.now.lasting) }
+            || is_some self.now.operator_room || is_some self.now.stop_by || self.now.console || self.now.tells_end || self.now.wants_run || is_some self.now.grace || self.now.lasting) }
     {
         self.kept.is_some()
             || self.tick.is_some()
             || self.halt_below.is_some()
             || self.quota.is_some()
+            || self.operator_room.is_some()
             || self.stop_by.is_some()
             || self.console
             || self.tells_end
@@ -124,6 +127,7 @@ pub const NO_RUN: RunWords<'static> = RunWords {
     tick: None,
     halt_below: None,
     quota: None,
+    operator_room: None,
     stop_by: None,
     console: false,
     tells_end: false,

@@ -6,8 +6,8 @@ ghost use Rattle.clap.specs.declared.builder.command.Command.TheViews.{out-Comma
 ghost use Rattle.rv_choice.specs.Choices.{audited, checked, judging, manual, playing};
 
 use crate::args::{
-    SCRIPT_HELP, coloured, explain_flag, explained, file_arg, flag, noted, subject_arg, told,
-    with_file, with_value,
+    SCRIPT_HELP, coloured, explain_flag, explained, flag, noted, subject_arg, told, with_file,
+    with_value, with_values,
 };
 use clap::Command;
 use std::alloc::{AllocError, Global};
@@ -52,19 +52,21 @@ pub fn check_subcommand<'a>(alloc: Global) -> Result<Command<'a>, AllocError>
     with_file(alloc, command, SCRIPT_HELP)
 }
 
-// The subcommand `audit`, which may be given a file and a flag that goes with it, and how many entries each unit could spend.
+// The subcommand `audit`, which may be given files and a flag that goes with them, and how many entries each unit could spend.
 fn judging_subcommand<'a>(alloc: Global) -> Result<Command<'a>, AllocError>
     ensures app { IfOk result (λ c. app_of c ≡ judging) }
     ensures local { IfOk result (λ c. (fields_of c).has_globals ≡ false) }
 {
-    let journal = file_arg(
-        alloc,
-        "Judge the journal in this file, of any length, instead of one in the script",
-    );
     let command = Command::new(alloc, "audit")
         .about("Judge the journal of a script: whether each of its entries was due")
-        .after_help("Example: ravenhost audit --journal JOURNAL UNITS")
-        .arg(journal)?;
+        .after_help("Example: ravenhost audit --journal JOURNAL UNITS");
+    let command = with_values(
+        alloc,
+        command,
+        "journal",
+        "FILE",
+        "Judge the journal in this file, of any length, instead of one in the script; repeatable: each further file has what follows",
+    )?;
     let torn = flag(
         alloc,
         "torn",

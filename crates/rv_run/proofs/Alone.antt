@@ -11,7 +11,7 @@ use Rattle.rv_run.specs.declared.command.Goes.TheVariants.{On, Out}
 use Rattle.rv_run.specs.declared.outputs.KeptFailure.{KeptFailure}
 use Rattle.rv_run.specs.declared.outputs.KeptFailure.TheVariants.{Run, File}
 use Rattle.rv_run.specs.Beside.{Ended, IsAlone, IsOfRun, Moment, OnlyFlushes, no_chores}
-use Rattle.rv_run.specs.Commanding.{Commands}
+use Rattle.rv_run.specs.Commanding.{AdmitsAll, Commands}
 use Rattle.rv_run.specs.Finishing.{Counts, Finishes, Goes as GoesThrough, GoesOnBy, Plays, Served, ServesIf, TellsLost, Unclosed}
 use Rattle.rv_run.specs.FinishingBeside.{CountsWith, FinishesWith, GoesOnByWith, GoesWith, PlaysWith, ServesIfWith, UnclosedWith}
 use Rattle.rv_run.specs.ServingBeside.{CarriesOut, HearsIf, ServesAllWith, ServesIfOn, ServesLine, ServesNextWith, ServesOneWith, ServesUpToWith, StopsBehindWith, reads}
@@ -34,20 +34,20 @@ unheard chores old new (inl same) = same
 unheard chores old new (inr same) = same
 
 carried : {C : Type 0} (m n : Moment C) (line : List ℕ) (answer : Option Outcome) (result : Outcome) → answer ≡ None → CarriesOut no_chores m line answer n result
-    → Commands m.stage n.stage line result × (n.errors ≡ m.errors)
+    → Commands AdmitsAll m.stage n.stage line result × (n.errors ≡ m.errors)
 carried m n line (Some answered) result none same = absurd (cc none)
 carried m n line None result none does = (
-  subst (λ (x : Moment _). Commands m.stage x.stage line result) (sym does.4) does.2,
+  subst (λ (x : Moment _). Commands AdmitsAll m.stage x.stage line result) (sym does.4) does.2,
   ap (λ (x : Moment _). x.errors) does.4 ∙ unheard m.chores m.errors does.1 does.3,
 )
 
 commanded : {C : Type 0} (m n : Moment C) (line : List ℕ) (result : Outcome) → ServesLine no_chores m n line result
-    → Commands m.stage n.stage line result × (n.errors ≡ m.errors)
+    → Commands AdmitsAll m.stage n.stage line result × (n.errors ≡ m.errors)
 commanded m n line result serves =
-    subst (λ (x : Moment _). Commands x.stage n.stage line result × (n.errors ≡ x.errors)) serves.heeds.0
+    subst (λ (x : Moment _). Commands AdmitsAll x.stage n.stage line result × (n.errors ≡ x.errors)) serves.heeds.0
     (carried serves.heeded n line serves.answer result serves.heeds.1 serves.carried)
 
-next : {C : Type 0} (m n : Moment C) (result : Outcome) → ServesNextWith no_chores m n result → ServesNext m.stage n.stage result × (n.errors ≡ m.errors)
+next : {C : Type 0} (m n : Moment C) (result : Outcome) → ServesNextWith no_chores m n result → ServesNext AdmitsAll m.stage n.stage result × (n.errors ≡ m.errors)
 next m n result (inl line) =
     let serves = commanded (reads m line.input line.left) n line.line result line.serves in
     (inl record { line = line.line; read = line.input; left = line.left; comes = line.comes; shorter = line.shorter; commands = serves.0 }, serves.1)

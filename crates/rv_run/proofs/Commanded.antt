@@ -1,5 +1,5 @@
 -- What is asked and said makes what a command does.
-use Rattle.std.proofs.Common.{◌≡◌, ◌+◌, ℕ, List, Option, Some, None, Ok, Err, inl, inr, sym, ap, subst, IfNone, IfSome}
+use Rattle.std.proofs.Common.{◌≡◌, ◌+◌, ℕ, Bool, true, List, Option, Some, None, Ok, Err, inl, inr, sym, ap, subst, IfNone, IfSome}
 use Rattle.std.specs.Prelude.{Result, codes}
 use Rattle.rv_code.specs.declared.unit.Unit.{Unit as Compiled}
 use Rattle.rv_event.specs.declared.entry.Answer.{Answer}
@@ -15,7 +15,7 @@ use Rattle.rv_staff.specs.Saying.{Known, Says, SaysNoThread, SaysRaised}
 use Rattle.rv_staff.specs.Staffs.{Staffed, Workers}
 use Rattle.rv_text.specs.Words.{words}
 use Rattle.rv_turn.specs.declared.pass.Worn.{Worn}
-use Rattle.rv_run.specs.Commanding.{Commands, Follows, LoadsIn, LoadsText, SaysOfLine, Welcomes}
+use Rattle.rv_run.specs.Commanding.{Admission, Commands, Follows, LoadsIn, LoadsText, SaysOfLine, Welcomes}
 use Rattle.rv_run.specs.Staging.{GoesOn, IsSaid, Outcome, SaysOn, Stage}
 
 -- a text is said by what writes it
@@ -57,24 +57,31 @@ pub same_staff : (v w : Staffed) → w.crew ≡ v.crew → w ≡ record v { cont
 same_staff v w same = ap (λ (crew : Workers). record w { crew = crew }) same
 
 -- a line was carried out by the shell, and then what it said
-pub commands_by : (s : Stage) (u : Staffed) (said : Known) (t : Stage) (line : List ℕ) (next : Result Next LineFault) (result : Outcome)
+pub commands_by : {admits : Admission} (s : Stage) (u : Staffed) (said : Known) (t : Stage) (line : List ℕ) (next : Result Next LineFault) (result : Outcome)
     → Serves s.written said s.staff.control u.control (words line) next → u.crew ≡ s.staff.crew
-    → Follows (record s { staff = u; written = said }) t next result → Commands s t line result
-commands_by s u said t line next result served crew follows = record {
+    → Follows admits (record s { staff = u; written = said }) t next result → Commands admits s t line result
+commands_by {admits} s u said t line next result served crew follows = record {
   next = next;
   asked = u.control;
   said = said;
   served = served;
-  follows = subst (λ (v : Staffed). Follows (record s { staff = v; written = said }) t next result) (same_staff s.staff u crew) follows;
+  follows = subst (λ (v : Staffed). Follows admits (record s { staff = v; written = said }) t next result) (same_staff s.staff u crew) follows;
 }
 
+-- whether a unit is let in, over the units that are loaded
+pub admitted_so : (admits : Admission) (read shapes : List Shape) (shape : Shape) (answer admitted : Bool) → read ≡ shapes → answer ≡ admitted
+    → admits read shape answer → admits shapes shape admitted
+admitted_so admits read shapes shape answer admitted is same so =
+    subst (λ (all : List Shape). admits all shape admitted) is (subst (λ (b : Bool). admits read shape b) same so)
+
 -- the unit of a text was loaded
-pub loads_by : (v u w : Staffed) (old new : Known) (text : List ℕ) (unit : Compiled) (answer : Result Answer Worn) (result : Outcome)
-    → GivesUnit (catalogue_of v.control.seen) text (Ok unit) → LoadsIn v.control unit.shape unit.bodies answer u.control → u.crew ≡ v.crew
-    → Welcomes u w old new answer result → LoadsText v w old new text result
-loads_by v u w old new text unit answer result gives told crew welcomes = inl record {
+pub loads_by : (admits : Admission) (v u w : Staffed) (old new : Known) (text : List ℕ) (unit : Compiled) (answer : Result Answer Worn) (result : Outcome)
+    → GivesUnit (catalogue_of v.control.seen) text (Ok unit) → admits (catalogue_of v.control.seen) unit.shape true → LoadsIn v.control unit.shape unit.bodies answer u.control → u.crew ≡ v.crew
+    → Welcomes u w old new answer result → LoadsText admits v w old new text result
+loads_by admits v u w old new text unit answer result gives admitted told crew welcomes = inl record {
   unit = unit;
   is_unit = gives;
+  admitted = admitted;
   answer = answer;
   loaded = u.control;
   told = told;

@@ -1,5 +1,5 @@
 -- What a command of the operator does: what it asks of the host, what is written, and whether the run goes on. (own)
-use Rattle.std.specs.Prelude.{◌≡◌, ◌⊎◌, ℕ, List, Option, Some, None, codes, Result, Ok, Err, MatchResult}
+use Rattle.std.specs.Prelude.{◌≡◌, ◌⊎◌, ℕ, Bool, true, false, List, Option, Some, None, codes, Result, Ok, Err, MatchResult}
 use Rattle.rv_code.specs.declared.unit.Unit.{Unit as Compiled}
 use Rattle.rv_code.specs.declared.body.UnitBodies.{UnitBodies}
 use Rattle.rv_shape.specs.Shape.{Shape}
@@ -44,6 +44,14 @@ Behind old new (Err (Faults.Write error)) result = (new ≡ old) × Fails result
 
 -- Loads
 
+-- whether a unit is let in over those that are loaded
+abbrev pub Admission : Type 1
+Admission = List Shape → Shape → Bool → Type 0
+
+-- each unit is
+abbrev pub AdmitsAll : Admission
+AdmitsAll shapes shape admitted = admitted ≡ true
+
 -- a load is answered, or no act is left for it
 abbrev pub LoadsIn : Passing → Shape → UnitBodies → Result Answer Worn → Passing → Type 0
 LoadsIn v shape bodies result w = MatchResult result (λ answer. LoadTold v shape (λ u. Brings (catalogue_of v.seen) shape bodies u) answer w) (λ _. IsWorn v w)
@@ -69,14 +77,23 @@ pub record Welcomes (v w : Staffed) (old new : Known) (answer : Result Answer Wo
   pub behind : Behind said noted next goes
   pub started : StartsOn v w noted new goes result
 
--- the unit of a text is loaded
-pub record LoadsUnit (v w : Staffed) (old new : Known) (text : List ℕ) (result : Outcome) : Type 0 where
+-- the unit of a text is let in, and loaded
+pub record LoadsUnit (admits : Admission) (v w : Staffed) (old new : Known) (text : List ℕ) (result : Outcome) : Type 0 where
   pub unit : Compiled
   pub is_unit : GivesUnit (catalogue_of v.control.seen) text (Ok unit)
+  pub admitted : admits (catalogue_of v.control.seen) unit.shape true
   pub answer : Result Answer Worn
   pub loaded : Passing
   pub told : LoadsIn v.control unit.shape unit.bodies answer loaded
   pub welcomed : Welcomes (record v { control = loaded }) w old new answer result
+
+-- the unit of a text isn't let in: that there is no room is said, and nothing is asked
+pub record TurnsAway (admits : Admission) (v w : Staffed) (old new : Known) (text : List ℕ) (result : Outcome) : Type 0 where
+  pub unit : Compiled
+  pub is_unit : GivesUnit (catalogue_of v.control.seen) text (Ok unit)
+  pub turned : admits (catalogue_of v.control.seen) unit.shape false
+  pub same : w ≡ v
+  pub said : SaysOn old new (codes "full\n") result
 
 -- what stands against a text is said, or that memory was refused; the words of a fault are its Display
 abbrev pub SaysFault : Known → Known → Failure → Outcome → Type 0
@@ -91,15 +108,16 @@ pub record RefusesText (v w : Staffed) (old new : Known) (text : List ℕ) (resu
   pub same : w ≡ v
   pub said : SaysFault old new failure result
 
-abbrev pub LoadsText : Staffed → Staffed → Known → Known → List ℕ → Outcome → Type 0
-LoadsText v w old new text result = LoadsUnit v w old new text result ⊎ RefusesText v w old new text result
+abbrev pub LoadsText : Admission → Staffed → Staffed → Known → Known → List ℕ → Outcome → Type 0
+LoadsText admits v w old new text result =
+    LoadsUnit admits v w old new text result ⊎ TurnsAway admits v w old new text result ⊎ RefusesText v w old new text result
 
 -- The text that is loaded is that of the lines up to the next line `@end`.
-pub record TextComes (s t : Stage) (result : Outcome) : Type 0 where
+pub record TextComes (admits : Admission) (s t : Stage) (result : Outcome) : Type 0 where
   pub text : List ℕ
   pub comes : Comes s t (GivesText t.input.given (Some text))
   pub shorter : Shortens s.left t.left
-  pub loads : LoadsText s.staff t.staff s.written t.written text result
+  pub loads : LoadsText admits s.staff t.staff s.written t.written text result
 
 -- where the input ends before that, the run does
 pub record NoTextComes (s t : Stage) (result : Outcome) : Type 0 where
@@ -112,8 +130,8 @@ pub record ReadFails (s t : Stage) (result : Outcome) : Type 0 where
   pub nothing : OnlyReads s t
   pub fails : Fails result
 
-abbrev pub LoadsNext : Stage → Stage → Outcome → Type 0
-LoadsNext s t result = TextComes s t result ⊎ NoTextComes s t result ⊎ ReadFails s t result
+abbrev pub LoadsNext : Admission → Stage → Stage → Outcome → Type 0
+LoadsNext admits s t result = TextComes admits s t result ⊎ NoTextComes s t result ⊎ ReadFails s t result
 
 -- Raises
 
@@ -138,15 +156,15 @@ pub record IsDone (s t : Stage) (next : Result Next LineFault) (result : Outcome
   pub behind : Behind s.written t.written next result
 
 -- what follows the shell's word
-abbrev pub Follows : Stage → Stage → Result Next LineFault → Outcome → Type 0
-Follows s t (Ok Nexts.Load) result = LoadsNext s t result
-Follows s t (Ok (Nexts.Raise line)) result = Raises s t line result
-Follows s t next result = IsDone s t next result
+abbrev pub Follows : Admission → Stage → Stage → Result Next LineFault → Outcome → Type 0
+Follows admits s t (Ok Nexts.Load) result = LoadsNext admits s t result
+Follows admits s t (Ok (Nexts.Raise line)) result = Raises s t line result
+Follows admits s t next result = IsDone s t next result
 
 -- a command line is carried out by the shell, and what it says is done
-pub record Commands (s t : Stage) (line : List ℕ) (result : Outcome) : Type 0 where
+pub record Commands (admits : Admission) (s t : Stage) (line : List ℕ) (result : Outcome) : Type 0 where
   pub next : Result Next LineFault
   pub asked : Passing
   pub said : Known
   pub served : Serves s.written said s.staff.control asked (words line) next
-  pub follows : Follows (record s { staff = record s.staff { control = asked }; written = said }) t next result
+  pub follows : Follows admits (record s { staff = record s.staff { control = asked }; written = said }) t next result

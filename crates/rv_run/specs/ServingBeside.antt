@@ -18,7 +18,7 @@ HearsIf does chores old new = (new ≡ old) ⊎ does.hears chores old new
 abbrev pub CarriesOut : {C : Type 0} → Beside C → Moment C → List ℕ → Option Outcome → Moment C → Outcome → Type 0
 CarriesOut does m line (Some answered) n result = (n ≡ m) × (result ≡ answered)
 CarriesOut does m line None n result =
-    (t : Stage) × (told : Known) × Commands m.stage t line result × HearsIf does m.chores m.errors told × (n ≡ record m { stage = t; errors = told })
+    (t : Stage) × (told : Known) × Commands (does.admits m.chores) m.stage t line result × HearsIf does m.chores m.errors told × (n ≡ record m { stage = t; errors = told })
 
 -- it is looked at first
 pub record ServesLine {C : Type 0} (does : Beside C) (m n : Moment C) (line : List ℕ) (result : Outcome) : Type 0 where

@@ -5,7 +5,7 @@ use Rattle.rv_fault.specs.declared.failure.Failure.{Failure}
 use Rattle.rv_input.specs.Coming.{GivesLine, Reading, Shortens}
 use Rattle.rv_staff.specs.Saying.{Known}
 use Rattle.rv_run.specs.declared.command.Goes.TheVariants.{On, Out}
-use Rattle.rv_run.specs.Commanding.{Commands, ReadFails}
+use Rattle.rv_run.specs.Commanding.{Admission, AdmitsAll, Commands, ReadFails}
 use Rattle.rv_run.specs.Staging.{Comes, Fails, OnlyReads, Outcome, ReadsNothing, Stage}
 
 -- how many commands a run serves
@@ -13,13 +13,13 @@ abbrev pub most_commands : ℕ
 most_commands = 100000
 
 -- the next line comes, and is carried out
-pub record LineComes (s t : Stage) (result : Outcome) : Type 0 where
+pub record LineComes (admits : Admission) (s t : Stage) (result : Outcome) : Type 0 where
   pub line : List ℕ
   pub read : Reading
   pub left : Known
   pub comes : Comes s (record s { input = read; left = left }) (GivesLine read.given (Some line))
   pub shorter : Shortens s.left left
-  pub commands : Commands (record s { input = read; left = left }) t line result
+  pub commands : Commands admits (record s { input = read; left = left }) t line result
 
 -- no line comes any more
 pub record NoLineComes (s t : Stage) (result : Outcome) : Type 0 where
@@ -27,8 +27,8 @@ pub record NoLineComes (s t : Stage) (result : Outcome) : Type 0 where
   pub nothing : OnlyReads s t
   pub ends : result ≡ Ok Out
 
-abbrev pub ServesNext : Stage → Stage → Outcome → Type 0
-ServesNext s t result = LineComes s t result ⊎ NoLineComes s t result ⊎ ReadFails s t result
+abbrev pub ServesNext : Admission → Stage → Stage → Outcome → Type 0
+ServesNext admits s t result = LineComes admits s t result ⊎ NoLineComes s t result ⊎ ReadFails s t result
 
 -- what was written is handed on, which adds nothing to it
 pub record Flushes (s t : Stage) : Type 0 where
@@ -38,7 +38,7 @@ pub record Flushes (s t : Stage) : Type 0 where
 
 -- what can't be handed on ends the run; else the next command is served
 abbrev pub ServesOne : Stage → Stage → Outcome → Type 0
-ServesOne s t result = (Flushes s t × Fails result) ⊎ ((u : Stage) × Flushes s u × ServesNext u t result)
+ServesOne s t result = (Flushes s t × Fails result) ⊎ ((u : Stage) × Flushes s u × ServesNext AdmitsAll u t result)
 
 -- the first so many commands, behind each of which the run goes on
 abbrev pub ServesUpTo : ℕ → Stage → Stage → Type 0

@@ -10,6 +10,8 @@ use crate::outputs::{KeptFailure, Outputs};
 use rv_crew::crew::Closed;
 use rv_fault::{Failure, What};
 use rv_input::Input;
+use rv_shape::catalogue::Catalogue;
+use rv_shape::shape::UnitShape;
 use rv_shell::Order;
 use rv_staff::{Grace, Session};
 use rv_step::reading::StepError;
@@ -51,6 +53,10 @@ pub trait Chores<T, W: Write, E: Write> {
     /// Hears what stands against the unit text of a command `load`, before that is said.
     fn hear(&self, what: What, errors: &mut E)
         ensures { does.hears self.now (E.contents errors.old) (E.contents errors.new) };
+
+    /// Whether a unit that a command `load` brings is let in over those that are loaded; of one that isn't `full` is said.
+    fn admits(&self, catalogue: &Catalogue, shape: &UnitShape) -> bool
+        ensures { does.admits self.now catalogue.now shape.now result };
 
     /// Ends the run where no command comes any more.
     fn leave(&self, writer: &mut W) -> Result<Goes, Failure>
@@ -104,6 +110,10 @@ impl<T, W: Write, E: Write> Chores<T, W, E> for NoChores {
     }
 
     fn hear(&self, _what: What, _errors: &mut E) {}
+
+    fn admits(&self, _catalogue: &Catalogue, _shape: &UnitShape) -> bool {
+        true
+    }
 
     fn leave(&self, _writer: &mut W) -> Result<Goes, Failure> {
         Ok(Goes::Out)

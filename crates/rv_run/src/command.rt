@@ -22,6 +22,9 @@ use std::io;
 use std::io::{ErrorKind, Read, Write};
 use std::sync::Wait;
 
+// What is said where there is no room.
+const FULL: &str = "full\n";
+
 // A unit text that a command brings stands at no line of the script.
 const NO_LINE: usize = 0;
 
@@ -129,7 +132,7 @@ fn hear<T, W: Write, E: Write, C: Chores<T, W, E>>(chores: &C, failure: &Failure
     }
 }
 
-// Loads the unit of a text.
+// Loads the unit of a text, if it is let in.
 fn load<T: Wait, H: Hires, W: Write, E: Write, C: Chores<T, W, E>>(
     rt: &T,
     hires: &H,
@@ -138,11 +141,14 @@ fn load<T: Wait, H: Hires, W: Write, E: Write, C: Chores<T, W, E>>(
     text: &str,
     outputs: &mut Outputs<W, E>,
 ) -> Result<Goes, Failure>
-    ensures loads { LoadsText session.old.staff session.new.staff (W.contents outputs.old.writer) (W.contents outputs.new.writer) text.now result }
+    ensures loads { LoadsText (C.does.admits chores.now) session.old.staff session.new.staff (W.contents outputs.old.writer) (W.contents outputs.new.writer) text.now result }
     ensures hears { HearsIf C.does chores.now (E.contents outputs.old.errors) (E.contents outputs.new.errors) }
 {
     match text_unit(session.alloc, session.staff.catalogue(), NO_LINE, text) {
         Ok(unit) => {
+            if !chores.admits(session.staff.catalogue(), &unit.shape) {
+                return said(say(&mut outputs.writer, FULL));
+            }
             let answer = session.staff.load(rt, unit);
             welcome(hires, session, answer, &mut outputs.writer)
         }
@@ -164,6 +170,7 @@ fn load_next<T: Wait, H: Hires, R: Read, W: Write, E: Write, C: Chores<T, W, E>>
     outputs: &mut Outputs<W, E>,
 ) -> Result<Goes, Failure>
     ensures loads { LoadsNext
+        (C.does.admits chores.now)
         (stage session.old.staff (W.contents outputs.old.writer) input.old (R.remaining reader.old))
         (stage session.new.staff (W.contents outputs.new.writer) input.new (R.remaining reader.new))
         result }
@@ -222,6 +229,7 @@ pub fn command<T: Wait, H: Hires, R: Read, W: Write, E: Write, C: Chores<T, W, E
     read: Result<Order, StepError>,
 ) -> Result<Goes, Failure>
     ensures commands { (line : List ℕ) → IsRead (words line) read → Commands
+        (C.does.admits chores.now)
         (stage session.old.staff (W.contents outputs.old.writer) input.old (R.remaining reader.old))
         (stage session.new.staff (W.contents outputs.new.writer) input.new (R.remaining reader.new))
         line

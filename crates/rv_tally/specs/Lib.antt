@@ -1,4 +1,3 @@
-pub mod Denying
 pub mod Guarding
 pub mod Tallying
 pub mod Watching

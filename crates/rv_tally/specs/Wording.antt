@@ -1,6 +1,5 @@
--- What is said of the room of a journal, and of quotas that it doesn't hold (own).
-use Rattle.std.specs.Prelude.{ℕ, ◌+◌, ◌-◌, ◌*◌, ◌/◌, ◌%◌, nat_lt, if◌then◌else◌, Bool, List, [], ◌∷◌, ◌++◌, codes, length}
-use Rattle.std.specs.List.{sum_by}
+-- What is said of the room of a journal (own).
+use Rattle.std.specs.Prelude.{ℕ, ◌-◌, ◌/◌, ◌%◌, nat_lt, if◌then◌else◌, List, [], ◌∷◌, ◌++◌, codes}
 use Rattle.std.specs.Fmt.{decimal}
 use Rattle.rv_event.specs.declared.entry.Entry.{Entry}
 use Rattle.rv_shape.specs.Shape.{Shape}
@@ -39,21 +38,3 @@ unit_parts shapes entries mark (shape ∷ others) =
 abbrev pub room_line : List Shape → List Entry → ℕ → ℕ → List ℕ
 room_line shapes entries capacity used =
     (room_head capacity (capacity - used) ++ unit_parts shapes entries (codes "; ") shapes) ++ 10 ∷ []
-
--- Quotas
-
--- the entries that a unit's quota lets it add: those that it spends, at most two behind each, and the end of each task
-abbrev pub promised : ℕ → Shape → ℕ
-promised quota shape = 3 * quota + length shape.tasks
-
--- those of all units are more than a capacity less 512
-abbrev pub is_too_much : List Shape → ℕ → ℕ → Bool
-is_too_much shapes quota capacity = nat_lt (capacity - 512) (sum_by (promised quota) shapes)
-
-abbrev pub promise_words : List ℕ → List ℕ → List ℕ
-promise_words quota capacity =
-    codes "journal: " ++ (capacity ++ (codes " entries less 512 don't hold three times the quota of " ++ (quota
-    ++ codes " of each unit and the end of each task\n")))
-
-abbrev pub promise_line : ℕ → ℕ → List ℕ
-promise_line quota capacity = promise_words (grouped quota) (grouped capacity)

@@ -1,8 +1,6 @@
-//! What comes of the calls of a unit that the list in force denies everything, and that none is denied twice. Laws, each on a
-//! function that does nothing.
+//! What comes of the calls of a unit that the list in force denies everything. Laws, each on a function that does nothing.
 
 ghost use Rattle.rv_tally.specs.Denied.{CallsAreRefused, LastDenialStands, RecordedCallsAreRefused, TasksAreRefused};
-ghost use Rattle.rv_tally.specs.Guarding.{DeniedOnce};
 
 /// With `deny UNIT * *` at its end a list denies the unit everything.
 #[tactic(auto, using(crate::proofs::Lists::last_stands))]
@@ -24,9 +22,4 @@ pub fn tasks_are_refused()
 /// In a legal history each call that was recorded of such a subject is recorded as refused.
 pub fn recorded_calls_are_refused()
     ensures { RecordedCallsAreRefused }
-{}
-
-/// A unit that was denied everything isn't due to be denied again, whatever else was done.
-pub fn units_are_denied_once()
-    ensures { DeniedOnce }
 {}

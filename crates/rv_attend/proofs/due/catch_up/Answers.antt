@@ -1,7 +1,6 @@
 use Rattle.std.proofs.Common.{◌∙◌, refl}
 use Rattle.rv_follow.proofs.Reading.{kept_later}
-use Rattle.rv_attend.proofs.Chores.{as_terms, chores_later, chores_tend, widen}
-use Rattle.rv_attend.proofs.GoingOn.{halt_after}
+use Rattle.rv_attend.proofs.Chores.{chores_later, chores_tend, widen}
 use Rattle.rv_attend.proofs.due.catch_up.Goals as goal
 
 pub loop-init : goal.loop-init
@@ -35,7 +34,7 @@ returns-then-is_last-clause-tends g c = (
 )
 
 pub returns-then-is_last-clause-ends : goal.returns-then-is_last-clause-ends
-returns-then-is_last-clause-ends g c = λ out. halt_after _ _ _ _ _ (as_terms _ _ _ _ (c.do_round.ensures.tends.3 ∙ c.loop.invariant.tends.3) c.loop.invariant.tends.1) (c.in-Ok.ensures.ends out)
+returns-then-is_last-clause-ends g c = c.in-Ok.ensures.ends
 
 pub returns-then-is_last-clause-feed : goal.returns-then-is_last-clause-feed
 returns-then-is_last-clause-feed g c = c.is_last.ensures ∙ c.do_round.ensures.feed ∙ c.loop.invariant.feed

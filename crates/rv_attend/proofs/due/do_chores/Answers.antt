@@ -1,6 +1,5 @@
 use Rattle.std.proofs.Common.{◌∙◌}
-use Rattle.rv_attend.proofs.Chores.{as_terms, chores_tend}
-use Rattle.rv_attend.proofs.GoingOn.{halt_after, if_ok}
+use Rattle.rv_attend.proofs.Chores.{chores_tend}
 use Rattle.rv_attend.proofs.due.do_chores.Goals as goal
 
 pub returns-else-is_over-clause-tends : goal.returns-else-is_over-clause-tends
@@ -12,8 +11,7 @@ returns-else-is_over-clause-tends g c = (
 )
 
 pub returns-else-is_over-clause-ends : goal.returns-else-is_over-clause-ends
-returns-else-is_over-clause-ends g c =
-    if_ok c.catch_up.result _ _ (λ round halts. λ out. halt_after _ _ _ _ _ (as_terms _ _ _ _ (c.catch_up.ensures.tends.3 ∙ c.do_round.ensures.tends.3) c.do_round.ensures.tends.1) (halts out)) c.catch_up.ensures.ends
+returns-else-is_over-clause-ends g c = c.catch_up.ensures.ends
 
 pub returns-else-is_over-clause-feed : goal.returns-else-is_over-clause-feed
 returns-else-is_over-clause-feed g c = c.catch_up.ensures.feed ∙ c.is_over.ensures ∙ c.do_round.ensures.feed

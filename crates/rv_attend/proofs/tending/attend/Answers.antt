@@ -7,7 +7,7 @@ use Rattle.rv_run.specs.declared.command.Goes.TheVariants.{Out}
 use Rattle.rv_attend.specs.Going.{Terms}
 use Rattle.rv_attend.specs.Lasting.{standing}
 use Rattle.rv_attend.proofs.Attended.{attends, grows_same, keeps_silent}
-use Rattle.rv_attend.proofs.Chores.{as_terms, chores_tend}
+use Rattle.rv_attend.proofs.Chores.{chores_tend}
 use Rattle.rv_attend.proofs.GoingOn.{goes_after, if_ok}
 use Rattle.rv_attend.proofs.tending.attend.Goals as goal
 
@@ -53,7 +53,7 @@ returns-in-On-clause-goes g c =
     goes_after (standing g.F.Write.contents c.args.session.now.staff c.args.follower.now)
     (standing g.F.Write.contents c.do_chores.new.session.staff c.do_chores.new.follower)
     (standing g.F.Write.contents c.wait_prompted.new.session.staff c.wait_prompted.new.follower) c.wait_prompted.new.input
-    (heard c.wait_prompted.new.follower.source.feed) (told c.wait_prompted.new.follower.source.stop) goes (as_terms _ _ _ _ (c.wait_prompted.ensures.tends.3 ∙ c.do_chores.ensures.tends.3) c.do_chores.ensures.tends.1) why)
+    (heard c.wait_prompted.new.follower.source.feed) (told c.wait_prompted.new.follower.source.stop) goes why)
     c.wait_prompted.ensures.goes
 
 pub returns-in-Out-clause-hears : goal.returns-in-Out-clause-hears

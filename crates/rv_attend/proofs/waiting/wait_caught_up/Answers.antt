@@ -2,7 +2,7 @@ use Rattle.std.proofs.Common.{◌∙◌, sym, ap, subst}
 use Rattle.rv_feed.specs.Hearing.{HearsOn, heard, told}
 use Rattle.rv_feed.specs.declared.pair.Feed.{Feed}
 use Rattle.rv_attend.specs.Lasting.{standing}
-use Rattle.rv_attend.proofs.Chores.{as_terms, chores_tend}
+use Rattle.rv_attend.proofs.Chores.{chores_tend}
 use Rattle.rv_attend.proofs.GoingOn.{caught_up}
 use Rattle.rv_attend.proofs.waiting.wait_caught_up.Goals as goal
 
@@ -25,7 +25,7 @@ returns-in-Ok-clause-goes g c =
     (standing g.F.Write.contents c.wait_command.new.session.staff c.wait_command.new.follower)
     (standing g.F.Write.contents c.do_chores.new.session.staff c.do_chores.new.follower) c.wait_command.new.input
     (heard c.wait_command.new.follower.source.feed) (heard c.do_chores.new.follower.source.feed) (told c.do_chores.new.follower.source.stop) c.in-Ok.round.goes
-    (as_terms _ _ _ _ (c.do_chores.ensures.tends.3 ∙ c.wait_command.ensures.tends.3) c.wait_command.ensures.tends.1) (ap heard c.do_chores.ensures.feed) (rw c.in-Ok-On.field-0-is at c.in-Ok-On.ensures.goes) c.in-Ok.ensures.ends
+    (ap heard c.do_chores.ensures.feed) (rw c.in-Ok-On.field-0-is at c.in-Ok-On.ensures.goes) c.in-Ok.ensures.ends
 
 pub returns-in-Err-clause-tends : goal.returns-in-Err-clause-tends
 returns-in-Err-clause-tends g c = (

@@ -5,7 +5,7 @@ use Rattle.rv_feed.proofs.Heard.{hears_none, hears_on}
 use Rattle.rv_input.specs.Whole.{HasCommand}
 use Rattle.rv_attend.specs.Lasting.{standing}
 use Rattle.rv_attend.proofs.Attended.{grows_on, grows_same}
-use Rattle.rv_attend.proofs.Chores.{as_terms, chores_tend, no_chores_in}
+use Rattle.rv_attend.proofs.Chores.{chores_tend, no_chores_in}
 use Rattle.rv_attend.proofs.GoingOn.{goes_after, goes_unless, goes_with}
 use Rattle.rv_attend.proofs.waiting.wait_command.Goals as goal
 
@@ -67,7 +67,7 @@ returns-in-Ok-Some-clause-goes g c =
     (goes_after (standing g.F.Write.contents c.args.session.now.staff c.args.follower.now)
     (standing g.F.Write.contents c.loop.session.staff c.loop.follower)
     (standing g.F.Write.contents c.wait_once.new.session.staff c.wait_once.new.follower) c.wait_once.new.input
-    (heard c.wait_once.new.follower.source.feed) (told c.wait_once.new.follower.source.stop) c.in-Ok-Some.goes (as_terms _ _ _ _ (c.wait_once.ensures.tends.3 ∙ c.loop.invariant.tends.3) c.loop.invariant.tends.1)
+    (heard c.wait_once.new.follower.source.feed) (told c.wait_once.new.follower.source.stop) c.in-Ok-Some.goes
     (rw c.in-Ok-Some.field-0-is at c.in-Ok-Some.ensures.goes))
 
 pub returns-in-Err-clause-tends : goal.returns-in-Err-clause-tends

@@ -1,0 +1,6 @@
+pub mod Ends
+pub mod Loads
+pub mod Payers
+pub mod Costs
+pub mod Keeping
+pub mod Booking
