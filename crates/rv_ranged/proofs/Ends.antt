@@ -1,14 +1,11 @@
 -- Lists that are gone through side by side, where one of them has ended.
-use Rattle.std.proofs.Common.{◌≡◌, ℕ, zero, suc, ◌<◌, ◌≤◌, true, false, List, [], ◌∷◌, length, drop, refl, arith}
+use Rattle.std.proofs.Common.{◌≡◌, ℕ, zero, suc, ◌<◌, ◌≤◌, false, List, [], ◌∷◌, length, drop, refl, arith}
 use Rattle.std.specs.Prelude.{◌==◌}
 use Rattle.std.proofs.lemmas.Bool.Decides.{nat_tests}
-use Rattle.rv_shape.specs.Shape.{Shape}
 use Rattle.rv_shape.specs.declared.kind.Parameter.{Parameter}
-use Rattle.rv_shape.specs.declared.object.Object.{Object}
-use Rattle.rv_code.specs.Bodies.{Body}
 use Rattle.rv_code.specs.declared.expression.Expression.{Expression}
 use Rattle.rv_code.specs.ExpressionView.{expressions_view}
-use Rattle.rv_ranged.specs.Ranged.{all_give, given_ranges, parameters_fit, objects_ranged}
+use Rattle.rv_ranged.specs.Ranged.{all_give, given_ranges, parameters_fit}
 
 -- a body has parameters left, and the operation none
 no_more : (owns : List Parameter) (k : ℕ) → k < length owns → parameters_fit (drop k owns) [] ≡ false
@@ -19,12 +16,6 @@ no_more (own ∷ owns) (suc k) less = no_more owns k (omega (arith, less))
 pub parameters_lack : (owns ps : List Parameter) (k : ℕ) → k < length owns → length ps < 1 → parameters_fit (drop k owns) ps ≡ false
 parameters_lack owns [] k less none = no_more owns k less
 parameters_lack owns (p ∷ ps) k less none = absurd (omega (arith, none))
-
--- there are no objects left
-pub objects_end : (shapes : List Shape) (objects : List Object) (lists : List (List Body)) → length objects < 1 → objects_ranged shapes objects lists ≡ true
-objects_end shapes [] [] none = refl
-objects_end shapes [] (bodies ∷ lists) none = refl
-objects_end shapes (object ∷ objects) lists none = absurd (omega (arith, none))
 
 -- there are no parameters left: nothing more may be given
 some_given : (n : ℕ) → false ≡ (suc n == 0)

@@ -19,11 +19,11 @@ use Rattle.rv_ranged.specs.Ranged.{Stand, of_target, take, suit, expression_rang
 
 -- Two tests that both hold
 
-first_of_both : (b c : Bool) → (b && c) ≡ true → b ≡ true
+pub first_of_both : (b c : Bool) → (b && c) ≡ true → b ≡ true
 first_of_both true c e = refl
 first_of_both false c e = e
 
-second_of_both : (b c : Bool) → (b && c) ≡ true → c ≡ true
+pub second_of_both : (b c : Bool) → (b && c) ≡ true → c ≡ true
 second_of_both true c e = e
 second_of_both false c e = absurd (cc e)
 
@@ -32,7 +32,7 @@ both_hold true c e f = f
 both_hold false c e f = absurd (cc e)
 
 -- the first as before, and what follows from the second
-behind : (b c d : Bool) → (c ≡ true → d ≡ true) → (b && c) ≡ true → (b && d) ≡ true
+pub behind : (b c d : Bool) → (c ≡ true → d ≡ true) → (b && c) ≡ true → (b && d) ≡ true
 behind b c d f e = both_hold b d (first_of_both b c e) (f (second_of_both b c e))
 
 -- what follows from each of both

@@ -2,3 +2,5 @@ pub mod Parts
 pub mod Keeps
 mod Ends
 mod Behind
+mod Alike
+mod Shared

@@ -6,6 +6,7 @@ mod arguments;
 mod body;
 mod expression;
 pub mod laws;
+mod likeness;
 mod operation;
 mod range;
 mod stand;

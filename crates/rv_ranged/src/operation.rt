@@ -1,10 +1,13 @@
-//! Bodies of operations, and of whole units (9.4).
+//! Bodies of operations, and of whole units (9.4). What objects that are alike share is looked at once.
 
-ghost use Rattle.std.specs.Prelude.{◌≡◌, ◌++◌, ◌∷◌, [], ◌&&◌, map};
+ghost use Rattle.std.specs.Prelude.{◌≡◌, ◌+◌, ◌&&◌, List, map, take, true, Some, slice_get};
+ghost use Rattle.rv_code.specs.Bodies as code;
 ghost use Rattle.rv_code.specs.BodyView.{body_view, list_at, unit_view};
+ghost use Rattle.rv_shape.specs.Shape.{Shape};
 ghost use Rattle.rv_ranged.specs.Ranged.{same_mode, parameter_fits, parameters_fit, kind_fits, heads, operation_ranged, operations_ranged, object_ranged, objects_ranged, ranges_fit};
 
 use crate::body::{body_ranged, tasks_ranged};
+use crate::likeness::are_alike;
 use crate::range::first_of;
 use crate::stand::Stand;
 use crate::units::Units;
@@ -106,19 +109,82 @@ fn object_ranged(bodies: &[Body], object: &Object, units: &Units<'_>) -> bool
     }
 }
 
+// Whether the object of an index is like this one: a list of bodies whose values lie in range there has them so in this one.
+#[tactic(auto, using(crate::proofs::Shared::like_ranged))]
+fn is_like_at(objects: &[Object], at: usize, object: &Object) -> bool
+    ensures { result ≡ true → (shapes : List Shape) (lists : List (List code.Body)) (bodies : List code.Body) →
+        slice_get lists at ≡ Some bodies → objects_ranged shapes objects.now lists ≡ true →
+        object_ranged shapes object.now bodies ≡ true }
+{
+    match objects.get(at) {
+        Some(other) => are_alike(other, object),
+        None => false,
+    }
+}
+
+// Whether the object of an index has the list of bodies.
+fn has_list(objects: &[usize], index: usize, list: usize) -> bool
+    ensures { result ≡ true → slice_get objects.now index ≡ Some list }
+{
+    match objects.get(index) {
+        Some(had) => *had == list,
+        None => false,
+    }
+}
+
+// Whether an object before an index has the same list and is like this one, so that the list was looked at.
+#[tactic(auto, using(crate::proofs::Shared::shared_ranged))]
+fn is_shared(
+    bodies: &UnitBodies,
+    objects: &[Object],
+    index: usize,
+    list: usize,
+    object: &Object,
+) -> bool
+    ensures { result ≡ true → (shapes : List Shape) →
+        objects_ranged shapes objects.now (take index (unit_view bodies.now).objects) ≡ true →
+        object_ranged shapes object.now (list_at bodies.now.lists.items list) ≡ true }
+{
+    for at in 0..index {
+        if has_list(&bodies.objects, at, list) && is_like_at(objects, at, object) {
+            return true;
+        }
+    }
+    false
+}
+
+// The same of the bodies of the objects up to an index, where it is so of those before it.
+#[tactic(auto, using(crate::proofs::Shared::without_list, crate::proofs::Shared::without_object, crate::proofs::Shared::with_both))]
+fn place_ranged(
+    bodies: &UnitBodies,
+    objects: &[Object],
+    index: usize,
+    units: &Units<'_>,
+) -> bool
+    requires before { objects_ranged units.now objects.now (take index (unit_view bodies.now).objects) ≡ true }
+    ensures { result ≡ objects_ranged units.now objects.now (take (index + 1) (unit_view bodies.now).objects) }
+{
+    let Some(list) = bodies.objects.get(index) else {
+        return true;
+    };
+    let Some(object) = objects.get(index) else {
+        return true;
+    };
+    if is_shared(bodies, objects, index, *list, object) {
+        return true;
+    }
+    object_ranged(bodies.list(*list), object, units)
+}
+
 // The same of the bodies of each of these objects.
+#[tactic(auto, using(crate::proofs::Shared::one_fails))]
 fn objects_ranged(bodies: &UnitBodies, objects: &[Object], units: &Units<'_>) -> bool
     ensures { result ≡ objects_ranged units.now objects.now (unit_view bodies.now).objects }
 {
-    let mut left = objects;
-    for list in &bodies.objects {
-        let [object, others @ ..] = left else {
-            return true;
-        };
-        if !object_ranged(bodies.list(*list), object, units) {
+    for index in 0..bodies.objects.len() {
+        if !place_ranged(bodies, objects, index, units) {
             return false;
         }
-        left = others;
     }
     true
 }
