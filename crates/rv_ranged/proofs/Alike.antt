@@ -1,16 +1,15 @@
 -- Objects that are alike: bodies that keep to the ranges of one keep to those of the other.
-use Rattle.std.proofs.Common.{◌≡◌, ℕ, ◌≤◌, ◌∙◌, Bool, List, [], ◌∷◌, length, take, refl, sym, ap, arith}
+use Rattle.std.proofs.Common.{◌≡◌, ℕ, ◌≤◌, ◌∙◌, List, [], ◌∷◌, length, take, refl, sym, ap, arith}
 use Rattle.std.specs.Prelude.{◌&&◌}
 use Rattle.std.proofs.lemmas.List.{take_all}
 use Rattle.rv_shape.specs.declared.kind.Component.{Component}
-use Rattle.rv_shape.specs.declared.kind.Kind.{Kind}
 use Rattle.rv_shape.specs.declared.kind.Parameter.{Parameter}
 use Rattle.rv_shape.specs.declared.kind.Range.{Range}
 use Rattle.rv_shape.specs.declared.object.Object.TheVariants.{Protected}
 use Rattle.rv_shape.specs.Objects.{OperationShape, ProtectedShape}
 use Rattle.rv_shape.specs.Shape.{Shape}
 use Rattle.rv_code.specs.Bodies.{Body}
-use Rattle.rv_ranged.specs.Ranged.{Stand, stand_of, result_of, heads, body_ranged, operations_ranged, object_ranged}
+use Rattle.rv_ranged.specs.Ranged.{stand_of, result_of, heads, body_ranged, operations_ranged, object_ranged}
 
 -- What is the same part by part
 
@@ -40,8 +39,8 @@ module _ (shapes : List Shape) (one other : ProtectedShape) (components : one.co
   same_ranged : (operations : List OperationShape) (bodies : List Body) → operations_ranged shapes one operations bodies ≡ operations_ranged shapes other operations bodies
   same_ranged operations [] = refl
   same_ranged [] (b ∷ bodies) = refl
-  same_ranged (operation ∷ operations) (b ∷ bodies) i =
-      (heads operation b && body_ranged shapes (same_stand one other components same operation i) b) && same_ranged operations bodies i
+  same_ranged (operation ∷ operations) (b ∷ bodies) =
+      λ i. (heads operation b && body_ranged shapes (same_stand one other components same operation i) b) && same_ranged operations bodies i
 
 pub alike_by_parts : (one other : ProtectedShape) → one.components ≡ other.components → one.operations ≡ other.operations
     → (shapes : List Shape) (bodies : List Body) → object_ranged shapes (Protected one) bodies ≡ object_ranged shapes (Protected other) bodies

@@ -110,7 +110,6 @@ fn object_ranged(bodies: &[Body], object: &Object, units: &Units<'_>) -> bool
 }
 
 // Whether the object of an index is like this one: a list of bodies whose values lie in range there has them so in this one.
-#[tactic(auto, using(crate::proofs::Shared::like_ranged))]
 fn is_like_at(objects: &[Object], at: usize, object: &Object) -> bool
     ensures { result ≡ true → (shapes : List Shape) (lists : List (List code.Body)) (bodies : List code.Body) →
         slice_get lists at ≡ Some bodies → objects_ranged shapes objects.now lists ≡ true →
@@ -154,13 +153,8 @@ fn is_shared(
 }
 
 // The same of the bodies of the objects up to an index, where it is so of those before it.
-#[tactic(auto, using(crate::proofs::Shared::without_list, crate::proofs::Shared::without_object, crate::proofs::Shared::with_both))]
-fn place_ranged(
-    bodies: &UnitBodies,
-    objects: &[Object],
-    index: usize,
-    units: &Units<'_>,
-) -> bool
+#[tactic(auto, using(crate::proofs::Shared::without_list))]
+fn place_ranged(bodies: &UnitBodies, objects: &[Object], index: usize, units: &Units<'_>) -> bool
     requires before { objects_ranged units.now objects.now (take index (unit_view bodies.now).objects) ≡ true }
     ensures { result ≡ objects_ranged units.now objects.now (take (index + 1) (unit_view bodies.now).objects) }
 {
