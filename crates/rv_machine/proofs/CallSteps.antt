@@ -18,6 +18,8 @@ use Rattle.rv_exec.specs.Bodies.{operation_of}
 use Rattle.rv_exec.specs.Calls.{Outcome, internal, is_past, end_of, exit_of}
 use Rattle.rv_flat.specs.declared.unit.FlatUnit.{FlatUnit}
 use Rattle.rv_flat.specs.FlatUnits.{flat_view}
+use Rattle.rv_flat.specs.Tables.{trees}
+use Rattle.rv_flat.specs.Trees.{Tree}
 use Rattle.rv_frames.specs.Frames.{Frame, Control, calls, enters, asks_of, comes, closes, listed, reaches, outside, exited, ends_of, declares, opening, closing, resuming, answering, performing, completing, inner_setting, body_setting, denoted}
 use Rattle.rv_frames.proofs.Pushes.{calls_push}
 use Rattle.rv_frames.proofs.Arrivals.{calls_arrive}
@@ -30,13 +32,15 @@ use Rattle.rv_machine.proofs.MovesLeft.{called_least, called_more, called_grow, 
 use Rattle.rv_machine.specs.declared.frame.Frame as m
 use Rattle.rv_machine.specs.declared.frame.Frame.TheVariants as frame
 use Rattle.rv_machine.specs.declared.machine.Machine.{Machine}
+use Rattle.rv_machine.specs.declared.frames.Frames.{Frames}
 use Rattle.rv_machine.specs.declared.pile.Pile.{Pile}
 use Rattle.rv_machine.specs.declared.stack.Stack.{Stack}
 use Rattle.rv_machine.specs.Heights.{body_height, called_height, weight, waiting_height}
 use Rattle.rv_machine.specs.Machines.{MovesTo}
 use Rattle.rv_machine.specs.Moves.{called_moves, body_moves, level, waiting_moves}
 use Rattle.rv_machine.specs.Points.{given_by, MovesOn, Apart}
-use Rattle.rv_machine.specs.Stacks.{body_or, first_of, rest_of, frames_with, waiting, set_aside, below}
+use Rattle.rv_machine.specs.Packing.{unpacked}
+use Rattle.rv_machine.specs.Stacks.{body_or, first_of, rest_of, frames_with, stacked, set_aside, below}
 
 -- one move, and another behind it
 pub then_to : (u : FlatUnit) (from : Control) (before : List Frame) (s : Setting) (to : Control) (after : List Frame) (t : Setting) (new : Machine)
@@ -50,39 +54,39 @@ then_to u from before s to after t new one other = record {
 -- what a frame that is put on top of the others stands for
 pub resuming_on : (u : FlatUnit) (old between new : Stack) (s : Setting) (x a : Activation)
     → between.frames ≡ old.frames → set_aside between ≡ x ∷ set_aside old → x ≡ a
-    → waiting new ≡ frame.Resuming s ∷ waiting between → new.activations ≡ between.activations
+    → ((ts : List Tree) → stacked ts new ≡ frame.Resuming s ∷ stacked ts between) → new.activations ≡ between.activations
     → below u new ≡ resuming s a ∷ below u old
 unfolding frames_with
 resuming_on u old between new s x a same aside is on kept =
     let waits : set_aside new ≡ a ∷ set_aside old = ap (λ (p : Pile Activation). reverse p.items.items) kept ∙ (aside ∙ ap (λ (y : Activation). y ∷ set_aside old) is) in
-    ap (λ (fs : List m.Frame). frames_with u fs (set_aside new)) on
-    ∙ (ap (λ (as_they : List Activation). resuming s (first_of as_they) ∷ frames_with u (waiting between) (rest_of as_they)) waits
-    ∙ ap (λ (p : Pile m.Frame). resuming s a ∷ frames_with u (reverse p.items.items) (set_aside old)) same)
+    ap (λ (fs : List m.Frame). frames_with u fs (set_aside new)) (on (trees u.code))
+    ∙ (ap (λ (as_they : List Activation). resuming s (first_of as_they) ∷ frames_with u (stacked (trees u.code) between) (rest_of as_they)) waits
+    ∙ ap (λ (p : Frames). resuming s a ∷ frames_with u (unpacked (trees u.code) (reverse p.packed.items.items) (reverse p.asides.items.items)) (set_aside old)) same)
 
 pub answering_on : (u : FlatUnit) (old between new : Stack) (x a : Activation)
     → between.frames ≡ old.frames → set_aside between ≡ x ∷ set_aside old → x ≡ a
-    → waiting new ≡ frame.Answering ∷ waiting between → new.activations ≡ between.activations
+    → ((ts : List Tree) → stacked ts new ≡ frame.Answering ∷ stacked ts between) → new.activations ≡ between.activations
     → below u new ≡ answering a ∷ below u old
 unfolding frames_with
 answering_on u old between new x a same aside is on kept =
     let waits : set_aside new ≡ a ∷ set_aside old = ap (λ (p : Pile Activation). reverse p.items.items) kept ∙ (aside ∙ ap (λ (y : Activation). y ∷ set_aside old) is) in
-    ap (λ (fs : List m.Frame). frames_with u fs (set_aside new)) on
-    ∙ (ap (λ (as_they : List Activation). answering (first_of as_they) ∷ frames_with u (waiting between) (rest_of as_they)) waits
-    ∙ ap (λ (p : Pile m.Frame). answering a ∷ frames_with u (reverse p.items.items) (set_aside old)) same)
+    ap (λ (fs : List m.Frame). frames_with u fs (set_aside new)) (on (trees u.code))
+    ∙ (ap (λ (as_they : List Activation). answering (first_of as_they) ∷ frames_with u (stacked (trees u.code) between) (rest_of as_they)) waits
+    ∙ ap (λ (p : Frames). answering a ∷ frames_with u (unpacked (trees u.code) (reverse p.packed.items.items) (reverse p.asides.items.items)) (set_aside old)) same)
 
 pub performing_on : (u : FlatUnit) (old new : Stack) (held : ℕ) (values : List ℤ)
-    → waiting new ≡ frame.Performing held values ∷ waiting old → new.activations ≡ old.activations
+    → ((ts : List Tree) → stacked ts new ≡ frame.Performing held values ∷ stacked ts old) → new.activations ≡ old.activations
     → below u new ≡ performing held values ∷ below u old
 unfolding frames_with
 performing_on u old new held values on same =
-    ap (λ fs. frames_with u fs (set_aside new)) on ∙ ap (λ (kept : Pile Activation). performing held values ∷ frames_with u (waiting old) (reverse kept.items.items)) same
+    ap (λ fs. frames_with u fs (set_aside new)) (on (trees u.code)) ∙ ap (λ (kept : Pile Activation). performing held values ∷ frames_with u (stacked (trees u.code) old) (reverse kept.items.items)) same
 
 pub completing_on : (u : FlatUnit) (old new : Stack) (is_function : Bool) (t : Setting)
-    → waiting new ≡ frame.Completing is_function t ∷ waiting old → new.activations ≡ old.activations
+    → ((ts : List Tree) → stacked ts new ≡ frame.Completing is_function t ∷ stacked ts old) → new.activations ≡ old.activations
     → below u new ≡ completing is_function t ∷ below u old
 unfolding frames_with
 completing_on u old new is_function t on same =
-    ap (λ fs. frames_with u fs (set_aside new)) on ∙ ap (λ (kept : Pile Activation). completing is_function t ∷ frames_with u (waiting old) (reverse kept.items.items)) same
+    ap (λ fs. frames_with u fs (set_aside new)) (on (trees u.code)) ∙ ap (λ (kept : Pile Activation). completing is_function t ∷ frames_with u (stacked (trees u.code) old) (reverse kept.items.items)) same
 
 -- what waits below a call doesn't look at the setting of the body that is called
 apart_resuming : (bodies : UnitBodies) (t : Setting) (a : Activation) (fs : List Frame) → Apart bodies (resuming t a ∷ fs)
@@ -213,30 +217,30 @@ call_asks u s c at values a b fs between after other took here past one two =
 pub met_resuming : (u : FlatUnit) (old new : Stack) (s t : Setting) (g : m.Frame) (outcome : Outcome) (components : List ℤ) (steps : ℕ) (a x : Activation)
     → g ≡ frame.Resuming t → new.frames ≡ old.frames → a ≡ first_of (set_aside old) → set_aside new ≡ rest_of (set_aside old)
     → x ≡ record a { components = components; steps = steps }
-    → MovesOn (flat_view u) (comes (closes outcome components steps)) (frames_with u (g ∷ waiting old) (set_aside old)) s (comes (listed outcome x)) (below u new) t
+    → MovesOn (flat_view u) (comes (closes outcome components steps)) (frames_with u (g ∷ stacked (trees u.code) old) (set_aside old)) s (comes (listed outcome x)) (below u new) t
 unfolding frames_with
 met_resuming u old new s t g outcome components steps a x is same first rest resumes =
-    subst (λ (fs : List Frame). MovesOn (flat_view u) (comes (closes outcome components steps)) (frames_with u (g ∷ waiting old) (set_aside old)) s (comes (listed outcome x)) fs t) (sym (taken_up u old new same rest))
-    (subst (λ (y : Activation). MovesOn (flat_view u) (comes (closes outcome components steps)) (frames_with u (g ∷ waiting old) (set_aside old)) s (comes (listed outcome y)) (frames_with u (waiting old) (rest_of (set_aside old))) t) (sym (resumes ∙ ap (λ (y : Activation). record y { components = components; steps = steps }) first))
-    (subst (λ (z : m.Frame). MovesOn (flat_view u) (comes (closes outcome components steps)) (frames_with u (z ∷ waiting old) (set_aside old)) s (comes (listed outcome (record (first_of (set_aside old)) { components = components; steps = steps }))) (frames_with u (waiting old) (rest_of (set_aside old))) t) (sym is)
-    (record { same = (calls_arrive (flat_view u) (frames_with u (waiting old) (rest_of (set_aside old))) s).inner_call t (first_of (set_aside old)) outcome components steps; less = omega arith; low = λ one. omega arith })))
+    subst (λ (fs : List Frame). MovesOn (flat_view u) (comes (closes outcome components steps)) (frames_with u (g ∷ stacked (trees u.code) old) (set_aside old)) s (comes (listed outcome x)) fs t) (sym (taken_up u old new same rest))
+    (subst (λ (y : Activation). MovesOn (flat_view u) (comes (closes outcome components steps)) (frames_with u (g ∷ stacked (trees u.code) old) (set_aside old)) s (comes (listed outcome y)) (frames_with u (stacked (trees u.code) old) (rest_of (set_aside old))) t) (sym (resumes ∙ ap (λ (y : Activation). record y { components = components; steps = steps }) first))
+    (subst (λ (z : m.Frame). MovesOn (flat_view u) (comes (closes outcome components steps)) (frames_with u (z ∷ stacked (trees u.code) old) (set_aside old)) s (comes (listed outcome (record (first_of (set_aside old)) { components = components; steps = steps }))) (frames_with u (stacked (trees u.code) old) (rest_of (set_aside old))) t) (sym is)
+    (record { same = (calls_arrive (flat_view u) (frames_with u (stacked (trees u.code) old) (rest_of (set_aside old))) s).inner_call t (first_of (set_aside old)) outcome components steps; less = omega arith; low = λ one. omega arith })))
 
 pub met_completing : (u : FlatUnit) (old : Stack) (s t : Setting) (g : m.Frame) (is_function : Bool) (outcome : Outcome) (components : List ℤ) (steps : ℕ) (request : Request)
     → g ≡ frame.Completing is_function t → request ≡ end_of is_function outcome components
-    → MovesOn (flat_view u) (comes (closes outcome components steps)) (frames_with u (g ∷ waiting old) (set_aside old)) s (ends_of request outcome) (below u old) t
+    → MovesOn (flat_view u) (comes (closes outcome components steps)) (frames_with u (g ∷ stacked (trees u.code) old) (set_aside old)) s (ends_of request outcome) (below u old) t
 unfolding frames_with
 met_completing u old s t g is_function outcome components steps request is asks =
-    subst (λ (r : Request). MovesOn (flat_view u) (comes (closes outcome components steps)) (frames_with u (g ∷ waiting old) (set_aside old)) s (ends_of r outcome) (below u old) t) (sym asks)
-    (subst (λ (z : m.Frame). MovesOn (flat_view u) (comes (closes outcome components steps)) (frames_with u (z ∷ waiting old) (set_aside old)) s (ends_of (end_of is_function outcome components) outcome) (below u old) t) (sym is)
+    subst (λ (r : Request). MovesOn (flat_view u) (comes (closes outcome components steps)) (frames_with u (g ∷ stacked (trees u.code) old) (set_aside old)) s (ends_of r outcome) (below u old) t) (sym asks)
+    (subst (λ (z : m.Frame). MovesOn (flat_view u) (comes (closes outcome components steps)) (frames_with u (z ∷ stacked (trees u.code) old) (set_aside old)) s (ends_of (end_of is_function outcome components) outcome) (below u old) t) (sym is)
     (record { same = (calls_arrive (flat_view u) (below u old) s).ended is_function t outcome components steps; less = omega arith; low = λ one. omega arith }))
 
 pub met_exiting : (u : FlatUnit) (old : Stack) (s : Setting) (g : m.Frame) (outcome : Outcome) (components : List ℤ) (steps : ℕ) (exit : Exit)
     → g ≡ frame.Exiting → exit ≡ exit_of outcome
-    → MovesOn (flat_view u) (comes (closes outcome components steps)) (frames_with u (g ∷ waiting old) (set_aside old)) s (comes (exited exit components)) (below u old) s
+    → MovesOn (flat_view u) (comes (closes outcome components steps)) (frames_with u (g ∷ stacked (trees u.code) old) (set_aside old)) s (comes (exited exit components)) (below u old) s
 unfolding frames_with
 met_exiting u old s g outcome components steps exit is exits =
-    subst (λ (x : Exit). MovesOn (flat_view u) (comes (closes outcome components steps)) (frames_with u (g ∷ waiting old) (set_aside old)) s (comes (exited x components)) (below u old) s) (sym exits)
-    (subst (λ (z : m.Frame). MovesOn (flat_view u) (comes (closes outcome components steps)) (frames_with u (z ∷ waiting old) (set_aside old)) s (comes (exited (exit_of outcome) components)) (below u old) s) (sym is)
+    subst (λ (x : Exit). MovesOn (flat_view u) (comes (closes outcome components steps)) (frames_with u (g ∷ stacked (trees u.code) old) (set_aside old)) s (comes (exited x components)) (below u old) s) (sym exits)
+    (subst (λ (z : m.Frame). MovesOn (flat_view u) (comes (closes outcome components steps)) (frames_with u (z ∷ stacked (trees u.code) old) (set_aside old)) s (comes (exited (exit_of outcome) components)) (below u old) s) (sym is)
     (record { same = (calls_rest (flat_view u) (below u old) s).exit outcome components steps; less = omega arith; low = λ one. omega arith }))
 
 -- what a request comes to
@@ -280,27 +284,27 @@ given_so u s (Err why) held values fs = record { same = (calls_rest (flat_view u
 
 pub met_given : (u : FlatUnit) (old : Stack) (s : Setting) (g : m.Frame) (outcome : Outcome) (held : ℕ) (values : List ℤ)
     → g ≡ frame.Performing held values
-    → MovesOn (flat_view u) (comes (reaches (given_by outcome))) (frames_with u (g ∷ waiting old) (set_aside old)) s (comes (outside outcome)) (below u old) s
+    → MovesOn (flat_view u) (comes (reaches (given_by outcome))) (frames_with u (g ∷ stacked (trees u.code) old) (set_aside old)) s (comes (outside outcome)) (below u old) s
 unfolding frames_with
 met_given u old s g outcome held values is =
-    subst (λ (z : m.Frame). MovesOn (flat_view u) (comes (reaches (given_by outcome))) (frames_with u (z ∷ waiting old) (set_aside old)) s (comes (outside outcome)) (below u old) s) (sym is)
+    subst (λ (z : m.Frame). MovesOn (flat_view u) (comes (reaches (given_by outcome))) (frames_with u (z ∷ stacked (trees u.code) old) (set_aside old)) s (comes (outside outcome)) (below u old) s) (sym is)
     (given_so u s outcome held values (below u old))
 
 pub met_performing : (u : FlatUnit) (old : Stack) (s : Setting) (g : m.Frame) (what : Asked) (held : ℕ) (values : List ℤ) (new : Machine)
     → g ≡ frame.Performing held values
     → MovesTo u (comes (reaches what)) (performing held values ∷ below u old) s new
-    → MovesTo u (comes (reaches what)) (frames_with u (g ∷ waiting old) (set_aside old)) s new
+    → MovesTo u (comes (reaches what)) (frames_with u (g ∷ stacked (trees u.code) old) (set_aside old)) s new
 unfolding frames_with
 met_performing u old s g what held values new is moves =
-    subst (λ (z : m.Frame). MovesTo u (comes (reaches what)) (frames_with u (z ∷ waiting old) (set_aside old)) s new) (sym is) moves
+    subst (λ (z : m.Frame). MovesTo u (comes (reaches what)) (frames_with u (z ∷ stacked (trees u.code) old) (set_aside old)) s new) (sym is) moves
 
 -- what a call of another object comes to
 pub met_answering : (u : FlatUnit) (old new : Stack) (s : Setting) (g : m.Frame) (outcome : Outcome) (a x : Activation)
     → g ≡ frame.Answering → new.frames ≡ old.frames → a ≡ first_of (set_aside old) → set_aside new ≡ rest_of (set_aside old) → x ≡ refilled s.is_task a
-    → MovesOn (flat_view u) (comes (outside outcome)) (frames_with u (g ∷ waiting old) (set_aside old)) s (comes (listed outcome x)) (below u new) s
+    → MovesOn (flat_view u) (comes (outside outcome)) (frames_with u (g ∷ stacked (trees u.code) old) (set_aside old)) s (comes (listed outcome x)) (below u new) s
 unfolding frames_with
 met_answering u old new s g outcome a x is same first rest refills =
-    subst (λ (fs : List Frame). MovesOn (flat_view u) (comes (outside outcome)) (frames_with u (g ∷ waiting old) (set_aside old)) s (comes (listed outcome x)) fs s) (sym (taken_up u old new same rest))
-    (subst (λ (y : Activation). MovesOn (flat_view u) (comes (outside outcome)) (frames_with u (g ∷ waiting old) (set_aside old)) s (comes (listed outcome y)) (frames_with u (waiting old) (rest_of (set_aside old))) s) (sym (refills ∙ ap (λ (y : Activation). refilled s.is_task y) first))
-    (subst (λ (z : m.Frame). MovesOn (flat_view u) (comes (outside outcome)) (frames_with u (z ∷ waiting old) (set_aside old)) s (comes (listed outcome (refilled s.is_task (first_of (set_aside old))))) (frames_with u (waiting old) (rest_of (set_aside old))) s) (sym is)
-    (record { same = (calls_arrive (flat_view u) (frames_with u (waiting old) (rest_of (set_aside old))) s).outer_call (first_of (set_aside old)) outcome; less = omega arith; low = λ one. omega arith })))
+    subst (λ (fs : List Frame). MovesOn (flat_view u) (comes (outside outcome)) (frames_with u (g ∷ stacked (trees u.code) old) (set_aside old)) s (comes (listed outcome x)) fs s) (sym (taken_up u old new same rest))
+    (subst (λ (y : Activation). MovesOn (flat_view u) (comes (outside outcome)) (frames_with u (g ∷ stacked (trees u.code) old) (set_aside old)) s (comes (listed outcome y)) (frames_with u (stacked (trees u.code) old) (rest_of (set_aside old))) s) (sym (refills ∙ ap (λ (y : Activation). refilled s.is_task y) first))
+    (subst (λ (z : m.Frame). MovesOn (flat_view u) (comes (outside outcome)) (frames_with u (z ∷ stacked (trees u.code) old) (set_aside old)) s (comes (listed outcome (refilled s.is_task (first_of (set_aside old))))) (frames_with u (stacked (trees u.code) old) (rest_of (set_aside old))) s) (sym is)
+    (record { same = (calls_arrive (flat_view u) (frames_with u (stacked (trees u.code) old) (rest_of (set_aside old))) s).outer_call (first_of (set_aside old)) outcome; less = omega arith; low = λ one. omega arith })))

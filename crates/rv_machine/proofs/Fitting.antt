@@ -12,10 +12,11 @@ use Rattle.rv_flat.specs.FlatUnits.{flat_view}
 use Rattle.rv_flat.specs.Tables.{trees}
 use Rattle.rv_frames.specs.Frames as f
 use Rattle.rv_frames.specs.Frames.{Frame, Control, Now, comes, closes, declares, quits_of, fires, opening, closing, exiting, quitting, body_setting, inner_setting}
+use Rattle.rv_machine.proofs.Packs.{stacked_count}
 use Rattle.rv_machine.proofs.HeightsLeft.{called_high, called_within, operation_height, task_height}
 use Rattle.rv_machine.specs.Heights.{called_height, declarations_height, statements_height, handlers_height, any_height, highest, weight}
 use Rattle.rv_machine.specs.Machines.{Fits, IsFor, high}
-use Rattle.rv_machine.specs.Stacks.{body_or, frames_with, rest_of, waiting, set_aside, room, HasRoom, HasSpace, operand_frame, value_frame, values_frame, end_frame}
+use Rattle.rv_machine.specs.Stacks.{body_or, frames_with, rest_of, stacked, waiting, set_aside, room, HasRoom, HasSpace, operand_frame, value_frame, values_frame, end_frame}
 use Rattle.rv_machine.specs.declared.frame.OperandFrame.{OperandFrame}
 use Rattle.rv_machine.specs.declared.frame.OperandFrame.TheVariants as operand
 use Rattle.rv_machine.specs.declared.frame.ValueFrame.{ValueFrame}
@@ -106,14 +107,15 @@ kept_count u (frame.Exiting ∷ fs) kept = let h = kept_count u fs kept in omega
 -- the stack stands no higher than it grows
 pub roomy : (u : FlatUnit) (m : Machine) → Fits u m → HasRoom 4 m.stack
 roomy u m fits =
-    let count = frames_count u (waiting m.stack) (set_aside m.stack) in
-    let same = length-reverse m.stack.frames.items.items in
+    let count = frames_count u (stacked (trees u.code) m.stack) (set_aside m.stack) in
+    let each = stacked_count (trees u.code) m.stack in
+    let same = length-reverse m.stack.frames.packed.items.items in
     let l = fits.frames in
-    omega (arith, count, same, l)
+    omega (arith, count, each, same, l)
 
 pub spacious : (u : FlatUnit) (m : Machine) → Fits u m → HasSpace m.stack
 spacious u m fits =
-    let count = kept_count u (waiting m.stack) (set_aside m.stack) in
+    let count = kept_count u (stacked (trees u.code) m.stack) (set_aside m.stack) in
     let same = length-reverse m.stack.activations.items.items in
     let l = fits.activations in
     omega (arith, count, same, l)
@@ -124,7 +126,7 @@ fits_on u old new fits low kept = record {
   frames =
       let l = low 1 in
       let o = fits.frames in
-      let e : new.stack.frames.capacity ≡ old.stack.frames.capacity = ap (λ (p : ℕ × ℕ). p.0) kept in
+      let e : new.stack.frames.packed.capacity ≡ old.stack.frames.packed.capacity = ap (λ (p : ℕ × ℕ). p.0) kept in
       omega (arith, l, o, e);
   activations =
       let l = low 0 in
@@ -139,7 +141,7 @@ no_items items is = sym (length-reverse items) ∙ ap length is
 
 pub room_for : (u : FlatUnit) (stack : Stack) → IsFor u stack → HasRoom 4 stack
 room_for u stack is =
-    let none = no_items stack.frames.items.items is.empty in
+    let none = no_items stack.frames.packed.items.items is.empty in
     let l = is.frames in
     omega (arith, none, l)
 
@@ -148,7 +150,7 @@ fits_from u stack new is kept low = record {
   frames =
       let l = low 1 in
       let o = is.frames in
-      let e : new.stack.frames.capacity ≡ stack.frames.capacity = ap (λ (p : ℕ × ℕ). p.0) kept in
+      let e : new.stack.frames.packed.capacity ≡ stack.frames.packed.capacity = ap (λ (p : ℕ × ℕ). p.0) kept in
       omega (arith, l, o, e);
   activations =
       let l = low 0 in

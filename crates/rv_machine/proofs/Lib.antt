@@ -4,6 +4,7 @@ pub mod Rises
 pub mod Needing
 pub mod Composing
 pub mod AtOnceSteps
+pub mod Packs
 pub mod Steps
 pub mod ExpressionSteps
 pub mod StatementSteps

@@ -26,6 +26,7 @@ use Rattle.rv_machine.specs.declared.frame.EndFrame.TheVariants as ends
 use Rattle.rv_machine.specs.declared.frame.Frame as m
 use Rattle.rv_machine.specs.declared.frame.Frame.TheVariants as frame
 use Rattle.rv_machine.specs.declared.machine.Machine.{Machine}
+use Rattle.rv_machine.specs.declared.frames.Frames.{Frames}
 use Rattle.rv_machine.specs.declared.pile.Pile.{Pile}
 use Rattle.rv_machine.specs.declared.point.Point.{Point}
 use Rattle.rv_machine.specs.declared.point.Point.TheVariants as point
@@ -36,7 +37,9 @@ use Rattle.rv_machine.specs.Machines.{MovesTo, kind_taken, is_over}
 use Rattle.rv_machine.specs.Heights.{waiting_height}
 use Rattle.rv_machine.specs.Moves.{called_moves, level, level_below, waiting_moves}
 use Rattle.rv_machine.specs.Points.{control, control_in, MovesOn, Leads, LeadsIn, LeadsAcross}
-use Rattle.rv_machine.specs.Stacks.{operand_frame, value_frame, values_frame, end_frame, count_frame, first_of, rest_of, frames_with, waiting, set_aside, below}
+use Rattle.rv_machine.specs.Packing.{unpacked}
+use Rattle.rv_machine.proofs.Packs.{none_stacked}
+use Rattle.rv_machine.specs.Stacks.{operand_frame, value_frame, values_frame, end_frame, count_frame, first_of, rest_of, frames_with, stacked, waiting, set_aside, below}
 
 -- a move of these bodies
 at_bodies : (bodies : UnitBodies) (s : Setting) (from : Control) (before : List Frame) (t : Setting) (to : Control) (after : List Frame)
@@ -80,57 +83,57 @@ across s from before to after leads = record { same = λ bodies. leads.same bodi
 pub met_operand : (u : FlatUnit) (old : Stack) (new : Machine) (now : Now) (s : Setting) (g : m.Frame) (x : OperandFrame)
     → g ≡ frame.Operand x
     → LeadsAcross s (comes now) (operand_frame (trees u.code) x ∷ below u old) new.setting (control (trees u.code) new.point new.activation) (below u new.stack)
-    → MovesTo u (comes now) (frames_with u (g ∷ waiting old) (set_aside old)) s new
+    → MovesTo u (comes now) (frames_with u (g ∷ stacked (trees u.code) old) (set_aside old)) s new
 unfolding frames_with
 met_operand u old new now s g x is leads =
-    subst (λ (z : m.Frame). MovesTo u (comes now) (frames_with u (z ∷ waiting old) (set_aside old)) s new) (sym is) (at_bodies (flat_view u) _ _ _ _ _ _ leads)
+    subst (λ (z : m.Frame). MovesTo u (comes now) (frames_with u (z ∷ stacked (trees u.code) old) (set_aside old)) s new) (sym is) (at_bodies (flat_view u) _ _ _ _ _ _ leads)
 
 pub met_argument : (u : FlatUnit) (old : Stack) (new : Machine) (now : Now) (s : Setting) (g : m.Frame) (given : List ℤ) (es : ℕ)
     → g ≡ frame.Arguing given es
     → LeadsAcross s (comes now) (f.arguing given (as_expressions (tree_at (trees u.code) es)) ∷ below u old) new.setting (control (trees u.code) new.point new.activation) (below u new.stack)
-    → MovesTo u (comes now) (frames_with u (g ∷ waiting old) (set_aside old)) s new
+    → MovesTo u (comes now) (frames_with u (g ∷ stacked (trees u.code) old) (set_aside old)) s new
 unfolding frames_with
 met_argument u old new now s g given es is leads =
-    subst (λ (z : m.Frame). MovesTo u (comes now) (frames_with u (z ∷ waiting old) (set_aside old)) s new) (sym is) (at_bodies (flat_view u) _ _ _ _ _ _ leads)
+    subst (λ (z : m.Frame). MovesTo u (comes now) (frames_with u (z ∷ stacked (trees u.code) old) (set_aside old)) s new) (sym is) (at_bodies (flat_view u) _ _ _ _ _ _ leads)
 
 pub met_value : (u : FlatUnit) (old : Stack) (new : Machine) (now : Now) (s : Setting) (g : m.Frame) (x : ValueFrame)
     → g ≡ frame.Value x
     → LeadsAcross s (comes now) (value_frame (trees u.code) x ∷ below u old) new.setting (control (trees u.code) new.point new.activation) (below u new.stack)
-    → MovesTo u (comes now) (frames_with u (g ∷ waiting old) (set_aside old)) s new
+    → MovesTo u (comes now) (frames_with u (g ∷ stacked (trees u.code) old) (set_aside old)) s new
 unfolding frames_with
 met_value u old new now s g x is leads =
-    subst (λ (z : m.Frame). MovesTo u (comes now) (frames_with u (z ∷ waiting old) (set_aside old)) s new) (sym is) (at_bodies (flat_view u) _ _ _ _ _ _ leads)
+    subst (λ (z : m.Frame). MovesTo u (comes now) (frames_with u (z ∷ stacked (trees u.code) old) (set_aside old)) s new) (sym is) (at_bodies (flat_view u) _ _ _ _ _ _ leads)
 
 pub met_values : (u : FlatUnit) (old : Stack) (new : Machine) (now : Now) (s : Setting) (g : m.Frame) (x : ValuesFrame)
     → g ≡ frame.Values x
     → LeadsAcross s (comes now) (values_frame (trees u.code) x ∷ below u old) new.setting (control (trees u.code) new.point new.activation) (below u new.stack)
-    → MovesTo u (comes now) (frames_with u (g ∷ waiting old) (set_aside old)) s new
+    → MovesTo u (comes now) (frames_with u (g ∷ stacked (trees u.code) old) (set_aside old)) s new
 unfolding frames_with
 met_values u old new now s g x is leads =
-    subst (λ (z : m.Frame). MovesTo u (comes now) (frames_with u (z ∷ waiting old) (set_aside old)) s new) (sym is) (at_bodies (flat_view u) _ _ _ _ _ _ leads)
+    subst (λ (z : m.Frame). MovesTo u (comes now) (frames_with u (z ∷ stacked (trees u.code) old) (set_aside old)) s new) (sym is) (at_bodies (flat_view u) _ _ _ _ _ _ leads)
 
 pub met_end : (u : FlatUnit) (old : Stack) (new : Machine) (now : Now) (s : Setting) (g : m.Frame) (x : EndFrame)
     → g ≡ frame.End x
     → MovesTo u (comes now) (end_frame u x ∷ below u old) s new
-    → MovesTo u (comes now) (frames_with u (g ∷ waiting old) (set_aside old)) s new
+    → MovesTo u (comes now) (frames_with u (g ∷ stacked (trees u.code) old) (set_aside old)) s new
 unfolding frames_with
-met_end u old new now s g x is moves = subst (λ (z : m.Frame). MovesTo u (comes now) (frames_with u (z ∷ waiting old) (set_aside old)) s new) (sym is) moves
+met_end u old new now s g x is moves = subst (λ (z : m.Frame). MovesTo u (comes now) (frames_with u (z ∷ stacked (trees u.code) old) (set_aside old)) s new) (sym is) moves
 
 pub met_count : (u : FlatUnit) (old : Stack) (new : Machine) (now : Now) (s : Setting) (g : m.Frame) (count : Count) (ss : ℕ)
     → g ≡ frame.Counting count ss
     → LeadsAcross s (comes now) (count_frame (trees u.code) count ss ∷ below u old) new.setting (control (trees u.code) new.point new.activation) (below u new.stack)
-    → MovesTo u (comes now) (frames_with u (g ∷ waiting old) (set_aside old)) s new
+    → MovesTo u (comes now) (frames_with u (g ∷ stacked (trees u.code) old) (set_aside old)) s new
 unfolding frames_with
 met_count u old new now s g count ss is leads =
-    subst (λ (z : m.Frame). MovesTo u (comes now) (frames_with u (z ∷ waiting old) (set_aside old)) s new) (sym is) (at_bodies (flat_view u) _ _ _ _ _ _ leads)
+    subst (λ (z : m.Frame). MovesTo u (comes now) (frames_with u (z ∷ stacked (trees u.code) old) (set_aside old)) s new) (sym is) (at_bodies (flat_view u) _ _ _ _ _ _ leads)
 
 pub met_handling : (u : FlatUnit) (old : Stack) (new : Machine) (now : Now) (s : Setting) (g : m.Frame) (hs : ℕ)
     → g ≡ frame.Handling hs
     → LeadsAcross s (comes now) (f.handling (as_handlers (tree_at (trees u.code) hs)) ∷ below u old) new.setting (control (trees u.code) new.point new.activation) (below u new.stack)
-    → MovesTo u (comes now) (frames_with u (g ∷ waiting old) (set_aside old)) s new
+    → MovesTo u (comes now) (frames_with u (g ∷ stacked (trees u.code) old) (set_aside old)) s new
 unfolding frames_with
 met_handling u old new now s g hs is leads =
-    subst (λ (z : m.Frame). MovesTo u (comes now) (frames_with u (z ∷ waiting old) (set_aside old)) s new) (sym is) (at_bodies (flat_view u) _ _ _ _ _ _ leads)
+    subst (λ (z : m.Frame). MovesTo u (comes now) (frames_with u (z ∷ stacked (trees u.code) old) (set_aside old)) s new) (sym is) (at_bodies (flat_view u) _ _ _ _ _ _ leads)
 
 -- what passes a frame
 passes : (bodies : UnitBodies) (x : Frame) (fs : List Frame) (s : Setting) (now : Now)
@@ -181,49 +184,49 @@ pass_end bodies u (ends.Quitting actor) fs s now is = passes bodies _ fs s now i
 
 pub pass_restoring : (u : FlatUnit) (old : Stack) (now : Now) (s : Setting) (g : m.Frame) (exception : Option Exception)
     → g ≡ frame.Restoring exception
-    → MovesOn (flat_view u) (comes now) (frames_with u (g ∷ waiting old) (set_aside old)) s (comes now) (below u old) (record s { handling = exception })
+    → MovesOn (flat_view u) (comes now) (frames_with u (g ∷ stacked (trees u.code) old) (set_aside old)) s (comes now) (below u old) (record s { handling = exception })
 unfolding frames_with
 pass_restoring u old now s g exception is =
-    subst (λ (z : m.Frame). MovesOn (flat_view u) (comes now) (frames_with u (z ∷ waiting old) (set_aside old)) s (comes now) (below u old) (record s { handling = exception })) (sym is)
+    subst (λ (z : m.Frame). MovesOn (flat_view u) (comes now) (frames_with u (z ∷ stacked (trees u.code) old) (set_aside old)) s (comes now) (below u old) (record s { handling = exception })) (sym is)
     (record { same = (statements_rest (flat_view u) (below u old) s).restored exception now; less = omega arith; low = λ one. omega arith })
 
 pub pass_completing : (u : FlatUnit) (old : Stack) (now : Now) (s t : Setting) (g : m.Frame) (is_function : Bool)
     → g ≡ frame.Completing is_function t → is_kind (kind_taken g) (comes_as now) ≡ false
-    → MovesOn (flat_view u) (comes now) (frames_with u (g ∷ waiting old) (set_aside old)) s (comes now) (below u old) t
+    → MovesOn (flat_view u) (comes now) (frames_with u (g ∷ stacked (trees u.code) old) (set_aside old)) s (comes now) (below u old) t
 unfolding frames_with
 pass_completing u old now s t g is_function is other =
-    subst (λ (z : m.Frame). MovesOn (flat_view u) (comes now) (frames_with u (z ∷ waiting old) (set_aside old)) s (comes now) (below u old) t) (sym is)
+    subst (λ (z : m.Frame). MovesOn (flat_view u) (comes now) (frames_with u (z ∷ stacked (trees u.code) old) (set_aside old)) s (comes now) (below u old) t) (sym is)
     (passes (flat_view u) (f.completing is_function t) (below u old) s now (subst (λ (z : m.Frame). is_kind (kind_taken z) (comes_as now) ≡ false) is other))
 
 -- the activation that waits is taken up with its frame
 pub taken_up : (u : FlatUnit) (old new : Stack)
-    → new.frames ≡ old.frames → set_aside new ≡ rest_of (set_aside old) → below u new ≡ frames_with u (waiting old) (rest_of (set_aside old))
+    → new.frames ≡ old.frames → set_aside new ≡ rest_of (set_aside old) → below u new ≡ frames_with u (stacked (trees u.code) old) (rest_of (set_aside old))
 taken_up u old new same rest =
-    ap (λ (kept : List Activation). frames_with u (waiting new) kept) rest ∙ ap (λ (p : Pile m.Frame). frames_with u (reverse p.items.items) (rest_of (set_aside old))) same
+    ap (λ (kept : List Activation). frames_with u (stacked (trees u.code) new) kept) rest ∙ ap (λ (p : Frames). frames_with u (unpacked (trees u.code) (reverse p.packed.items.items) (reverse p.asides.items.items)) (rest_of (set_aside old))) same
 
 pub pass_resuming : (u : FlatUnit) (old new : Stack) (now : Now) (s t : Setting) (g : m.Frame)
     → g ≡ frame.Resuming t → new.frames ≡ old.frames → set_aside new ≡ rest_of (set_aside old) → is_kind (kind_taken g) (comes_as now) ≡ false
-    → MovesOn (flat_view u) (comes now) (frames_with u (g ∷ waiting old) (set_aside old)) s (comes now) (below u new) t
+    → MovesOn (flat_view u) (comes now) (frames_with u (g ∷ stacked (trees u.code) old) (set_aside old)) s (comes now) (below u new) t
 unfolding frames_with
 pass_resuming u old new now s t g is same rest other =
-    subst (λ (fs : List Frame). MovesOn (flat_view u) (comes now) (frames_with u (g ∷ waiting old) (set_aside old)) s (comes now) fs t) (sym (taken_up u old new same rest))
-    (subst (λ (z : m.Frame). MovesOn (flat_view u) (comes now) (frames_with u (z ∷ waiting old) (set_aside old)) s (comes now) (frames_with u (waiting old) (rest_of (set_aside old))) t) (sym is)
-    (passes (flat_view u) (f.resuming t (first_of (set_aside old))) (frames_with u (waiting old) (rest_of (set_aside old))) s now (subst (λ (z : m.Frame). is_kind (kind_taken z) (comes_as now) ≡ false) is other)))
+    subst (λ (fs : List Frame). MovesOn (flat_view u) (comes now) (frames_with u (g ∷ stacked (trees u.code) old) (set_aside old)) s (comes now) fs t) (sym (taken_up u old new same rest))
+    (subst (λ (z : m.Frame). MovesOn (flat_view u) (comes now) (frames_with u (z ∷ stacked (trees u.code) old) (set_aside old)) s (comes now) (frames_with u (stacked (trees u.code) old) (rest_of (set_aside old))) t) (sym is)
+    (passes (flat_view u) (f.resuming t (first_of (set_aside old))) (frames_with u (stacked (trees u.code) old) (rest_of (set_aside old))) s now (subst (λ (z : m.Frame). is_kind (kind_taken z) (comes_as now) ≡ false) is other)))
 
 pub pass_answering : (u : FlatUnit) (old new : Stack) (now : Now) (s : Setting) (g : m.Frame)
     → g ≡ frame.Answering → new.frames ≡ old.frames → set_aside new ≡ rest_of (set_aside old) → is_kind (kind_taken g) (comes_as now) ≡ false
-    → MovesOn (flat_view u) (comes now) (frames_with u (g ∷ waiting old) (set_aside old)) s (comes now) (below u new) s
+    → MovesOn (flat_view u) (comes now) (frames_with u (g ∷ stacked (trees u.code) old) (set_aside old)) s (comes now) (below u new) s
 unfolding frames_with
 pass_answering u old new now s g is same rest other =
-    subst (λ (fs : List Frame). MovesOn (flat_view u) (comes now) (frames_with u (g ∷ waiting old) (set_aside old)) s (comes now) fs s) (sym (taken_up u old new same rest))
-    (subst (λ (z : m.Frame). MovesOn (flat_view u) (comes now) (frames_with u (z ∷ waiting old) (set_aside old)) s (comes now) (frames_with u (waiting old) (rest_of (set_aside old))) s) (sym is)
-    (passes (flat_view u) (f.answering (first_of (set_aside old))) (frames_with u (waiting old) (rest_of (set_aside old))) s now (subst (λ (z : m.Frame). is_kind (kind_taken z) (comes_as now) ≡ false) is other)))
+    subst (λ (fs : List Frame). MovesOn (flat_view u) (comes now) (frames_with u (g ∷ stacked (trees u.code) old) (set_aside old)) s (comes now) fs s) (sym (taken_up u old new same rest))
+    (subst (λ (z : m.Frame). MovesOn (flat_view u) (comes now) (frames_with u (z ∷ stacked (trees u.code) old) (set_aside old)) s (comes now) (frames_with u (stacked (trees u.code) old) (rest_of (set_aside old))) s) (sym is)
+    (passes (flat_view u) (f.answering (first_of (set_aside old))) (frames_with u (stacked (trees u.code) old) (rest_of (set_aside old))) s now (subst (λ (z : m.Frame). is_kind (kind_taken z) (comes_as now) ≡ false) is other)))
 
 pub pass_plain : (u : FlatUnit) (old : Stack) (now : Now) (s : Setting) (g : m.Frame)
     → ((x : Option Exception) → g ≡ frame.Restoring x → ⊥) → ((t : Setting) → g ≡ frame.Resuming t → ⊥)
     → (g ≡ frame.Answering → ⊥) → ((is_function : Bool) (t : Setting) → g ≡ frame.Completing is_function t → ⊥)
     → is_kind (kind_taken g) (comes_as now) ≡ false
-    → MovesOn (flat_view u) (comes now) (frames_with u (g ∷ waiting old) (set_aside old)) s (comes now) (below u old) s
+    → MovesOn (flat_view u) (comes now) (frames_with u (g ∷ stacked (trees u.code) old) (set_aside old)) s (comes now) (below u old) s
 unfolding frames_with
 pass_plain u old now s (frame.Operand x) a b d e is = pass_operand (flat_view u) (trees u.code) x (below u old) s now is
 pass_plain u old now s (frame.Value x) a b d e is = pass_value (flat_view u) (trees u.code) x (below u old) s now is
@@ -284,15 +287,15 @@ takes_no_end frame.Exiting a b d = refl
 
 -- the frame on top was taken off
 pub popped : (u : FlatUnit) (old new : Stack) (g : m.Frame) (from : Control) (s : Setting) (machine : Machine)
-    → below u old ≡ frames_with u (g ∷ waiting new) (set_aside new)
-    → MovesTo u from (frames_with u (g ∷ waiting new) (set_aside new)) s machine → MovesTo u from (below u old) s machine
+    → below u old ≡ frames_with u (g ∷ stacked (trees u.code) new) (set_aside new)
+    → MovesTo u from (frames_with u (g ∷ stacked (trees u.code) new) (set_aside new)) s machine → MovesTo u from (below u old) s machine
 popped u old new g from s machine is moves = subst (λ (fs : List Frame). MovesTo u from fs s machine) (sym is) moves
 
 -- a frame is taken off, or an activation that is left over is one of a call that waits
 pub off : (u : FlatUnit) (old new : Stack) (g : m.Frame)
-    → waiting old ≡ g ∷ waiting new → new.activations ≡ old.activations → below u old ≡ frames_with u (g ∷ waiting new) (set_aside new)
+    → stacked (trees u.code) old ≡ g ∷ stacked (trees u.code) new → new.activations ≡ old.activations → below u old ≡ frames_with u (g ∷ stacked (trees u.code) new) (set_aside new)
 off u old new g is same =
-    ap (λ (fs : List m.Frame). frames_with u fs (set_aside old)) is ∙ ap (λ (kept : Pile Activation). frames_with u (g ∷ waiting new) (reverse kept.items.items)) (sym same)
+    ap (λ (fs : List m.Frame). frames_with u fs (set_aside old)) is ∙ ap (λ (kept : Pile Activation). frames_with u (g ∷ stacked (trees u.code) new) (reverse kept.items.items)) (sym same)
 
 left_over : (u : FlatUnit) (kept : List Activation) → (kept ≡ [] → ⊥) → frames_with u [] kept ≡ frames_with u (frame.Answering ∷ []) kept
 unfolding frames_with
@@ -301,12 +304,12 @@ left_over u (a ∷ kept) some = refl
 
 pub off_alone : (u : FlatUnit) (old new : Stack)
     → waiting old ≡ [] → waiting new ≡ [] → new.activations ≡ old.activations → (set_aside old ≡ [] → ⊥)
-    → below u old ≡ frames_with u (frame.Answering ∷ waiting new) (set_aside new)
+    → below u old ≡ frames_with u (frame.Answering ∷ stacked (trees u.code) new) (set_aside new)
 off_alone u old new none still same some =
-    ap (λ (fs : List m.Frame). frames_with u fs (set_aside old)) none
+    ap (λ (fs : List m.Frame). frames_with u fs (set_aside old)) (none_stacked (trees u.code) old none)
     ∙ (left_over u (set_aside old) some
-    ∙ (ap (λ (fs : List m.Frame). frames_with u (frame.Answering ∷ fs) (set_aside old)) (sym still)
-    ∙ ap (λ (kept : Pile Activation). frames_with u (frame.Answering ∷ waiting new) (reverse kept.items.items)) (sym same)))
+    ∙ (ap (λ (fs : List m.Frame). frames_with u (frame.Answering ∷ fs) (set_aside old)) (sym (none_stacked (trees u.code) new still))
+    ∙ ap (λ (kept : Pile Activation). frames_with u (frame.Answering ∷ stacked (trees u.code) new) (reverse kept.items.items)) (sym same)))
 
 pub takes_no_values : (g : m.Frame) → ((x : ValuesFrame) → g ≡ frame.Values x → ⊥) → is_kind (kind_taken g) all_values ≡ false
 takes_no_values (frame.Operand x) a = refl
@@ -355,11 +358,11 @@ takes_no_over other = refl
 -- how a run ends passes a frame
 pub over_passed : (u : FlatUnit) (a : Activation) (old : Stack) (s : Setting) (g : m.Frame) (p : Point) (new : Machine)
     → new.point ≡ p → new.activation ≡ a → is_over p ≡ true
-    → ((now : Now) → is_kind (kind_taken g) (comes_as now) ≡ false → MovesOn (flat_view u) (comes now) (frames_with u (g ∷ waiting old) (set_aside old)) s (comes now) (below u new.stack) new.setting)
-    → MovesTo u (control (trees u.code) p a) (frames_with u (g ∷ waiting old) (set_aside old)) s new
+    → ((now : Now) → is_kind (kind_taken g) (comes_as now) ≡ false → MovesOn (flat_view u) (comes now) (frames_with u (g ∷ stacked (trees u.code) old) (set_aside old)) s (comes now) (below u new.stack) new.setting)
+    → MovesTo u (control (trees u.code) p a) (frames_with u (g ∷ stacked (trees u.code) old) (set_aside old)) s new
 over_passed u a old s g (point.Exited e) new at same is pass =
-    subst (λ (x : Point). MovesOn (flat_view u) (comes (f.exited e a.components)) (frames_with u (g ∷ waiting old) (set_aside old)) s (control (trees u.code) x new.activation) (below u new.stack) new.setting) (sym at)
-    (subst (λ (b : Activation). MovesOn (flat_view u) (comes (f.exited e a.components)) (frames_with u (g ∷ waiting old) (set_aside old)) s (comes (f.exited e b.components)) (below u new.stack) new.setting) (sym same) (pass (f.exited e a.components) (takes_no_over g)))
+    subst (λ (x : Point). MovesOn (flat_view u) (comes (f.exited e a.components)) (frames_with u (g ∷ stacked (trees u.code) old) (set_aside old)) s (control (trees u.code) x new.activation) (below u new.stack) new.setting) (sym at)
+    (subst (λ (b : Activation). MovesOn (flat_view u) (comes (f.exited e a.components)) (frames_with u (g ∷ stacked (trees u.code) old) (set_aside old)) s (comes (f.exited e b.components)) (below u new.stack) new.setting) (sym same) (pass (f.exited e a.components) (takes_no_over g)))
 over_passed u a old s g (point.Quitted e) new at same is pass =
-    subst (λ (x : Point). MovesOn (flat_view u) (comes (f.quitted e)) (frames_with u (g ∷ waiting old) (set_aside old)) s (control (trees u.code) x new.activation) (below u new.stack) new.setting) (sym at) (pass (f.quitted e) (takes_no_over g))
+    subst (λ (x : Point). MovesOn (flat_view u) (comes (f.quitted e)) (frames_with u (g ∷ stacked (trees u.code) old) (set_aside old)) s (control (trees u.code) x new.activation) (below u new.stack) new.setting) (sym at) (pass (f.quitted e) (takes_no_over g))
 over_passed u a old s g other new at same is pass = absurd (cc is)

@@ -12,15 +12,17 @@ use Rattle.rv_exec.specs.Bodies.{task_of, operation_of}
 use Rattle.rv_exec.specs.Tasks.{task_run, task_meaning, task_setting, line_run}
 use Rattle.rv_flat.specs.declared.unit.FlatUnit.{FlatUnit}
 use Rattle.rv_flat.specs.FlatUnits.{flat_view}
+use Rattle.rv_flat.specs.Tables.{trees}
 use Rattle.rv_frames.specs.Frames.{Frame, declares, quits_of, fires, out, comes, closes, opening, closing, exiting, quitting, quit, exit, body_setting, inner_setting, denoted, meant}
 use Rattle.rv_frames.proofs.Begins.{runs_begin}
 use Rattle.rv_frames.proofs.AtOnce.{calls_at_once}
 use Rattle.rv_machine.specs.declared.stack.Stack.{Stack}
+use Rattle.rv_machine.proofs.Packs.{none_stacked}
 use Rattle.rv_machine.specs.Stacks.{body_or, frames_with, waiting, set_aside, below}
 
 pub nothing_waits : (u : FlatUnit) (stack : Stack) → waiting stack ≡ [] → set_aside stack ≡ [] → below u stack ≡ []
 unfolding frames_with
-nothing_waits u stack is alone = ap (λ fs. frames_with u fs (set_aside stack)) is ∙ ap (λ (kept : List Activation). frames_with u [] kept) alone
+nothing_waits u stack is alone = ap (λ fs. frames_with u fs (set_aside stack)) (none_stacked (trees u.code) stack is) ∙ ap (λ (kept : List Activation). frames_with u [] kept) alone
 
 pub task_starts : (u : FlatUnit) (actor requests : ℕ) (body : Body) (a : Activation) (before between after : List Frame)
     → task_of (flat_view u) actor ≡ Some body → a ≡ opened (replicate 132 (pos 0)) [] 100000 requests

@@ -4,6 +4,7 @@ use Rattle.std.specs.Prelude.{reverse}
 use Rattle.rv_shape.specs.declared.kind.Range.{Range}
 use Rattle.rv_event.specs.declared.entry.Exception.{Exception}
 use Rattle.rv_code.specs.declared.expression.Operator.{Operator}
+use Rattle.rv_code.specs.declared.expression.Callee.{Callee}
 use Rattle.rv_code.specs.Expressions.{Links}
 use Rattle.rv_code.specs.Statements.{Statements, Alternatives}
 use Rattle.rv_code.specs.Bodies.{UnitBodies}
@@ -13,11 +14,13 @@ use Rattle.rv_exec.specs.declared.end.Cause.{Cause}
 use Rattle.rv_flat.specs.declared.unit.FlatUnit.{FlatUnit}
 use Rattle.rv_flat.specs.Tables.{trees}
 use Rattle.rv_flat.specs.Trees.{Tree, tree_at, as_expressions, as_handlers}
-use Rattle.rv_frames.specs.Frames.{Frame, Control, arguing, operating, raising, handling, restoring, exiting, comes, selects_of, valued, meant}
+use Rattle.rv_frames.specs.Frames.{Frame, Control, arguing, bounding, operating, passing, raising, handling, restoring, exiting, comes, selects_of, valued, meant}
 use Rattle.rv_machine.specs.declared.frame.Count.{Count}
 use Rattle.rv_machine.specs.declared.frame.OperandFrame.{OperandFrame}
+use Rattle.rv_machine.specs.declared.frame.OperandFrame.TheVariants as operand
 use Rattle.rv_machine.specs.declared.frame.ValueFrame.{ValueFrame}
 use Rattle.rv_machine.specs.declared.frame.ValuesFrame.{ValuesFrame}
+use Rattle.rv_machine.specs.declared.frame.ValuesFrame.TheVariants as values_frames
 use Rattle.rv_machine.specs.declared.frame.EndFrame.{EndFrame}
 use Rattle.rv_machine.specs.declared.frame.Frame.TheVariants as frame
 use Rattle.rv_machine.specs.declared.pile.Pile.{Pile}
@@ -25,7 +28,7 @@ use Rattle.rv_machine.specs.declared.stack.Stack.{Stack}
 use Rattle.rv_machine.specs.Heights.{highest}
 use Rattle.rv_machine.specs.Moves.{moves_left}
 use Rattle.rv_machine.specs.Points.{Leads, LeadsIn}
-use Rattle.rv_machine.specs.Stacks.{operand_frame, value_frame, values_frame, end_frame, count_frame, frames_with, waiting, set_aside, below}
+use Rattle.rv_machine.specs.Stacks.{operand_frame, value_frame, values_frame, end_frame, count_frame, frames_with, stacked, set_aside, below}
 
 -- a law, where the point is known and the frames behind the move are
 pub by_law :
@@ -45,67 +48,81 @@ by_law from known to before after pushed is put law less low = record {
 
 -- what a frame that is put on top of the others stands for
 pub operand_on : (u : FlatUnit) (old new : Stack) (x : OperandFrame)
-    → waiting new ≡ frame.Operand x ∷ waiting old → new.activations ≡ old.activations
+    → ((ts : List Tree) → stacked ts new ≡ frame.Operand x ∷ stacked ts old) → new.activations ≡ old.activations
     → below u new ≡ operand_frame (trees u.code) x ∷ below u old
 unfolding frames_with
 operand_on u old new x on same =
-    ap (λ fs. frames_with u fs (set_aside new)) on ∙ ap (λ (kept : Pile Activation). operand_frame (trees u.code) x ∷ frames_with u (waiting old) (reverse kept.items.items)) same
+    ap (λ fs. frames_with u fs (set_aside new)) (on (trees u.code)) ∙ ap (λ (kept : Pile Activation). operand_frame (trees u.code) x ∷ frames_with u (stacked (trees u.code) old) (reverse kept.items.items)) same
+
+pub bounding_on : (u : FlatUnit) (old new : Stack) (range : Range)
+    → stacked (trees u.code) new ≡ frame.Operand (operand.Bounding range) ∷ stacked (trees u.code) old → new.activations ≡ old.activations
+    → below u new ≡ bounding range ∷ below u old
+unfolding frames_with
+bounding_on u old new range on same =
+    ap (λ fs. frames_with u fs (set_aside new)) on ∙ ap (λ (kept : Pile Activation). bounding range ∷ frames_with u (stacked (trees u.code) old) (reverse kept.items.items)) same
+
+pub passing_on : (u : FlatUnit) (old new : Stack) (callee : Callee)
+    → stacked (trees u.code) new ≡ frame.Values (values_frames.Passing callee) ∷ stacked (trees u.code) old → new.activations ≡ old.activations
+    → below u new ≡ passing callee ∷ below u old
+unfolding frames_with
+passing_on u old new callee on same =
+    ap (λ fs. frames_with u fs (set_aside new)) on ∙ ap (λ (kept : Pile Activation). passing callee ∷ frames_with u (stacked (trees u.code) old) (reverse kept.items.items)) same
 
 pub value_on : (u : FlatUnit) (old new : Stack) (x : ValueFrame)
-    → waiting new ≡ frame.Value x ∷ waiting old → new.activations ≡ old.activations
+    → ((ts : List Tree) → stacked ts new ≡ frame.Value x ∷ stacked ts old) → new.activations ≡ old.activations
     → below u new ≡ value_frame (trees u.code) x ∷ below u old
 unfolding frames_with
 value_on u old new x on same =
-    ap (λ fs. frames_with u fs (set_aside new)) on ∙ ap (λ (kept : Pile Activation). value_frame (trees u.code) x ∷ frames_with u (waiting old) (reverse kept.items.items)) same
+    ap (λ fs. frames_with u fs (set_aside new)) (on (trees u.code)) ∙ ap (λ (kept : Pile Activation). value_frame (trees u.code) x ∷ frames_with u (stacked (trees u.code) old) (reverse kept.items.items)) same
 
 pub values_on : (u : FlatUnit) (old new : Stack) (x : ValuesFrame)
-    → waiting new ≡ frame.Values x ∷ waiting old → new.activations ≡ old.activations
+    → ((ts : List Tree) → stacked ts new ≡ frame.Values x ∷ stacked ts old) → new.activations ≡ old.activations
     → below u new ≡ values_frame (trees u.code) x ∷ below u old
 unfolding frames_with
 values_on u old new x on same =
-    ap (λ fs. frames_with u fs (set_aside new)) on ∙ ap (λ (kept : Pile Activation). values_frame (trees u.code) x ∷ frames_with u (waiting old) (reverse kept.items.items)) same
+    ap (λ fs. frames_with u fs (set_aside new)) (on (trees u.code)) ∙ ap (λ (kept : Pile Activation). values_frame (trees u.code) x ∷ frames_with u (stacked (trees u.code) old) (reverse kept.items.items)) same
 
 pub end_on : (u : FlatUnit) (old new : Stack) (x : EndFrame)
-    → waiting new ≡ frame.End x ∷ waiting old → new.activations ≡ old.activations
+    → ((ts : List Tree) → stacked ts new ≡ frame.End x ∷ stacked ts old) → new.activations ≡ old.activations
     → below u new ≡ end_frame u x ∷ below u old
 unfolding frames_with
 end_on u old new x on same =
-    ap (λ fs. frames_with u fs (set_aside new)) on ∙ ap (λ (kept : Pile Activation). end_frame u x ∷ frames_with u (waiting old) (reverse kept.items.items)) same
+    ap (λ fs. frames_with u fs (set_aside new)) (on (trees u.code)) ∙ ap (λ (kept : Pile Activation). end_frame u x ∷ frames_with u (stacked (trees u.code) old) (reverse kept.items.items)) same
 
 pub argument_on : (u : FlatUnit) (old new : Stack) (given : List ℤ) (es : ℕ)
-    → waiting new ≡ frame.Arguing given es ∷ waiting old → new.activations ≡ old.activations
+    → ((ts : List Tree) → stacked ts new ≡ frame.Arguing given es ∷ stacked ts old) → new.activations ≡ old.activations
     → below u new ≡ arguing given (as_expressions (tree_at (trees u.code) es)) ∷ below u old
 unfolding frames_with
 argument_on u old new given es on same =
-    ap (λ fs. frames_with u fs (set_aside new)) on ∙ ap (λ (kept : Pile Activation). arguing given (as_expressions (tree_at (trees u.code) es)) ∷ frames_with u (waiting old) (reverse kept.items.items)) same
+    ap (λ fs. frames_with u fs (set_aside new)) (on (trees u.code)) ∙ ap (λ (kept : Pile Activation). arguing given (as_expressions (tree_at (trees u.code) es)) ∷ frames_with u (stacked (trees u.code) old) (reverse kept.items.items)) same
 
 pub count_on : (u : FlatUnit) (old new : Stack) (count : Count) (ss : ℕ)
-    → waiting new ≡ frame.Counting count ss ∷ waiting old → new.activations ≡ old.activations
+    → ((ts : List Tree) → stacked ts new ≡ frame.Counting count ss ∷ stacked ts old) → new.activations ≡ old.activations
     → below u new ≡ count_frame (trees u.code) count ss ∷ below u old
 unfolding frames_with
 count_on u old new count ss on same =
-    ap (λ fs. frames_with u fs (set_aside new)) on ∙ ap (λ (kept : Pile Activation). count_frame (trees u.code) count ss ∷ frames_with u (waiting old) (reverse kept.items.items)) same
+    ap (λ fs. frames_with u fs (set_aside new)) (on (trees u.code)) ∙ ap (λ (kept : Pile Activation). count_frame (trees u.code) count ss ∷ frames_with u (stacked (trees u.code) old) (reverse kept.items.items)) same
 
 pub handling_on : (u : FlatUnit) (old new : Stack) (hs : ℕ)
-    → waiting new ≡ frame.Handling hs ∷ waiting old → new.activations ≡ old.activations
+    → ((ts : List Tree) → stacked ts new ≡ frame.Handling hs ∷ stacked ts old) → new.activations ≡ old.activations
     → below u new ≡ handling (as_handlers (tree_at (trees u.code) hs)) ∷ below u old
 unfolding frames_with
 handling_on u old new hs on same =
-    ap (λ fs. frames_with u fs (set_aside new)) on ∙ ap (λ (kept : Pile Activation). handling (as_handlers (tree_at (trees u.code) hs)) ∷ frames_with u (waiting old) (reverse kept.items.items)) same
+    ap (λ fs. frames_with u fs (set_aside new)) (on (trees u.code)) ∙ ap (λ (kept : Pile Activation). handling (as_handlers (tree_at (trees u.code) hs)) ∷ frames_with u (stacked (trees u.code) old) (reverse kept.items.items)) same
 
 pub restoring_on : (u : FlatUnit) (old new : Stack) (exception : Option Exception)
-    → waiting new ≡ frame.Restoring exception ∷ waiting old → new.activations ≡ old.activations
+    → ((ts : List Tree) → stacked ts new ≡ frame.Restoring exception ∷ stacked ts old) → new.activations ≡ old.activations
     → below u new ≡ restoring exception ∷ below u old
 unfolding frames_with
 restoring_on u old new exception on same =
-    ap (λ fs. frames_with u fs (set_aside new)) on ∙ ap (λ (kept : Pile Activation). restoring exception ∷ frames_with u (waiting old) (reverse kept.items.items)) same
+    ap (λ fs. frames_with u fs (set_aside new)) (on (trees u.code)) ∙ ap (λ (kept : Pile Activation). restoring exception ∷ frames_with u (stacked (trees u.code) old) (reverse kept.items.items)) same
 
 pub exiting_on : (u : FlatUnit) (old new : Stack)
-    → waiting new ≡ frame.Exiting ∷ waiting old → new.activations ≡ old.activations
+    → ((ts : List Tree) → stacked ts new ≡ frame.Exiting ∷ stacked ts old) → new.activations ≡ old.activations
     → below u new ≡ exiting ∷ below u old
 unfolding frames_with
 exiting_on u old new on same =
-    ap (λ fs. frames_with u fs (set_aside new)) on ∙ ap (λ (kept : Pile Activation). exiting ∷ frames_with u (waiting old) (reverse kept.items.items)) same
+    ap (λ fs. frames_with u fs (set_aside new)) (on (trees u.code)) ∙ ap (λ (kept : Pile Activation). exiting ∷ frames_with u (stacked (trees u.code) old) (reverse kept.items.items)) same
 
 -- the same in one setting
 pub by_law_in :

@@ -1,4 +1,5 @@
 pub mod Nodes
+pub mod Packing
 pub mod Stacks
 pub mod Points
 pub mod Machines

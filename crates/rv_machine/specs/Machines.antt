@@ -45,14 +45,14 @@ high one u m = highest one (flat_view u) (control (trees u.code) m.point m.activ
 
 -- what its stack still grows to fits in the memory that it has
 pub record Fits (u : FlatUnit) (m : Machine) : Type 0 where
-  pub frames : high 1 u m + 4 ≤ m.stack.frames.capacity
+  pub frames : high 1 u m + 4 ≤ m.stack.frames.packed.capacity
   pub activations : high 0 u m < m.stack.activations.capacity
 
 -- an empty stack has the memory that any run of these bodies takes
 pub record IsFor (u : FlatUnit) (stack : Stack) : Type 0 where
   pub empty : waiting stack ≡ []
   pub alone : set_aside stack ≡ []
-  pub frames : any_height 1 (flat_view u) + 4 ≤ stack.frames.capacity
+  pub frames : any_height 1 (flat_view u) + 4 ≤ stack.frames.packed.capacity
   pub activations : any_height 0 (flat_view u) < stack.activations.capacity
 
 -- it stands where a run has moved to from a point, with these frames and in this setting

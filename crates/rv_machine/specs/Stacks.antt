@@ -22,7 +22,9 @@ use Rattle.rv_machine.specs.declared.frame.EndFrame.TheVariants as ends
 use Rattle.rv_machine.specs.declared.frame.Count.{Count}
 use Rattle.rv_machine.specs.declared.frame.Frame as m
 use Rattle.rv_machine.specs.declared.frame.Frame.TheVariants as frame
+use Rattle.rv_machine.specs.declared.packed.Packed.{Packed}
 use Rattle.rv_machine.specs.declared.stack.Stack.{Stack}
+use Rattle.rv_machine.specs.Packing.{unpacked}
 
 -- a frame of an expression, and one of a statement, whose parts stand in a table
 abbrev pub operand_frame : List Tree → OperandFrame → Frame
@@ -95,24 +97,27 @@ frames_with u (frame.Performing held given ∷ fs) kept = f.performing held give
 frames_with u (frame.Completing is_function t ∷ fs) kept = f.completing is_function t ∷ frames_with u fs kept
 frames_with u (frame.Exiting ∷ fs) kept = f.exiting ∷ frames_with u fs kept
 
--- the frames of a stack and the activations, each from the one on top on
-abbrev pub waiting : Stack → List m.Frame
-waiting stack = reverse stack.frames.items.items
+-- the frames of a stack, in few bytes as they stand and as they are by a table, and the activations, each from the one on top on
+abbrev pub waiting : Stack → List Packed
+waiting stack = reverse stack.frames.packed.items.items
+
+abbrev pub stacked : List Tree → Stack → List m.Frame
+stacked ts stack = unpacked ts (waiting stack) (reverse stack.frames.asides.items.items)
 
 abbrev pub set_aside : Stack → List Activation
 set_aside stack = reverse stack.activations.items.items
 
 -- what waits on a stack, by the bodies of a unit
 abbrev pub below : FlatUnit → Stack → List Frame
-below u stack = frames_with u (waiting stack) (set_aside stack)
+below u stack = frames_with u (stacked (trees u.code) stack) (set_aside stack)
 
 -- how many frames and how many activations fit
 abbrev pub room : Stack → ℕ × ℕ
-room stack = (stack.frames.capacity, stack.activations.capacity)
+room stack = (stack.frames.packed.capacity, stack.activations.capacity)
 
 -- so many more frames fit, and one more activation
 abbrev pub HasRoom : ℕ → Stack → Type 0
-HasRoom n stack = length stack.frames.items.items + n ≤ stack.frames.capacity
+HasRoom n stack = length stack.frames.packed.items.items + n ≤ stack.frames.packed.capacity
 
 abbrev pub HasSpace : Stack → Type 0
 HasSpace stack = length stack.activations.items.items < stack.activations.capacity

@@ -7,7 +7,7 @@ ghost use Rattle.rv_frames.specs.Frames.{Now, comes, valued, listed, done};
 ghost use Rattle.rv_frames.specs.Passing.{comes_as, is_kind};
 ghost use Rattle.rv_machine.specs.Machines.{MovesTo, kind_taken, is_over};
 ghost use Rattle.rv_machine.specs.Points.{control, MovesOn};
-ghost use Rattle.rv_machine.specs.Stacks.{below, end_frame, frames_with, waiting, set_aside, HasRoom, room};
+ghost use Rattle.rv_machine.specs.Stacks.{below, end_frame, frames_with, stacked, waiting, set_aside, HasRoom, room};
 
 use crate::ends::{
     handle, take_count_end, take_declarations_end, take_statement_end, take_turn_end,
@@ -24,7 +24,7 @@ use rv_value::Args;
 impl Machine {
     /// A frame that doesn't take what comes is taken off, and the setting behind it is taken up.
     pub(crate) fn pass(&mut self, unit: &FlatUnit, frame: Frame)
-        ensures below { (now : Now) → is_kind (kind_taken frame) (comes_as now) ≡ false → MovesOn (flat_view unit.now) (comes now) (frames_with unit.now (frame ∷ waiting self.old.stack) (set_aside self.old.stack)) self.old.setting (comes now) (below unit.now self.new.stack) self.new.setting }
+        ensures below { (now : Now) → is_kind (kind_taken frame) (comes_as now) ≡ false → MovesOn (flat_view unit.now) (comes now) (frames_with unit.now (frame ∷ stacked (trees unit.now.code) self.old.stack) (set_aside self.old.stack)) self.old.setting (comes now) (below unit.now self.new.stack) self.new.setting }
         ensures same { self.new.activation ≡ self.old.activation }
         ensures point { self.new.point ≡ self.old.point }
         ensures kept { room self.new.stack ≡ room self.old.stack }
@@ -51,7 +51,7 @@ impl Machine {
     /// The value of an expression comes to this frame, which was on top.
     fn value_meets(&mut self, unit: &FlatUnit, frame: Frame, value: Result<i64, Cause>)
         requires { HasRoom 1 self.old.stack }
-        ensures moves { MovesTo unit.now (comes (valued value self.old.activation)) (frames_with unit.now (frame ∷ waiting self.old.stack) (set_aside self.old.stack)) self.old.setting self.new }
+        ensures moves { MovesTo unit.now (comes (valued value self.old.activation)) (frames_with unit.now (frame ∷ stacked (trees unit.now.code) self.old.stack) (set_aside self.old.stack)) self.old.setting self.new }
         ensures kept { room self.new.stack ≡ room self.old.stack }
     {
         match frame {
@@ -81,7 +81,7 @@ impl Machine {
         ensures moves { MovesTo unit.now (comes (valued value self.old.activation)) (below unit.now self.old.stack) self.old.setting self.new }
         ensures kept { room self.new.stack ≡ room self.old.stack }
     {
-        if let Some(frame) = self.stack.pop() {
+        if let Some(frame) = self.stack.pop(unit) {
             self.value_meets(unit, frame, value);
         }
     }
@@ -141,7 +141,7 @@ impl Machine {
     /// The end of a statement comes to this frame, which was on top.
     fn end_meets(&mut self, unit: &FlatUnit, frame: Frame, end: End)
         requires { HasRoom 3 self.old.stack }
-        ensures moves { MovesTo unit.now (comes (done end self.old.activation)) (frames_with unit.now (frame ∷ waiting self.old.stack) (set_aside self.old.stack)) self.old.setting self.new }
+        ensures moves { MovesTo unit.now (comes (done end self.old.activation)) (frames_with unit.now (frame ∷ stacked (trees unit.now.code) self.old.stack) (set_aside self.old.stack)) self.old.setting self.new }
         ensures kept { room self.new.stack ≡ room self.old.stack }
     {
         match frame {
@@ -182,14 +182,14 @@ impl Machine {
         ensures moves { MovesTo unit.now (comes (done end self.old.activation)) (below unit.now self.old.stack) self.old.setting self.new }
         ensures kept { room self.new.stack ≡ room self.old.stack }
     {
-        if let Some(frame) = self.stack.pop() {
+        if let Some(frame) = self.stack.pop(unit) {
             self.end_meets(unit, frame, end);
         }
     }
 
     /// The values of arguments, or those that a call gives, come to this frame, which was on top.
     fn values_meet(&mut self, unit: &FlatUnit, frame: Frame, outcome: Result<Args, Cause>)
-        ensures moves { MovesTo unit.now (comes (listed outcome self.old.activation)) (frames_with unit.now (frame ∷ waiting self.old.stack) (set_aside self.old.stack)) self.old.setting self.new }
+        ensures moves { MovesTo unit.now (comes (listed outcome self.old.activation)) (frames_with unit.now (frame ∷ stacked (trees unit.now.code) self.old.stack) (set_aside self.old.stack)) self.old.setting self.new }
         ensures kept { room self.new.stack ≡ room self.old.stack }
     {
         match frame {
@@ -210,7 +210,7 @@ impl Machine {
         ensures moves { MovesTo unit.now (comes (listed outcome self.old.activation)) (below unit.now self.old.stack) self.old.setting self.new }
         ensures kept { room self.new.stack ≡ room self.old.stack }
     {
-        if let Some(frame) = self.stack.pop() {
+        if let Some(frame) = self.stack.pop(unit) {
             self.values_meet(unit, frame, outcome);
         }
     }
@@ -218,7 +218,7 @@ impl Machine {
     /// How a run ends comes to this frame, which was on top, and passes it.
     fn over_meets(&mut self, unit: &FlatUnit, frame: Frame)
         requires { is_over self.old.point ≡ true }
-        ensures moves { MovesTo unit.now (control (trees unit.now.code) self.old.point self.old.activation) (frames_with unit.now (frame ∷ waiting self.old.stack) (set_aside self.old.stack)) self.old.setting self.new }
+        ensures moves { MovesTo unit.now (control (trees unit.now.code) self.old.point self.old.activation) (frames_with unit.now (frame ∷ stacked (trees unit.now.code) self.old.stack) (set_aside self.old.stack)) self.old.setting self.new }
         ensures kept { room self.new.stack ≡ room self.old.stack }
     {
         self.pass(unit, frame);
@@ -231,7 +231,7 @@ impl Machine {
         ensures moves { MovesTo unit.now (control (trees unit.now.code) self.old.point self.old.activation) (below unit.now self.old.stack) self.old.setting self.new }
         ensures kept { room self.new.stack ≡ room self.old.stack }
     {
-        if let Some(frame) = self.stack.pop() {
+        if let Some(frame) = self.stack.pop(unit) {
             self.over_meets(unit, frame);
         }
     }

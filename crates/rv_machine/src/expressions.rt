@@ -40,12 +40,12 @@ pub fn evaluate(unit: &FlatUnit, stack: &mut Stack, activation: &Activation, num
             Step::Evaluates(first)
         }
         ExpressionNode::Within(range, operand) => {
-            stack.push_operand(OperandFrame::Bounding(range));
+            stack.push_bounding(range, number);
             Step::Evaluates(operand)
         }
         ExpressionNode::Call(callee, given) => {
             stack.push_values(ValuesFrame::Giving);
-            stack.push_values(ValuesFrame::Passing(callee));
+            stack.push_passing(callee, number);
             Step::Argues(given, Args::new())
         }
     }

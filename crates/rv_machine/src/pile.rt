@@ -1,6 +1,6 @@
 //! Elements one on top of another, in room that is taken at first.
 
-ghost use Rattle.std.specs.Prelude.{◌≡◌, ◌≤◌, ◌<◌, ◌+◌, ◌∷◌, [], IfOk, IfSome, IsNone, IsTrue, IsFalse, length, reverse};
+ghost use Rattle.std.specs.Prelude.{◌≡◌, ◌≤◌, ◌<◌, ◌+◌, ◌-◌, ◌∷◌, [], IfOk, IfSome, IsNone, IsTrue, IsFalse, length, reverse};
 ghost use Rattle.std.specs.Vec.{vec_capacity};
 
 use std::alloc::{AllocError, Global};
@@ -48,6 +48,7 @@ impl<T: Drop> Pile<T> {
         ensures none { IsNone result → reverse self.old.items.items ≡ [] }
         ensures same { IsNone result → reverse self.new.items.items ≡ [] }
         ensures shorter { length self.new.items.items ≤ length self.old.items.items }
+        ensures fewer { length self.new.items.items ≤ length self.old.items.items - 1 }
         ensures capacity { self.new.capacity ≡ self.old.capacity }
     {
         self.items.pop()

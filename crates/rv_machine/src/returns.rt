@@ -2,10 +2,11 @@
 
 ghost use Rattle.std.specs.Prelude.{◌≡◌, ◌≤◌, ◌<◌, ◌∷◌, [], List};
 ghost use Rattle.rv_frames.specs.Frames.{comes, closes, reaches, outside, performing, body_setting};
+ghost use Rattle.rv_flat.specs.Tables.{trees};
 ghost use Rattle.rv_flat.specs.Trees.{Tree};
 ghost use Rattle.rv_machine.specs.Machines.{MovesTo};
 ghost use Rattle.rv_machine.specs.Points.{control, given_by};
-ghost use Rattle.rv_machine.specs.Stacks.{below, frames_with, waiting, set_aside, HasRoom, room};
+ghost use Rattle.rv_machine.specs.Stacks.{below, frames_with, stacked, waiting, set_aside, HasRoom, room};
 
 use crate::frame::Frame;
 use crate::machine::Machine;
@@ -47,7 +48,7 @@ impl Machine {
     /// What a body comes to comes to this frame, which was on top: to the call inside the object that waits for it, or to the
     /// end of an operation (6.4, 9.5.1).
     fn body_meets(&mut self, unit: &FlatUnit, frame: Frame, outcome: Result<Args, Cause>)
-        ensures moves { MovesTo unit.now (comes (closes outcome self.old.activation.components self.old.activation.steps)) (frames_with unit.now (frame ∷ waiting self.old.stack) (set_aside self.old.stack)) self.old.setting self.new }
+        ensures moves { MovesTo unit.now (comes (closes outcome self.old.activation.components self.old.activation.steps)) (frames_with unit.now (frame ∷ stacked (trees unit.now.code) self.old.stack) (set_aside self.old.stack)) self.old.setting self.new }
         ensures kept { room self.new.stack ≡ room self.old.stack }
     {
         match frame {
@@ -81,7 +82,7 @@ impl Machine {
         ensures moves { MovesTo unit.now (comes (closes outcome self.old.activation.components self.old.activation.steps)) (below unit.now self.old.stack) self.old.setting self.new }
         ensures kept { room self.new.stack ≡ room self.old.stack }
     {
-        if let Some(frame) = self.stack.pop() {
+        if let Some(frame) = self.stack.pop(unit) {
             self.body_meets(unit, frame, outcome);
         }
     }
@@ -114,7 +115,7 @@ impl Machine {
     /// What a request comes to that starts no body comes to this frame, which was on top: to the call of another object that waits
     /// for it.
     fn request_meets(&mut self, unit: &FlatUnit, frame: Frame, outcome: Result<Args, Cause>)
-        ensures moves { MovesTo unit.now (comes (reaches (given_by outcome))) (frames_with unit.now (frame ∷ waiting self.old.stack) (set_aside self.old.stack)) self.old.setting self.new }
+        ensures moves { MovesTo unit.now (comes (reaches (given_by outcome))) (frames_with unit.now (frame ∷ stacked (trees unit.now.code) self.old.stack) (set_aside self.old.stack)) self.old.setting self.new }
         ensures kept { room self.new.stack ≡ room self.old.stack }
     {
         match frame {
@@ -134,7 +135,7 @@ impl Machine {
         ensures moves { MovesTo unit.now (comes (reaches (given_by outcome))) (below unit.now self.old.stack) self.old.setting self.new }
         ensures kept { room self.new.stack ≡ room self.old.stack }
     {
-        if let Some(frame) = self.stack.pop() {
+        if let Some(frame) = self.stack.pop(unit) {
             self.request_meets(unit, frame, outcome);
         }
     }
@@ -150,7 +151,7 @@ impl Machine {
         is_function: bool,
     )
         requires { HasRoom 3 self.old.stack }
-        ensures moves { MovesTo unit.now (comes (reaches (Asked.Started object number is_function self.old.activation.components))) (frames_with unit.now (frame ∷ waiting self.old.stack) (set_aside self.old.stack)) self.old.setting self.new }
+        ensures moves { MovesTo unit.now (comes (reaches (Asked.Started object number is_function self.old.activation.components))) (frames_with unit.now (frame ∷ stacked (trees unit.now.code) self.old.stack) (set_aside self.old.stack)) self.old.setting self.new }
         ensures kept { room self.new.stack ≡ room self.old.stack }
     {
         match frame {
@@ -178,7 +179,7 @@ impl Machine {
         ensures moves { MovesTo unit.now (comes (reaches (Asked.Started object number is_function self.old.activation.components))) (below unit.now self.old.stack) self.old.setting self.new }
         ensures kept { room self.new.stack ≡ room self.old.stack }
     {
-        if let Some(frame) = self.stack.pop() {
+        if let Some(frame) = self.stack.pop(unit) {
             self.start_meets(unit, frame, object, number, is_function);
         }
     }
@@ -206,7 +207,7 @@ impl Machine {
     /// What a call of another object comes to comes to this frame, which was on top: to the caller, which has its steps anew where
     /// it is a task's own body (limits own).
     fn call_meets(&mut self, unit: &FlatUnit, frame: Frame, outcome: Result<Args, Cause>)
-        ensures moves { MovesTo unit.now (comes (outside outcome)) (frames_with unit.now (frame ∷ waiting self.old.stack) (set_aside self.old.stack)) self.old.setting self.new }
+        ensures moves { MovesTo unit.now (comes (outside outcome)) (frames_with unit.now (frame ∷ stacked (trees unit.now.code) self.old.stack) (set_aside self.old.stack)) self.old.setting self.new }
         ensures kept { room self.new.stack ≡ room self.old.stack }
     {
         match frame {
@@ -228,7 +229,7 @@ impl Machine {
         ensures moves { MovesTo unit.now (comes (outside outcome)) (below unit.now self.old.stack) self.old.setting self.new }
         ensures kept { room self.new.stack ≡ room self.old.stack }
     {
-        if let Some(frame) = self.stack.pop() {
+        if let Some(frame) = self.stack.pop(unit) {
             self.call_meets(unit, frame, outcome);
         }
     }

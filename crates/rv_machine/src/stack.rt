@@ -1,6 +1,6 @@
 //! The memory of a machine's stack: what waits, and the activations of the bodies whose calls wait.
 
-use crate::frame::Frame;
+use crate::frames::Frames;
 use crate::pile::Pile;
 use rv_exec::activation::Activation;
 
@@ -8,7 +8,7 @@ use rv_exec::activation::Activation;
 #[derive(Drop)]
 pub struct Stack {
     /// The frames, the one on top last.
-    pub frames: Pile<Frame>,
+    pub frames: Frames,
     /// The activations that were set aside, the last one last.
     pub activations: Pile<Activation>,
 }

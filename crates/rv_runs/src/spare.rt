@@ -26,13 +26,13 @@ impl Drop for Spare {
 fn is_room(stack: &Stack, need: Need) -> bool
     ensures empty { IsTrue result → waiting stack.now ≡ [] }
     ensures alone { IsTrue result → set_aside stack.now ≡ [] }
-    ensures frames { IsTrue result → need.frames ≤ stack.now.frames.capacity }
+    ensures frames { IsTrue result → need.frames ≤ stack.now.frames.packed.capacity }
     ensures activations { IsTrue result → need.activations ≤ stack.now.activations.capacity }
 {
     if !stack.is_empty() {
         return false;
     }
-    need.frames <= stack.frames.capacity && need.activations <= stack.activations.capacity
+    need.frames <= stack.frames.packed.capacity && need.activations <= stack.activations.capacity
 }
 
 impl Spare {

@@ -1,6 +1,9 @@
-use Rattle.std.proofs.Common.{rules, ◌≡◌, ◌∙◌, arith, to_z, of_z, w64}
+use Rattle.std.proofs.Common.{rules, ap, ◌≡◌, ◌∙◌, arith, to_z, of_z, w64}
+use Rattle.rv_code.specs.Expressions.{Expression}
+use Rattle.rv_flat.specs.Tables.{trees}
 use Rattle.rv_machine.proofs.AtOnceSteps.{evaluated}
-use Rattle.rv_machine.proofs.Steps.{operand_on, values_on}
+use Rattle.rv_machine.specs.Packing.{range_of, callee_of}
+use Rattle.rv_machine.proofs.Steps.{operand_on, bounding_on, values_on, passing_on}
 use Rattle.rv_machine.proofs.ExpressionSteps.{literal, variable, component, prefixed, chain, bounded, called}
 use Rattle.rv_machine.proofs.expressions.evaluate.Goals as goal
 
@@ -29,7 +32,7 @@ pub returns-in-Chain-clause-leads : goal.returns-in-Chain-clause-leads
 returns-in-Chain-clause-leads c = chain _ _ _ _ _ _ c.in-Chain.ensures (operand_on c.args.unit.now c.args.stack.now c.push_operand-in-Chain.new.self _ c.push_operand-in-Chain.ensures.frames c.push_operand-in-Chain.ensures.activations)
 
 pub returns-in-Within-clause-leads : goal.returns-in-Within-clause-leads
-returns-in-Within-clause-leads c = bounded _ _ _ _ _ _ c.in-Within.ensures (operand_on c.args.unit.now c.args.stack.now c.push_operand-in-Within.new.self _ c.push_operand-in-Within.ensures.frames c.push_operand-in-Within.ensures.activations)
+returns-in-Within-clause-leads c = bounded _ _ _ _ _ _ c.in-Within.ensures (bounding_on c.args.unit.now c.args.stack.now c.push_bounding.new.self _ (c.push_bounding.ensures.frames (trees c.args.unit.now.code) (ap (λ (e : Expression). range_of e) c.in-Within.ensures)) c.push_bounding.ensures.activations)
 
 pub returns-in-Call-clause-leads : goal.returns-in-Call-clause-leads
-returns-in-Call-clause-leads c = called _ _ _ _ _ _ _ _ c.in-Call.ensures c.new.ensures (values_on c.args.unit.now c.args.stack.now c.push_values.new.self _ c.push_values.ensures.frames c.push_values.ensures.activations) (values_on c.args.unit.now c.push_values.new.self c.push_values-in-Call.new.self _ c.push_values-in-Call.ensures.frames c.push_values-in-Call.ensures.activations)
+returns-in-Call-clause-leads c = called _ _ _ _ _ _ _ _ c.in-Call.ensures c.new.ensures (values_on c.args.unit.now c.args.stack.now c.push_values.new.self _ c.push_values.ensures.frames c.push_values.ensures.activations) (passing_on c.args.unit.now c.push_values.new.self c.push_passing.new.self _ (c.push_passing.ensures.frames (trees c.args.unit.now.code) (ap (λ (e : Expression). callee_of e) c.in-Call.ensures)) c.push_passing.ensures.activations)
