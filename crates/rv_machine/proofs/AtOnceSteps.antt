@@ -24,6 +24,10 @@ use Rattle.rv_exec.specs.Statements.{meaning, abandons, exit_where}
 use Rattle.rv_exec.specs.World.{World, Run, Got}
 use Rattle.rv_frames.specs.Rests.{is_next}
 use Rattle.rv_frames.specs.Frames.{Frame, sequencing, evaluates, runs, runs_all, comes, valued, done, got, end, denoted, meant}
+use Rattle.rv_flat.specs.Trees.{Tree, tree_at, tree_by, tree_of, as_expression}
+use Rattle.rv_flat.specs.declared.code.Kind.{Kind}
+use Rattle.rv_flat.specs.declared.code.Kind.TheVariants as kind
+use Rattle.rv_flat.specs.declared.code.Node.{Node}
 use Rattle.rv_machine.specs.AtOnce.{HasValue, LinkGives, LinkTo, EndsSo, after_prefix, after_range, after_operator, assigned_after, exit_after, return_after}
 use Rattle.rv_machine.specs.Moves.{expression_moves, statement_moves, called_moves, level}
 use Rattle.rv_machine.specs.Points.{Leads}
@@ -77,6 +81,27 @@ variable_at e slot v a is same = λ w. ap (λ (x : Expression). value w x a) is 
 pub component_at : (e : Expression) (index : ℕ) (v : ℤ) (a : Activation) → e ≡ code.component index → v ≡ slice_index_or a.components index (pos 0) → HasValue e a (Ok v)
 unfolding value
 component_at e index v a is same = λ w. ap (λ (x : Expression). value w x a) is ∙ ap (λ (z : ℤ). gives (Ok z) a) (sym same)
+
+-- what a node of this kind stands for
+of_kind : (ts : List Tree) (number : ℕ) (n : Node) (k : Kind) → tree_at ts number ≡ Some (tree_of ts n) → n.kind ≡ k
+    → as_expression (tree_at ts number) ≡ as_expression (Some (tree_by k (tree_at ts n.first) (tree_at ts n.second) (tree_at ts n.third)))
+of_kind ts number n k found is =
+    ap (λ (t : Option Tree). as_expression t) found ∙ ap (λ (x : Kind). as_expression (Some (tree_by x (tree_at ts n.first) (tree_at ts n.second) (tree_at ts n.third)))) is
+
+pub literal_node : (ts : List Tree) (number : ℕ) (n : Node) (v m : ℤ) (a : Activation)
+    → tree_at ts number ≡ Some (tree_of ts n) → n.kind ≡ kind.Value v → m ≡ v → HasValue (as_expression (tree_at ts number)) a (Ok m)
+unfolding as_expression
+literal_node ts number n v m a found is same = literal_at _ v m a (of_kind ts number n (kind.Value v) found is) same
+
+pub variable_node : (ts : List Tree) (number : ℕ) (n : Node) (slot : ℕ) (v : ℤ) (a : Activation)
+    → tree_at ts number ≡ Some (tree_of ts n) → n.kind ≡ kind.Variable slot → v ≡ slice_index_or a.slots slot (pos 0) → HasValue (as_expression (tree_at ts number)) a (Ok v)
+unfolding as_expression
+variable_node ts number n slot v a found is same = variable_at _ slot v a (of_kind ts number n (kind.Variable slot) found is) same
+
+pub component_node : (ts : List Tree) (number : ℕ) (n : Node) (index : ℕ) (v : ℤ) (a : Activation)
+    → tree_at ts number ≡ Some (tree_of ts n) → n.kind ≡ kind.Component index → v ≡ slice_index_or a.components index (pos 0) → HasValue (as_expression (tree_at ts number)) a (Ok v)
+unfolding as_expression
+component_node ts number n index v a found is same = component_at _ index v a (of_kind ts number n (kind.Component index) found is) same
 
 after_prefixed : (op : Prefix) (r : Result ℤ Cause) (a : Activation) → prefixed_by op (ended (r, a)) ≡ ended (after_prefix op r, a)
 after_prefixed op (Ok v) a = refl

@@ -11,6 +11,7 @@ pub mod StatementSteps
 pub mod ValueSteps
 pub mod ChoiceSteps
 pub mod EndSteps
+pub mod TurnSteps
 pub mod Meetings
 pub mod Starts
 pub mod Fitting

@@ -7,3 +7,4 @@ pub mod Moves
 pub mod Heights
 pub mod Needs
 pub mod AtOnce
+pub mod Turns

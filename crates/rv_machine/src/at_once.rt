@@ -1,7 +1,7 @@
 //! What comes to its value or to its end at once: expressions without calls, and statements without others in them. No frame waits
 //! for these.
 
-ghost use Rattle.std.specs.Prelude.{◌≡◌, IfSome, IsNone};
+ghost use Rattle.std.specs.Prelude.{◌≡◌, IfSome, IsNone, Ok};
 ghost use Rattle.rv_flat.specs.Tables.{trees};
 ghost use Rattle.rv_flat.specs.Trees.{tree_at, as_expression, as_links, as_statement};
 ghost use Rattle.rv_machine.specs.AtOnce.{HasValue, LinkGives, LinkTo, EndsSo, after_prefix, after_range, after_operator, assigned_after, exit_after, return_after};
@@ -14,7 +14,7 @@ use rv_exec::activation::Activation;
 use rv_exec::end::{Cause, End};
 use rv_exec::operators::{decides, prefix_of, result_of, within};
 use rv_exec::outcome::exit_where;
-use rv_flat::code::Code;
+use rv_flat::code::{Code, Kind};
 use rv_shape::kind::Range;
 
 /// How deep an expression is looked at, at most (own): for the operands of a deeper one frames wait.
@@ -50,6 +50,37 @@ fn after_operator(operator: Operator, left: i64, operand: Result<i64, Cause>) ->
     }
 }
 
+// The value of a literal, a variable or a component; `None` where the expression is none of these (4.1, 4.2).
+fn leaf_at_once(code: &Code, activation: &Activation, number: usize) -> Option<i64>
+    ensures { IfSome result (λ v. HasValue (as_expression (tree_at (trees code.now) number)) activation.now (Ok v)) }
+{
+    let Some(node) = code.node(number) else {
+        return None;
+    };
+    match node.kind {
+        Kind::Value(value) => Some(value),
+        Kind::Variable(slot) => Some(activation.variable(slot)),
+        Kind::Component(index) => Some(activation.component(index)),
+        _ => None,
+    }
+}
+
+// The value of an operand: most are leaves, for which nothing else is looked at.
+#[cycle(operands)]
+fn operand_at_once(
+    code: &Code,
+    activation: &Activation,
+    number: usize,
+    depth: u32,
+) -> Option<Result<i64, Cause>>
+    ensures { IfSome result (λ v. HasValue (as_expression (tree_at (trees code.now) number)) activation.now v) }
+{
+    if let Some(value) = leaf_at_once(code, activation, number) {
+        return Some(Ok(value));
+    }
+    value_at_once(code, activation, number, depth)
+}
+
 /// The value of an expression, or the cause that it fails by; `None` where it has a call, or is deeper (4.4).
 #[cycle(operands)]
 pub fn value_at_once(
@@ -68,7 +99,7 @@ pub fn value_at_once(
             if depth == 0 {
                 return None;
             }
-            let Some(value) = value_at_once(code, activation, operand, depth - 1) else {
+            let Some(value) = operand_at_once(code, activation, operand, depth - 1) else {
                 return None;
             };
             Some(after_prefix(prefix, value))
@@ -77,7 +108,7 @@ pub fn value_at_once(
             if depth == 0 {
                 return None;
             }
-            let Some(value) = value_at_once(code, activation, first, depth - 1) else {
+            let Some(value) = operand_at_once(code, activation, first, depth - 1) else {
                 return None;
             };
             match value {
@@ -89,7 +120,7 @@ pub fn value_at_once(
             if depth == 0 {
                 return None;
             }
-            let Some(value) = value_at_once(code, activation, operand, depth - 1) else {
+            let Some(value) = operand_at_once(code, activation, operand, depth - 1) else {
                 return None;
             };
             Some(after_range(range, value))
@@ -112,7 +143,7 @@ fn link_at_once(
     if decides(link.operator, value) {
         return Some(Ok(value));
     }
-    let Some(operand) = value_at_once(code, activation, link.operand, depth) else {
+    let Some(operand) = operand_at_once(code, activation, link.operand, depth) else {
         return None;
     };
     Some(after_operator(link.operator, value, operand))

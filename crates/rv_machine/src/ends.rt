@@ -29,8 +29,8 @@ pub fn is_next(end: End) -> bool
     }
 }
 
-// How a loop ends whose turn ends so: an exit leaves the loop alone (5.7).
-fn left_by(end: End) -> End
+/// How a loop ends whose turn ends so: an exit leaves the loop alone (5.7).
+pub fn left_by(end: End) -> End
     ensures { result ≡ left_by end }
 {
     match end {
@@ -72,7 +72,7 @@ pub fn take_count_end(
     statements: usize,
     end: End,
 ) -> Step
-    requires { HasRoom 1 stack.old }
+    requires { HasRoom 2 stack.old }
     ensures leads { Leads (comes (done end activation.old)) (count_frame (trees unit.now.code) values statements ∷ below unit.now stack.old) (control_in (trees unit.now.code) result activation.new) (below unit.now stack.new) }
     ensures kept { room stack.new ≡ room stack.old }
 {
@@ -93,7 +93,7 @@ pub fn take_turn_end(
     statements: usize,
     end: End,
 ) -> Step
-    requires { HasRoom 1 stack.old }
+    requires { HasRoom 2 stack.old }
     ensures leads { Leads (comes (done end activation.old)) (turning turns (as_expression (tree_at (trees unit.now.code) condition)) (as_statements (tree_at (trees unit.now.code) statements)) ∷ below unit.now stack.old) (control_in (trees unit.now.code) result activation.new) (below unit.now stack.new) }
     ensures kept { room stack.new ≡ room stack.old }
 {

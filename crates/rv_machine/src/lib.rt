@@ -31,4 +31,5 @@ mod stacking;
 pub mod statements;
 pub mod table;
 mod tasks;
+pub mod turns;
 pub mod values;

@@ -107,7 +107,7 @@ impl Machine {
 
     // So many turns of a loop at most (5.5).
     fn at_turns(&mut self, unit: &FlatUnit, turns: u64, condition: usize, statements: usize)
-        requires { HasRoom 1 self.old.stack }
+        requires { HasRoom 2 self.old.stack }
         ensures moves { MovesTo unit.now (control_in (trees unit.now.code) (Step.Turns turns condition statements) self.old.activation) (below unit.now self.old.stack) self.old.setting self.new }
         ensures kept { room self.new.stack ≡ room self.old.stack }
     {
@@ -124,7 +124,7 @@ impl Machine {
 
     // The values of a loop's range that are left (5.5).
     fn at_values(&mut self, unit: &FlatUnit, values: Count, statements: usize)
-        requires { HasRoom 1 self.old.stack }
+        requires { HasRoom 2 self.old.stack }
         ensures moves { MovesTo unit.now (control_in (trees unit.now.code) (Step.Counts values statements) self.old.activation) (below unit.now self.old.stack) self.old.setting self.new }
         ensures kept { room self.new.stack ≡ room self.old.stack }
     {

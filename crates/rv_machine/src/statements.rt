@@ -9,14 +9,15 @@ ghost use Rattle.rv_frames.specs.Frames.{evaluates, runs, runs_all, tries, selec
 ghost use Rattle.rv_machine.specs.Points.{control_in, Keeps, Leads, LeadsIn};
 ghost use Rattle.rv_machine.specs.Stacks.{below, value_frame, HasRoom, room};
 
-use crate::at_once::{MOST_DEPTH, end_at_once, value_at_once};
-use crate::ends::is_next;
+use crate::at_once::{MOST_DEPTH, value_at_once};
+use crate::ends::{is_next, left_by};
 use crate::frame::{Count, EndFrame, ValueFrame, ValuesFrame};
 use crate::nodes::{
-    StatementNode, alternatives_at, branches_at, declarations_at, statement_at, statements_at,
+    StatementNode, alternatives_at, branches_at, declarations_at, statement_at,
 };
 use crate::point::Step;
 use crate::stack::Stack;
+use crate::turns::{Reached, Turned, all_at_once, turn_at_once};
 use crate::values::part_comes;
 use rv_event::entry::Exception;
 use rv_exec::activation::Activation;
@@ -119,25 +120,13 @@ pub fn run_all(
     ensures leads { LeadsIn setting.now (runs_all (as_statements (tree_at (trees unit.now.code) statements)) activation.old) (below unit.now stack.old) (control_in (trees unit.now.code) result activation.new) (below unit.now stack.new) }
     ensures kept { room stack.new ≡ room stack.old }
 {
-    let mut rest = statements;
-    'statements: while let Some(statement) = statements_at(&unit.code, rest) {
-        if !activation.step() {
-            return Step::Done(End::Abandoned(Cause::Overrun));
-        }
-        rest = statement.rest;
-        match end_at_once(&unit.code, activation, statement.first) {
-            Some(end) => {
-                if !is_next(end) {
-                    return Step::Done(end);
-                }
-            }
-            None => {
-                stack.push_end(EndFrame::Sequencing(rest));
-                return run(unit, stack, activation, setting, statement.first);
-            }
+    match all_at_once(&unit.code, activation, statements) {
+        Reached::Ended(end) => Step::Done(end),
+        Reached::Begun(statement) => {
+            stack.push_end(EndFrame::Sequencing(statement.rest));
+            run(unit, stack, activation, setting, statement.first)
         }
     }
-    Step::Done(End::Next)
 }
 
 /// The next branch, behind its condition, or the statements behind `else` (5.3).
@@ -161,7 +150,7 @@ pub fn try_branches(
     }
 }
 
-/// The next turn of a loop while a condition is True (5.5).
+/// The next turns of a loop while a condition is True: those that come to an end at once, up to one that doesn't (5.5).
 pub fn turn(
     unit: &FlatUnit,
     stack: &mut Stack,
@@ -170,18 +159,31 @@ pub fn turn(
     condition: usize,
     statements: usize,
 ) -> Step
-    requires { HasRoom 1 stack.old }
+    requires { HasRoom 2 stack.old }
     ensures leads { Leads (turns_of turns (as_expression (tree_at (trees unit.now.code) condition)) (as_statements (tree_at (trees unit.now.code) statements)) activation.old) (below unit.now stack.old) (control_in (trees unit.now.code) result activation.new) (below unit.now stack.new) }
     ensures kept { room stack.new ≡ room stack.old }
 {
-    if turns == 0 {
-        return Step::Done(End::Abandoned(Cause::Overrun));
+    let mut left = turns;
+    'turns: while left > 0 {
+        left -= 1;
+        match turn_at_once(&unit.code, activation, condition, statements) {
+            Turned::Again => {}
+            Turned::Over(end) => return Step::Done(end),
+            Turned::Tests => {
+                stack.push_value(ValueFrame::Testing(left, condition, statements));
+                return Step::Evaluates(condition);
+            }
+            Turned::Begun(statement) => {
+                stack.push_end(EndFrame::Turning(left, condition, statements));
+                stack.push_end(EndFrame::Sequencing(statement.rest));
+                return Step::Runs(statement.first);
+            }
+        }
     }
-    let frame = ValueFrame::Testing(turns - 1, condition, statements);
-    await_value(unit, stack, activation, frame, condition)
+    Step::Done(End::Abandoned(Cause::Overrun))
 }
 
-/// The next value of a loop's range (5.5).
+/// The next values of a loop's range: those whose statements end at once, up to one whose don't (5.5).
 pub fn count(
     unit: &FlatUnit,
     stack: &mut Stack,
@@ -189,24 +191,32 @@ pub fn count(
     count: Count,
     statements: usize,
 ) -> Step
-    requires { HasRoom 1 stack.old }
+    requires { HasRoom 2 stack.old }
     ensures leads { Leads (counts count.left count.values.is_reverse count.values.low count.values.high count.values.slot (as_statements (tree_at (trees unit.now.code) statements)) activation.old) (below unit.now stack.old) (control_in (trees unit.now.code) result activation.new) (below unit.now stack.new) }
     ensures kept { room stack.new ≡ room stack.old }
 {
-    if count.left == 0 {
-        return Step::Done(End::Next);
+    let values = count.values;
+    let mut left = count.left;
+    'values: while left > 0 {
+        left -= 1;
+        if !activation.step() {
+            return Step::Done(End::Abandoned(Cause::Overrun));
+        }
+        activation.put_slot(values.slot, value_before(values, left));
+        match all_at_once(&unit.code, activation, statements) {
+            Reached::Ended(end) => {
+                if !is_next(end) {
+                    return Step::Done(left_by(end));
+                }
+            }
+            Reached::Begun(statement) => {
+                stack.push_count(Count { values, left }, statements);
+                stack.push_end(EndFrame::Sequencing(statement.rest));
+                return Step::Runs(statement.first);
+            }
+        }
     }
-    if !activation.step() {
-        return Step::Done(End::Abandoned(Cause::Overrun));
-    }
-    let left = count.left - 1;
-    activation.put_slot(count.values.slot, value_before(count.values, left));
-    let rest = Count {
-        values: count.values,
-        left,
-    };
-    stack.push_count(rest, statements);
-    Step::RunsAll(statements)
+    Step::Done(End::Next)
 }
 
 /// The next declaration (3.11).

@@ -27,13 +27,13 @@ value_at_once-returns-in-Some t c = prefixed_at _ _ _ _ _ _ c.in-Prefixed.ensure
 pub value_at_once-returns-in-Ok : goal.value_at_once-returns-in-Ok
 value_at_once-returns-in-Ok t c =
     let item : to_z w64 (of_z w64 c.in-Ok.value) ≡ c.in-Ok.value = Prim.first_of (Prim.search rules, Prim.grind arith) in
-    chain_some _ _ _ _ _ _ c.links_at_once.result _ c.in-Chain.ensures c.in-Some-value_at_once.ensures c.in-Ok.is item c.links_at_once.ensures
+    chain_some _ _ _ _ _ _ c.links_at_once.result _ c.in-Chain.ensures c.in-Some-operand_at_once.ensures c.in-Ok.is item c.links_at_once.ensures
 
 pub value_at_once-returns-in-Err : goal.value_at_once-returns-in-Err
-value_at_once-returns-in-Err t c = chain_fails _ _ _ _ _ _ c.in-Chain.ensures c.in-Some-value_at_once.ensures c.in-Err.is
+value_at_once-returns-in-Err t c = chain_fails _ _ _ _ _ _ c.in-Chain.ensures c.in-Some-operand_at_once.ensures c.in-Err.is
 
-pub value_at_once-returns-in-Some-value_at_once-2 : goal.value_at_once-returns-in-Some-value_at_once-2
-value_at_once-returns-in-Some-value_at_once-2 t c = within_at _ _ _ _ _ _ c.in-Within.ensures c.in-Some-value_at_once-2.ensures c.after_range.ensures
+pub value_at_once-returns-in-Some-operand_at_once-2 : goal.value_at_once-returns-in-Some-operand_at_once-2
+value_at_once-returns-in-Some-operand_at_once-2 t c = within_at _ _ _ _ _ _ c.in-Within.ensures c.in-Some-operand_at_once-2.ensures c.after_range.ensures
 
 pub link_at_once-returns-then-decides : goal.link_at_once-returns-then-decides
 link_at_once-returns-then-decides t c =
