@@ -12,9 +12,7 @@ ghost use Rattle.rv_machine.specs.Stacks.{below, value_frame, HasRoom, room};
 use crate::at_once::{MOST_DEPTH, value_at_once};
 use crate::ends::{is_next, left_by};
 use crate::frame::{Count, EndFrame, ValueFrame, ValuesFrame};
-use crate::nodes::{
-    StatementNode, alternatives_at, branches_at, declarations_at, statement_at,
-};
+use crate::nodes::{StatementNode, alternatives_at, branches_at, declarations_at, statement_at};
 use crate::point::Step;
 use crate::stack::Stack;
 use crate::turns::{Reached, Turned, all_at_once, turn_at_once};

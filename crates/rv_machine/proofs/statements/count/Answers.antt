@@ -17,8 +17,7 @@ values-init c = (stays _ _, (refl, omega arith))
 pub values-preserved : goal.values-preserved
 values-preserved c = let less : c.values.left ≡ suc (c.values.left - 1) = omega arith in
     let item : to_z w64 (of_z w64 c.value_before.result) ≡ c.value_before.result = Prim.first_of (Prim.search rules, Prim.grind arith) in
-    let fewer = c.values.invariant.1.1 in
-    (
+    let fewer = c.values.invariant.1.1 in (
       goes_on _ _ _ _ _ _ c.values.invariant.0
           (behind _ _ _ _ _ _ (next_value _ (c.values.left - 1) _ _ _ _ _ _ _ _ _ _ _ less (c.if-not-step.ensures.yes refl) (item ∙ c.value_before.ensures) c.put_slot.ensures refl)
           (behind _ _ _ _ _ _ (ended_so (trees c.args.unit.now.code) _ _ _ _ _ _ c.in-Ended.is (c.all_at_once.ensures _)) (count_goes _ _ _ _ _ _ _ _ _ (sym c.is_next.ensures ∙ c.if-not-is_next.false)))),
@@ -40,7 +39,7 @@ returns-in-Begun-clause-leads c = let less : c.values.left ≡ suc (c.values.lef
     let item : to_z w64 (of_z w64 c.value_before.result) ≡ c.value_before.result = Prim.first_of (Prim.search rules, Prim.grind arith) in
     comes_to _ _ _ _ _ _ c.values.invariant.0
     (put_so _ _ _ _ _ (end_on c.args.unit.now c.push_count.new.self c.push_end.new.self _ c.push_end.ensures.frames c.push_end.ensures.activations
-        ∙ ap (λ (fs : List Frame). sequencing (as_statements (tree_at (trees c.args.unit.now.code) c.in-Begun.statement.rest)) ∷ fs) (count_on c.args.unit.now c.values.stack c.push_count.new.self _ _ c.push_count.ensures.frames c.push_count.ensures.activations))
+    ∙ ap (λ (fs : List Frame). sequencing (as_statements (tree_at (trees c.args.unit.now.code) c.in-Begun.statement.rest)) ∷ fs) (count_on c.args.unit.now c.values.stack c.push_count.new.self _ _ c.push_count.ensures.frames c.push_count.ensures.activations))
     (behind _ _ _ _ _ _ (next_value _ (c.values.left - 1) _ _ _ _ _ _ _ _ _ _ _ less (c.if-not-step.ensures.yes refl) (item ∙ c.value_before.ensures) c.put_slot.ensures refl)
     (begun_so (trees c.args.unit.now.code) _ _ _ _ _ _ c.in-Begun.is (c.all_at_once.ensures _))))
 

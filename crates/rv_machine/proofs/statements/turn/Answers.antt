@@ -30,7 +30,7 @@ returns-in-Tests-clause-leads c = let less : c.turns.left ≡ suc (c.turns.left 
 pub returns-in-Begun-clause-leads : goal.returns-in-Begun-clause-leads
 returns-in-Begun-clause-leads c = let less : c.turns.left ≡ suc (c.turns.left - 1) = omega arith in comes_to _ _ _ _ _ _ c.turns.invariant.0
     (put_so _ _ _ _ _ (end_on c.args.unit.now c.push_end.new.self c.push_end-2.new.self _ c.push_end-2.ensures.frames c.push_end-2.ensures.activations
-        ∙ ap (λ (fs : List Frame). sequencing (as_statements (tree_at (trees c.args.unit.now.code) c.in-Begun.statement.rest)) ∷ fs) (end_on c.args.unit.now c.turns.stack c.push_end.new.self _ c.push_end.ensures.frames c.push_end.ensures.activations))
+    ∙ ap (λ (fs : List Frame). sequencing (as_statements (tree_at (trees c.args.unit.now.code) c.in-Begun.statement.rest)) ∷ fs) (end_on c.args.unit.now c.turns.stack c.push_end.new.self _ c.push_end.ensures.frames c.push_end.ensures.activations))
     (turned_so (trees c.args.unit.now.code) _ (c.turns.left - 1) _ _ _ _ _ _ _ less c.in-Begun.is (c.turn_at_once.ensures (c.turns.left - 1) (below c.args.unit.now c.turns.stack))))
 
 pub returns-clause-leads : goal.returns-clause-leads
