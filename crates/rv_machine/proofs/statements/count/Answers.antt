@@ -1,9 +1,9 @@
-use Rattle.std.proofs.Common.{rules, suc, ◌≡◌, ◌∙◌, ◌∷◌, ap, subst, sym, refl, arith, ◌-◌, to_z, of_z, w64}
+use Rattle.std.proofs.Common.{rules, List, suc, ◌≡◌, ◌∙◌, ◌∷◌, ap, subst, sym, refl, arith, ◌-◌, to_z, of_z, w64}
 use Rattle.rv_flat.specs.Tables.{trees}
 use Rattle.rv_flat.specs.Trees.{tree_at, as_statements}
-use Rattle.rv_frames.specs.Frames.{Frame, counting, sequencing}
+use Rattle.rv_frames.specs.Frames.{Frame, sequencing}
 use Rattle.rv_machine.specs.declared.stack.Stack.{Stack}
-use Rattle.rv_machine.specs.Stacks.{below, HasRoom, room}
+use Rattle.rv_machine.specs.Stacks.{HasRoom, room}
 use Rattle.rv_machine.proofs.Composing.{stays, goes_on, comes_to, behind}
 use Rattle.rv_machine.proofs.EndSteps.{count_goes, count_stops}
 use Rattle.rv_machine.proofs.Steps.{count_on, end_on}

@@ -1,4 +1,4 @@
-use Rattle.std.proofs.Common.{◌∷◌, refl, arith}
+use Rattle.std.proofs.Common.{arith}
 use Rattle.rv_flat.specs.Tables.{trees}
 use Rattle.rv_machine.specs.Stacks.{below}
 use Rattle.rv_machine.proofs.Composing.{comes_to_in, keeps}

@@ -1,4 +1,4 @@
-use Rattle.std.proofs.Common.{◌≡◌, ◌-◌, ◌∙◌, ◌∷◌, suc, ap, subst, sym, refl, arith}
+use Rattle.std.proofs.Common.{List, ◌≡◌, ◌-◌, ◌∙◌, ◌∷◌, suc, ap, subst, sym, refl, arith}
 use Rattle.rv_flat.specs.Tables.{trees}
 use Rattle.rv_flat.specs.Trees.{tree_at, as_statements}
 use Rattle.rv_frames.specs.Frames.{Frame, sequencing}

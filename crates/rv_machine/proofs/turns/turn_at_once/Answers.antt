@@ -1,4 +1,4 @@
-use Rattle.std.proofs.Common.{rules, ◌≡◌, ◌∙◌, subst, refl, arith, suc, to_z, of_z, w64}
+use Rattle.std.proofs.Common.{rules, ◌≡◌, ◌∙◌, refl, arith, suc, to_z, of_z, w64}
 use Rattle.rv_flat.specs.Tables.{trees}
 use Rattle.rv_flat.specs.Trees.{tree_at, as_expression}
 use Rattle.rv_machine.specs.declared.frame.ValueFrame.TheVariants as value
