@@ -29,7 +29,7 @@ returns-in-Tests-clause-leads c = let less : c.turns.left ≡ suc (c.turns.left 
 
 pub returns-in-Begun-clause-leads : goal.returns-in-Begun-clause-leads
 returns-in-Begun-clause-leads c = let less : c.turns.left ≡ suc (c.turns.left - 1) = omega arith in comes_to _ _ _ _ _ _ c.turns.invariant.0
-    (put_so _ _ _ _ _ (end_on c.args.unit.now c.push_end.new.self c.push_end-2.new.self _ c.push_end-2.ensures.frames c.push_end-2.ensures.activations
+    (put_so _ _ _ _ _ (end_on c.args.unit.now c.push_end.new.self c.push_end-in-Begun.new.self _ c.push_end-in-Begun.ensures.frames c.push_end-in-Begun.ensures.activations
     ∙ ap (λ (fs : List Frame). sequencing (as_statements (tree_at (trees c.args.unit.now.code) c.in-Begun.statement.rest)) ∷ fs) (end_on c.args.unit.now c.turns.stack c.push_end.new.self _ c.push_end.ensures.frames c.push_end.ensures.activations))
     (turned_so (trees c.args.unit.now.code) _ (c.turns.left - 1) _ _ _ _ _ _ _ less c.in-Begun.is (c.turn_at_once.ensures (c.turns.left - 1) (below c.args.unit.now c.turns.stack))))
 
@@ -43,7 +43,7 @@ pub returns-in-Tests-clause-kept : goal.returns-in-Tests-clause-kept
 returns-in-Tests-clause-kept c = c.push_value.ensures.kept ∙ ap (λ (x : Stack). room x) c.turns.invariant.1
 
 pub returns-in-Begun-clause-kept : goal.returns-in-Begun-clause-kept
-returns-in-Begun-clause-kept c = c.push_end-2.ensures.kept ∙ (c.push_end.ensures.kept ∙ ap (λ (x : Stack). room x) c.turns.invariant.1)
+returns-in-Begun-clause-kept c = c.push_end-in-Begun.ensures.kept ∙ (c.push_end.ensures.kept ∙ ap (λ (x : Stack). room x) c.turns.invariant.1)
 
 pub returns-clause-kept : goal.returns-clause-kept
 returns-clause-kept c = ap (λ (x : Stack). room x) c.turns.invariant.1
@@ -58,8 +58,8 @@ push_end-requires c =
     let room : HasRoom 2 c.turns.stack = subst (λ (x : Stack). HasRoom 2 x) (sym c.turns.invariant.1) c.requires in
     omega (arith, room)
 
-pub push_end-2-requires : goal.push_end-2-requires
-push_end-2-requires c =
+pub push_end-requires-in-Begun : goal.push_end-requires-in-Begun
+push_end-requires-in-Begun c =
     let room : HasRoom 2 c.turns.stack = subst (λ (x : Stack). HasRoom 2 x) (sym c.turns.invariant.1) c.requires in
     let longer = c.push_end.ensures.longer in
     let same = c.push_end.ensures.capacity in
