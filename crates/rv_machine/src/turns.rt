@@ -1,6 +1,6 @@
 //! Statements in their order, and turns of loops, as far as they come to an end at once. No frame waits for these.
 
-ghost use Rattle.std.specs.Prelude.{◌≡◌, ◌∷◌, ℕ, List, Ok, pos, suc};
+ghost use Rattle.std.specs.Prelude.{◌≡◌, ◌∷◌, ℕ, List, Ok, suc};
 ghost use Rattle.rv_code.specs.Expressions.{Expression};
 ghost use Rattle.rv_flat.specs.Tables.{trees};
 ghost use Rattle.rv_flat.specs.Trees.{tree_at, as_expression, as_statements};

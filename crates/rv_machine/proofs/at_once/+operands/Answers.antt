@@ -2,7 +2,7 @@ use Rattle.std.proofs.Common.{rules, ◌≡◌, ◌∙◌, refl, sym, ap, subst,
 use Rattle.rv_exec.specs.Operators.{decides}
 use Rattle.rv_flat.specs.Tables.{trees}
 use Rattle.rv_flat.specs.Trees.{tree_at, as_expression, as_links}
-use Rattle.rv_machine.specs.AtOnce.{LinkGives, LinkTo}
+use Rattle.rv_machine.specs.AtOnce.{HasValue, LinkGives, LinkTo}
 use Rattle.rv_machine.proofs.AtOnceSteps.{literal_at, variable_at, component_at, prefixed_at, within_at, chain_some, chain_fails, skipped_at, operated_at, next_at, failed_at, no_link_at, fewer_links}
 use Rattle.rv_machine.proofs.at_once.+operands.Goals as goal
 
@@ -34,6 +34,11 @@ value_at_once-returns-in-Err t c = chain_fails _ _ _ _ _ _ c.in-Chain.ensures c.
 
 pub value_at_once-returns-in-Some-operand_at_once-2 : goal.value_at_once-returns-in-Some-operand_at_once-2
 value_at_once-returns-in-Some-operand_at_once-2 t c = within_at _ _ _ _ _ _ c.in-Within.ensures c.in-Some-operand_at_once-2.ensures c.after_range.ensures
+
+pub operand_at_once-returns-in-Some : goal.operand_at_once-returns-in-Some
+operand_at_once-returns-in-Some t c =
+    let item : to_z w64 (of_z w64 c.in-Some.value) ≡ c.in-Some.value = Prim.first_of (Prim.search rules, Prim.grind arith) in
+    subst (λ (z : ℤ). HasValue (as_expression (tree_at (trees c.args.code.now) c.args.number)) c.args.activation.now (Ok z)) (sym item) c.in-Some.ensures
 
 pub link_at_once-returns-then-decides : goal.link_at_once-returns-then-decides
 link_at_once-returns-then-decides t c =
