@@ -178,6 +178,11 @@ package Ravenhost is
    function Archive (Of_Host : in out Host; Number : Interfaces.C.size_t) return Kind
      with Import, Convention => C, External_Name => "rh_archive";
 
+   function Restart
+     (Of_Host : in out Host; Name : Interfaces.C.char_array; Length : Interfaces.C.size_t) return Kind
+     with Import, Convention => C, External_Name => "rh_restart",
+          Pre => Name'Length > 0 and then Length <= Name'Length;
+
    function Find_Actor
      (Of_Host : in out Host;
       Name    : Interfaces.C.char_array;

@@ -150,6 +150,7 @@ def talks(program, folder):
     expect("no denial", run.ask("remove 2"), "accepted 0")
     expect("a range", one.ask("call Plant.Tank Measured 99999999999999999999"), "bad request: it is none, or names nothing that is loaded")
     expect("the end of a task", one.ask("finish"), "finished")
+    expect("a restart of its unit", run.ask("restart Field"), "of a process")
     other.tell("call Plant.Tank Moved")
     until("the call", lambda: lines_of(journal)[-1].endswith(QUEUED))
     expect("the host's halt", run.ask("halt"), "accepted 0")

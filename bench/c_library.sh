@@ -226,6 +226,8 @@ static int order(const char *line, const struct words *words)
         AGAIN(rh_halt(&host));
     else if (strcmp(deed, "archive") == 0)
         AGAIN(rh_archive(&host, (size_t)number));
+    else if (strcmp(deed, "restart") == 0)
+        AGAIN(rh_restart(&host, words->at[2], strlen(words->at[2])));
     else if (strcmp(deed, "append") == 0)
         AGAIN(rh_append_line(&host, behind(line, 2), strlen(behind(line, 2)), &told));
     else if (strcmp(deed, "remove") == 0)

@@ -1,5 +1,5 @@
 #!/usr/bin/env bash
-# Compares the host, which keeps fields, with a plain one that looks back over its entries at each request, over 44,000 requests
+# Compares the host, which keeps fields, with a plain one that looks back over its entries at each request, over 54,000 requests
 # of fixed seeds with loads and list changes between them, 14,000 of them with queues of up to eight: each answer and each
 # journal has to be the same, and each kind of answer has to come. The plain host decides by functions of its own. It stands beside
 # the gate, which proves the host by definitions that look back as well. The first time it is built, as a trial in a minute, or with

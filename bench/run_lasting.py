@@ -1,9 +1,9 @@
 #!/usr/bin/env python3
 """Lets a run that lasts go on for so many seconds (600): four units, in which tasks call without a pause, while the operator ticks and changes
-the list. Once with a capacity of 4,096, and once with the least that is taken. Its memory at the end may be at most 1 MiB above that after
+the list, and every ten seconds restarts a fifth one, whose task ends after a hundred calls. Once with a capacity of 4,096, and once with the least that is taken. Its memory at the end may be at most 1 MiB above that after
 the first minute, or after the first third where it is shorter; no text may end by Full, no answer may take 0.1 s, and the files that it leaves,
 of 64 MiB at most, have to be audited as legal over the file of its units. Of its file of times each line has to come behind the one before.
-In 600 seconds there have to be ten million entries at 4,096. Says how many there were. Ends with 1 where something is wrong. It is no test.
+In 600 seconds there have to be ten million entries at 4,096, and fifty restarts at least. Says how many there were. Ends with 1 where something is wrong. It is no test.
 
     bench/run_lasting.py [SECONDS [PROGRAM [FOLDER]]]
 """
@@ -20,10 +20,17 @@ from run_soak import memory
 SLOWEST = 0.1  # the longest that an answer may take, in seconds
 MOST_GROWN = 1024  # how much memory may grow behind the first minute, in KiB
 TEAMS = ("Ann", "Ben", "Cat", "Dan")
+BETWEEN = 10.0  # seconds between two restarts
+
+
+def brief(name):
+    """A task that ends after a hundred calls."""
+    return free(name).replace("loop", "for I in 1 .. 100 loop", 1)
 
 
 def sections(capacity):
-    return f"@host.toml\ncapacity = {capacity}\n" + unit(PLANT) + "".join(unit(free(name)) for name in TEAMS) + "@list\nallow * * *\n"
+    units = [PLANT, *(free(name) for name in TEAMS), brief("Eve")]
+    return f"@host.toml\ncapacity = {capacity}\n" + "".join(unit(text) for text in units) + "@list\nallow * * *\n"
 
 
 def least(program, folder):
@@ -35,9 +42,19 @@ def least(program, folder):
     return int(said[1]) if said else 64
 
 
+def restart(run):
+    """Restarts the unit whose task ends. Gives how long the answer took, and whether it was restarted: it is busy while the task goes on."""
+    before = time.monotonic()
+    answer = run.ask("restart Eve")
+    expect_that("restart Eve", answer in ("accepted 0", "busy", "full"), answer)
+    return time.monotonic() - before, answer == "accepted 0"
+
+
 def drive(run, seconds):
-    """Ticks and changes the list. Gives the slowest answer, the memory behind the first minute and at the end, and how often there was no room."""
-    start, slowest, first, full = time.monotonic(), 0.0, None, 0
+    """Ticks, changes the list and restarts a unit. Gives the slowest answer, the memory behind the first minute and at the end, how often there
+    was no room, and how many restarts there were."""
+    start, slowest, first, full, restarts = time.monotonic(), 0.0, None, 0, 0
+    due = start + min(BETWEEN, seconds / 4)
     while time.monotonic() < start + seconds and not faults:
         for command in ("tick 1", "append deny Nobody * *", "remove 2"):
             before = time.monotonic()
@@ -47,10 +64,14 @@ def drive(run, seconds):
             full += answer == "full"
             if answer == "full" and command.startswith("append"):
                 break
+        if time.monotonic() > due:
+            took, restarted = restart(run)
+            slowest, restarts = max(slowest, took), restarts + restarted
+            due += min(BETWEEN, seconds / 4) if restarted else 0
         if first is None and time.monotonic() > start + min(60, seconds / 3):
             first = memory(run.process)
         time.sleep(0.02)
-    return slowest, first, memory(run.process), full
+    return slowest, first, memory(run.process), full, restarts
 
 
 def journals(file):
@@ -81,12 +102,13 @@ def soak(program, folder, capacity, seconds):
     file, units, times = (os.path.join(folder, f"{what}{capacity}") for what in ("journal", "units", "times"))
     run = Run(program, sections(capacity) + "@run\n", ("--lasting", "--journal", file, "--rotate", "64", "--keep-units", units, "--times", times,
                                                        "--sync", "never", "--notes", "always"))
-    slowest, first, last, full = drive(run, seconds)
+    slowest, first, last, full, restarts = drive(run, seconds)
     out, err, status = run.end()
     entries = int(out.split()[-1]) if out.startswith("entries ") else 0
-    print(f"capacity {capacity}: {entries} entries in {seconds} s, the slowest answer {slowest:.3f} s, {full} answers full, memory {first} KiB, "
-          f"at the end {last} KiB, {len(journals(file))} files")
+    print(f"capacity {capacity}: {entries} entries in {seconds} s, the slowest answer {slowest:.3f} s, {full} answers full, {restarts} restarts, "
+          f"memory {first} KiB, at the end {last} KiB, {len(journals(file))} files")
     expect_that("quit", entries and status == 0, (out, status))
+    expect_that("restarts", restarts >= (50 if seconds >= 600 else 1), restarts)
     expect_that("no text ended by Full", "ended: full" not in err, err[-500:])
     expect_that("the slowest answer", slowest < SLOWEST, slowest)
     expect_that("memory", first is not None and last <= first + MOST_GROWN, (first, last))

@@ -542,6 +542,29 @@ def quota(program):
     expect_that("quit behind a quota", re.fullmatch(r"entries \d+\n", out) and status == 0, (out, status))
 
 
+def restarts(program):
+    """A unit is restarted once its task has ended, any number of times, and a note names who is still there."""
+    run = Run(program, unit(PLANT) + unit(looper("Nav")) + "@list\nallow * * *\n@run\n", ("--notes", "always"))
+    until("a delay", lambda: "delay 1 -> delayed" in of(run.journal(), "Nav.Pilot"))
+    expect("the restart of a unit in use", run.ask("restart Nav"), "busy")
+    expect("a right taken away", run.ask("append deny Nav * *"), "accepted 0")
+    ticking(run, "the first end", lambda journal: of(journal, "Nav.Pilot")[-1] == "finish -> accepted 0")
+    for lives in (2, 3):
+        expect("a restart", run.ask("restart NAV"), "accepted 0")
+        until(f"end {lives}", lambda: of(run.journal(), "Nav.Pilot").count("finish -> accepted 0") == lives)
+    expect("a right that comes back", run.ask("remove 2"), "accepted 0")
+    expect("a restart with the right", run.ask("restart Nav"), "accepted 0")
+    until("a call of the last life", lambda: of(run.journal(), "Nav.Pilot")[-1].endswith("-> delayed"))
+    for command, due in (("restart Plant", "accepted 0"), ("restart Plan", "unknown unit"), ("restart", "bad command"),
+                         ("restart Nav Plant", "bad command"), ("halt", "accepted 0"), ("restart Plant", "halted")):
+        expect(command, run.ask(command), due)
+    out, err, status = run.end()
+    lines = err.splitlines()
+    expect_that("the note of a task that is there", lines.count("note: Nav.Pilot is still there: delayed") == 1, lines)
+    expect_that("the ends of each life", lines.count("task Nav.Pilot ended: return") == 3, lines)
+    expect_that("quit behind restarts", re.fullmatch(r"entries \d+\n", out) and status == 0, (out, status))
+
+
 def halt_below(program):
     """A run ends by itself when its journal has little room."""
     script = "@host.toml\nbudget = 1000000\n" + unit(PLANT) + unit(free("Bad")) + "@list\nallow * * *\n@run\n"
@@ -1185,7 +1208,7 @@ def main():
     program = os.path.abspath(sys.argv[1]) if sys.argv[1:] else os.path.join(TOP, "crates/ravenhost/out/ravenhost")
     named = sys.argv[2:]
     for part in (commands, row, device, two_devices, deepest, deepest_of_all, live, no_thread, refused, closed, edges, ticks, usage, prompt,
-                 stops, all_flags, quota, halt_below, lasting, unread, come, reasons, console, told_at_console, columns, notes_at_commands, explains,
+                 stops, all_flags, quota, restarts, halt_below, lasting, unread, come, reasons, console, told_at_console, columns, notes_at_commands, explains,
                  advised, unended_loads, end_status, sections_end):
         if named and part.__name__ not in named:
             continue

@@ -209,6 +209,11 @@ int32_t rh_halt(rh_host *host);
  * the capacity are 10^12 or more together. */
 int32_t rh_archive(rh_host *host, size_t number);
 
+/* Restarts the unit of a name, by the operator: its objects are as at first, and its tasks, all of which have ended, begin anew, as do
+ * their texts and the count of its allowance. RH_BUSY while a task of it is there, or an object of it is in use; RH_FULL where there
+ * isn't room for the restart and the ends of its tasks; RH_UNKNOWN_NAME where no such unit is loaded. */
+int32_t rh_restart(rh_host *host, const char *unit, size_t length);
+
 /* The number of a task by its name, `Unit.Task`; of an operation by that of its object, `Unit.Object`, and its own. RH_DONE, or
  * RH_UNKNOWN_NAME, and then nothing is written. Numbers stay when more is loaded. */
 int32_t rh_find_actor(rh_host *host, const char *name, size_t length, size_t *actor);

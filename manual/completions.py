@@ -24,7 +24,7 @@ QUESTIONS = {"refusals": ("since", "by", "of"), "waits": ("since", "by", "of"), 
              "state": (), "explain": (), "timeline": ("by", "of", "from", "to", "text", "svg"), "export": ()}
 
 # Commands that a run is sent.
-SENT = "append remove replace tick halt journal raise load quit"
+SENT = "append remove replace tick halt restart journal raise load quit"
 
 # What completes a value of no listed words, or a word that is no flag, by the name that the help gives it.
 FILES, FOLDERS, COMMANDS, NOTHING = "files", "folders", "commands", "nothing"

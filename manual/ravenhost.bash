@@ -47,7 +47,7 @@ _ravenhost_launcher_subcommands() {
     echo "new send refusals waits access who hits whatif state explain timeline export"
 }
 _ravenhost_sent() {
-    echo "append remove replace tick halt journal raise load quit"
+    echo "append remove replace tick halt restart journal raise load quit"
 }
 
 # What the value of a flag is; nothing where it takes none.

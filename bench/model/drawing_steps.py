@@ -148,6 +148,13 @@ class Drawer(SectionDrawer):
         number = dice.randint(host.archived, host.entries) if chance(dice, .5) else near
         return [cased(dice, "operator"), "archive", self.number(number if chance(dice, .95) else abs(dice.choice(ODD_TICKS)))]
 
+    def draw_restart(self) -> list[str]:
+        """A restart, most often of a unit whose tasks have all finished."""
+        dice, units = self.dice, list(self.host.catalogue.units.values())
+        over = [unit for unit in units if all(task.mode == "ended" for task in unit.tasks)]
+        unit = dice.choice(over if over and chance(dice, .8) else units)
+        return [cased(dice, "operator") if chance(dice, .95) else self.actor(), "restart", cased(dice, unit.name)]
+
     def draw_clock(self) -> list[str]:
         return self.named(self.callers(), "clock")
 
@@ -197,8 +204,9 @@ class Drawer(SectionDrawer):
 
     def weights(self) -> dict[Callable[[], list[str]], float]:
         return {self.draw_resume: 15, self.draw_settle: 20, self.draw_end: 20, self.draw_call: 30, self.draw_service: 30,
-                self.draw_suspension: 14, self.draw_delay: 6, self.draw_tick: 6, self.draw_clock: 2, self.draw_fire: 12, self.draw_finish: 6 if self.host.is_halted else 1,
-                self.draw_halt: 3, self.draw_archive: 3 if self.host.room() > 3 else 12, self.draw_change: 6, self.draw_revocation: 10, self.draw_stray: 8}
+                self.draw_suspension: 14, self.draw_delay: 6, self.draw_tick: 6, self.draw_clock: 2, self.draw_fire: 12, self.draw_finish: 6 if self.host.is_halted else 2,
+                self.draw_halt: 3, self.draw_archive: 3 if self.host.room() > 3 else 12, self.draw_restart: 3, self.draw_change: 6,
+                self.draw_revocation: 10, self.draw_stray: 8}
 
     def step_words(self) -> list[str]:
         draws = self.weights()

@@ -62,6 +62,9 @@ class SharedObject:
     def full_name(self) -> str:
         return f"{self.unit}.{self.name}"
 
+    def starts(self) -> list[int]:
+        return [scalar.start for scalar in self.scalars]
+
     def entries(self) -> int:
         return sum(operation.kind == "entry" for operation in self.operations)
 
@@ -239,7 +242,7 @@ class Catalogue:
                           if operation.line is not None}
         for target in unit.objects:
             target.unit = unit.name
-            target.values = [scalar.start for scalar in target.scalars]
+            target.values = target.starts()
             self.objects[folded(target.full_name())] = target
         for task in unit.tasks:
             self.tasks[folded(task.full_name())] = task

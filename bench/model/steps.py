@@ -42,7 +42,11 @@ class Change(NamedTuple):
     lines: list[Line]
 
 
-Request = Call | End | Plain | Timed | Goes | Change
+class Restart(NamedTuple):
+    unit: str
+
+
+Request = Call | End | Plain | Timed | Goes | Change | Restart
 
 
 def read_call(words: list[str]) -> Call:
@@ -75,6 +79,11 @@ def read_timed(word: str, words: list[str]) -> Timed:
     ensure(len(words) == 1)
     ensure(word != "archive" or number(words[0]) >= 0)
     return Timed(word, number(words[0]))
+
+
+def read_restart(words: list[str]) -> Restart:
+    ensure(len(words) == 1)
+    return Restart(identifier(words[0]))
 
 
 def read_go(words: list[str]) -> Goes:
@@ -112,6 +121,6 @@ def read_step(words: list[str]) -> tuple[str, Request]:
         return actor, read_plain(word, rest)
     if word in ("delay", "tick", "archive"):
         return actor, read_timed(word, rest)
-    forms = {"call": read_call, "end": read_end, "go": read_go}
+    forms = {"call": read_call, "end": read_end, "go": read_go, "restart": read_restart}
     ensure(word in forms)
     return actor, forms[word](rest)

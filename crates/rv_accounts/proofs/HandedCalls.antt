@@ -7,7 +7,7 @@ use Rattle.std.proofs.lemmas.Bool.Decides.{nat_tests}
 use Rattle.rv_access.specs.Words.{Words as Lines}
 use Rattle.rv_shape.specs.Catalogue.{first_of}
 use Rattle.rv_shape.specs.Shape.{Shape}
-use Rattle.rv_event.specs.Past.{if_named, is_own, last_queued, next_of, or_else, queued_by, scalars, stance, stance_of}
+use Rattle.rv_event.specs.Past.{if_named, is_own, last_queued, next_of, or_else, queued_by, renews_task, scalars, stance, stance_of}
 use Rattle.rv_event.specs.Recorded.{recorded}
 use Rattle.rv_event.specs.declared.entry.Answer.{Answer}
 use Rattle.rv_event.specs.declared.entry.Answer.TheVariants as Answers
@@ -33,7 +33,7 @@ use Rattle.rv_history.proofs.Growing.{front_is}
 use Rattle.rv_history.proofs.Handing.{handed_wakes}
 use Rattle.rv_history.proofs.Room.{legal_solvent}
 use Rattle.rv_history.proofs.Silent.{neither}
-use Rattle.rv_history.proofs.Stances.{other_queued, own_stances, queued_actor}
+use Rattle.rv_history.proofs.Stances.{calm_stance, other_queued, own_stances, queued_actor, renewed_stance}
 use Rattle.rv_history.proofs.Tells.{out_tells}
 use Rattle.rv_meant.specs.Histories.{ask_of, asked_in, history_of}
 use Rattle.rv_accounts.specs.Given.{HandsScalars, HandedCallsGiveScalars}
@@ -80,8 +80,8 @@ own_first true t s e n = n
 own_first false t s e n = absurd (cc e)
 
 -- one that was queued hasn't been handed the object yet
-pub still_waits : (a o p : ℕ) (vs : List ℤ) (past : List Entry) → is_handed (stance a (Asked a (Call o p vs) Words.Queued ∷ past)) ≡ false
-still_waits a o p vs past = own_first (eqb a a) _ (stance a past) (itself a) refl
+pub still_waits : (shapes : List Shape) (a o p : ℕ) (vs : List ℤ) (past : List Entry) → is_handed (stance shapes a (Asked a (Call o p vs) Words.Queued ∷ past)) ≡ false
+still_waits shapes a o p vs past = own_first (eqb a a) _ (stance shapes a past) (itself a) refl
 
 -- an end or a settle that hands over to this actor stands among these entries
 record HandOver (a : ℕ) (es : List Entry) : Type 0 where
@@ -95,17 +95,22 @@ one_more : (a : ℕ) (e : Entry) (es : List Entry) → HandOver a es → HandOve
 one_more a e es t = record { newer = e ∷ t.newer; older = t.older; of = t.of; request = t.request; split = ap (λ (l : List Entry). e ∷ l) t.split }
 
 -- one that was handed the object, and hadn't been before these entries
-handed_among : (a : ℕ) (es olds : List Entry) → is_handed (stance a olds) ≡ false → is_handed (stance a (es ++ olds)) ≡ true → HandOver a es
-handed_among a [] olds n h = absurd (cc (n, h))
-handed_among a (Load ∷ es) olds n h = one_more a Load es (handed_among a es olds n h)
-handed_among a (ListChange ∷ es) olds n h = one_more a ListChange es (handed_among a es olds n h)
-handed_among a (Asked b r w ∷ es) olds n h =
-    unless_named a (next_of (Asked b r w)) (eqb b a) (stance_of (Asked b r w)) (stance a (es ++ olds)) (HandOver a (Asked b r w ∷ es)) (own_not_handed b r w) h
-    (λ is. record { newer = []; older = es; of = b; request = r; split = ap (λ (z : Recorded). Asked b r z ∷ es) (done_by a b r w is) })
-    (λ before. one_more a (Asked b r w) es (handed_among a es olds n before))
+handed_among : (shapes : List Shape) (a : ℕ) (es olds : List Entry) → is_handed (stance shapes a olds) ≡ false → is_handed (stance shapes a (es ++ olds)) ≡ true → HandOver a es
+handed_among shapes a [] olds n h = absurd (cc (n, h))
+handed_among shapes a (Load ∷ es) olds n h = one_more a Load es (handed_among shapes a es olds n h)
+handed_among shapes a (ListChange ∷ es) olds n h = one_more a ListChange es (handed_among shapes a es olds n h)
+handed_among shapes a (Asked b r w ∷ es) olds n h = by_renewal (renews_task shapes a (Asked b r w)) refl (handed_among shapes a es olds n)
+  where
+    by_renewal : (t : Bool) → renews_task shapes a (Asked b r w) ≡ t → (is_handed (stance shapes a (es ++ olds)) ≡ true → HandOver a es) → HandOver a (Asked b r w ∷ es)
+    by_renewal true renews rest = absurd (cc (ap is_handed (renewed_stance shapes a (Asked b r w) (es ++ olds) renews), h))
+    by_renewal false calm rest =
+        unless_named a (next_of (Asked b r w)) (eqb b a) (stance_of (Asked b r w)) (stance shapes a (es ++ olds)) (HandOver a (Asked b r w ∷ es)) (own_not_handed b r w)
+        (sym (ap is_handed (calm_stance shapes a (Asked b r w) (es ++ olds) calm)) ∙ h)
+        (λ is. record { newer = []; older = es; of = b; request = r; split = ap (λ (z : Recorded). Asked b r z ∷ es) (done_by a b r w is) })
+        (λ before. one_more a (Asked b r w) es (rest before))
 
 -- one that is woken with scalars was handed the object
-pub woken_handed : (h : History) (a : ℕ) (scalars : List ℤ) → out h a Resume ≡ Answers.Woken (Some scalars) → is_handed (stance a h.past) ≡ true
+pub woken_handed : (h : History) (a : ℕ) (scalars : List ℤ) → out h a Resume ≡ Answers.Woken (Some scalars) → is_handed (stance h.shapes a h.past) ≡ true
 woken_handed h a scalars e = ap is_handed (out_tells h a Resume (Answers.Woken (Some scalars)) e (λ f. cc f)).1.0
 
 -- The last that an actor asked
@@ -236,7 +241,7 @@ handed_give h a o p vs s before room l e woken =
     let t : LastOwn a h.past q Answers.Queued = last_own h.limits a h.past h.shapes h.lists before q Answers.Queued l e in
     let queued : Words.Queued ≡ t.word = ap (λ (w : Option Recorded). word_or w t.word) t.word_is in
     let split : h.past ≡ t.newer ++ Asked a q Words.Queued ∷ t.older = t.split ∙ ap (λ (w : Recorded). t.newer ++ Asked a q w ∷ t.older) (sym queued) in
-    let f : HandOver a t.newer = handed_among a t.newer (Asked a q Words.Queued ∷ t.older) (still_waits a o p vs t.older) (subst (λ (es : List Entry). is_handed (stance a es) ≡ true) split (woken_handed h a s woken)) in
+    let f : HandOver a t.newer = handed_among h.shapes a t.newer (Asked a q Words.Queued ∷ t.older) (still_waits h.shapes a o p vs t.older) (subst (λ (es : List Entry). is_handed (stance h.shapes a es) ≡ true) split (woken_handed h a s woken)) in
     let start : Entry = Asked f.of f.request (Words.Done (HandedTo a)) in
     let whole : h.past ≡ f.newer ++ start ∷ (f.older ++ Asked a q Words.Queued ∷ t.older) =
     split ∙ (ap (λ (es : List Entry). es ++ Asked a q Words.Queued ∷ t.older) f.split ∙ append_assoc f.newer (start ∷ f.older) (Asked a q Words.Queued ∷ t.older)) in

@@ -18,13 +18,15 @@ use Rattle.rv_event.specs.declared.entry.Recorded.TheVariants as Words
 use Rattle.rv_event.specs.declared.entry.Request.{Request}
 use Rattle.rv_event.specs.declared.entry.Request.TheVariants.{Call, Settle}
 use Rattle.rv_event.specs.declared.entry.Stance.{Stance}
-use Rattle.rv_event.specs.declared.entry.Stance.TheVariants.{Free, InQueue, HandedOver, DroppedBy}
+use Rattle.rv_event.specs.declared.entry.Stance.TheVariants.{Free, InQueue, HandedOver, DroppedBy, Gone}
 use Rattle.rv_history.specs.declared.limits.Limits.{Limits}
 use Rattle.rv_history.specs.Due.{out}
 use Rattle.rv_history.specs.History.{History}
 use Rattle.rv_history.specs.Legal.{IsLegal}
 use Rattle.rv_history.proofs.Ending.{settling}
-use Rattle.rv_history.proofs.Silent.{neither}
+use Rattle.rv_history.proofs.Restarts.{stance_loaded, unrenewed}
+use Rattle.rv_history.proofs.Silent.{neither, stance_less}
+use Rattle.rv_history.proofs.Stances.{calm_stance}
 use Rattle.rv_history.proofs.Standing.{legal_standing, settler_at}
 use Rattle.rv_meant.specs.Histories.{history_of}
 use Rattle.rv_meant.specs.Settles.{is_settle}
@@ -52,15 +54,23 @@ named_still (Dropped m line) a own s e h = by_test (eqb m a) where
   by_test true = refl
   by_test false = ap (λ (o : Option Stance). in_queue (or_else o s)) e ∙ h
 
-queue_stays : (a : ℕ) (later past : List Entry) → list_any (is_own a) later ≡ false → in_queue (stance a past) ≡ true → in_queue (stance a (later ++ past)) ≡ true
-queue_stays a [] past none h = h
-queue_stays a (Asked b r w ∷ later) past none h =
+-- who is in a queue isn't gone, so no restart of its unit is recorded
+not_gone : (s : Stance) → in_queue s ≡ true → s ≡ Gone → ⊥
+not_gone s e gone = cc (sym (ap in_queue gone) ∙ e)
+
+queue_stays : (c : Limits) (a : ℕ) (later past : List Entry) (shapes : List Shape) (lists : List (List Lines)) → IsLegal c (later ++ past) shapes lists → list_any (is_own a) later ≡ false → in_queue (stance shapes a past) ≡ true
+    → in_queue (stance shapes a (later ++ past)) ≡ true
+queue_stays c a [] past shapes lists l none h = h
+queue_stays c a (Asked b r w ∷ later) past shapes lists l none h =
     let parts = neither (eqb b a) (list_any (is_own a) later) none in
-    named_still (next_of (Asked b r w)) a (if eqb b a then Some (stance_of (Asked b r w)) else None) (stance a (later ++ past))
-    (if_none (eqb b a) (stance_of (Asked b r w)) parts.0)
-    (queue_stays a later past parts.1 h)
-queue_stays a (Load ∷ later) past none h = queue_stays a later past none h
-queue_stays a (ListChange ∷ later) past none h = queue_stays a later past none h
+    let before = queue_stays c a later past shapes lists l.0 parts.1 h in
+    ap in_queue (calm_stance shapes a (Asked b r w) (later ++ past) (unrenewed (history_of c (later ++ past) shapes lists) b r w a l.1 (not_gone (stance shapes a (later ++ past)) before)))
+    ∙ named_still (next_of (Asked b r w)) a (if eqb b a then Some (stance_of (Asked b r w)) else None) (stance shapes a (later ++ past))
+    (if_none (eqb b a) (stance_of (Asked b r w)) parts.0) before
+queue_stays c a (Load ∷ later) past shapes lists l none h =
+    ap in_queue (ap (λ (ss : List Shape). stance ss a (later ++ past)) l.2 ∙ stance_loaded c (later ++ past) l.0 (l.1 ∷ []) lists a l.3)
+    ∙ queue_stays c a later past l.0 lists l.3 none (ap in_queue (stance_less c later past shapes l.0 l.1 lists a l.2 l.3) ∙ h)
+queue_stays c a (ListChange ∷ later) past shapes lists l none h = queue_stays c a later past shapes l.0 l.3 none h
 
 itself : (a : ℕ) → eqb a a ≡ true
 itself a = grind (arith, nat_tests)
@@ -70,12 +80,14 @@ own_now true t s e = refl
 own_now false t s e = absurd (cc e)
 
 -- right after a call was queued
-queued_now : (a o p : ℕ) (vs : List ℤ) (past : List Entry) → stance a (Asked a (Call o p vs) Words.Queued ∷ past) ≡ InQueue
-queued_now a o p vs past = own_now (eqb a a) InQueue (stance a past) (itself a)
+queued_now : (shapes : List Shape) (a o p : ℕ) (vs : List ℤ) (past : List Entry) → stance shapes a (Asked a (Call o p vs) Words.Queued ∷ past) ≡ InQueue
+queued_now shapes a o p vs past = own_now (eqb a a) InQueue (stance shapes a past) (itself a)
 
 -- one that was queued is in the queue, or was named since
-pub still_in_queue : (a o p : ℕ) (vs : List ℤ) (later past : List Entry) → list_any (is_own a) later ≡ false → in_queue (stance a (later ++ Asked a (Call o p vs) Words.Queued ∷ past)) ≡ true
-still_in_queue a o p vs later past none = queue_stays a later (Asked a (Call o p vs) Words.Queued ∷ past) none (ap in_queue (queued_now a o p vs past))
+pub still_in_queue : (c : Limits) (a o p : ℕ) (vs : List ℤ) (later past : List Entry) (shapes : List Shape) (lists : List (List Lines)) → IsLegal c (later ++ Asked a (Call o p vs) Words.Queued ∷ past) shapes lists
+    → list_any (is_own a) later ≡ false → in_queue (stance shapes a (later ++ Asked a (Call o p vs) Words.Queued ∷ past)) ≡ true
+still_in_queue c a o p vs later past shapes lists l none =
+    queue_stays c a later (Asked a (Call o p vs) Words.Queued ∷ past) shapes lists l none (ap in_queue (queued_now shapes a o p vs past))
 
 -- Settles
 
@@ -96,7 +108,7 @@ no_settle limits a o p vs newer older shapes lists w l none e =
     let past : List Entry = newer ++ Asked a (Call o p vs) Words.Queued ∷ older in
     let h : History = history_of limits past shapes lists in
     let t = settling h a w e in
-    not_free (stance a past) (settler_at h a t.body (legal_standing limits past shapes lists l) t.first) (still_in_queue a o p vs newer older none)
+    not_free (stance shapes a past) (settler_at h a t.body (legal_standing limits past shapes lists l) t.first) (still_in_queue limits a o p vs newer older shapes lists l none)
 
 -- so where it asked nothing since, no entry is its own
 pub quiet : (limits : Limits) (a o p : ℕ) (vs : List ℤ) (newer older : List Entry) (shapes : List Shape) (lists : List (List Lines)) → IsLegal limits (newer ++ Asked a (Call o p vs) Words.Queued ∷ older) shapes lists

@@ -17,10 +17,10 @@ use Rattle.rv_behind.specs.declared.event.Event.TheVariants.{Asks, Loads, Lists}
 abbrev pub asked_at : Limits → ℕ → List Event → Trace
 asked_at limits actor log = asks_of actor (history_at limits log)
 
--- in what was seen each event of the actor has the answer that was due, on a legal history
-abbrev pub OwnAreDue : Limits → ℕ → List Event → Type 0
-OwnAreDue limits actor seen =
-    (before after : List Event) (request : Request) (word : Recorded)
+-- in what was seen each event of the actor, behind what was seen at first, has the answer that was due, on a legal history
+abbrev pub OwnAreDue : Limits → ℕ → (since seen : List Event) → Type 0
+OwnAreDue limits actor since seen =
+    (before after : List Event) (request : Request) (word : Recorded) → StartsWith before since
     → seen ≡ before ++ Asks actor request word ∷ after → Legal (history_at limits (before ++ Asks actor request word ∷ []))
 
 -- an event of the actor, unless it is a settle, with the answer that was due behind this history

@@ -115,16 +115,16 @@ module _ (h : History) (actor : ℕ) where
 
   asked_fits : (s : Standing) (q : Request) → StandsAt h actor s → may_ask h.shapes s q ≡ true → fits_actor h actor q ≡ true
   asked_fits s q at may = by_wait s.waits refl where
-    settled_mode : mode_behind h.shapes actor h.past ≡ mode_by bodies (stance_behind actor h.past)
-    settled_mode = ap (λ (o : Option Body). or_settling o (mode_by bodies (stance_behind actor h.past))) at.settled
+    settled_mode : mode_behind h.shapes actor h.past ≡ mode_by bodies (stance_behind h.shapes actor h.past)
+    settled_mode = ap (λ (o : Option Body). or_settling o (mode_by bodies (stance_behind h.shapes actor h.past))) at.settled
 
     by_wait : (k : Bool) → s.waits ≡ k → fits_actor h actor q ≡ true
     by_wait true is =
         waiting_fits s.is_line s.inside q
-        (ap awaits settled_mode ∙ awaits_at bodies (stance_behind actor h.past) (subst (λ (k : Bool). is_at k (stance_behind actor h.past) ≡ true) is at.at))
+        (ap awaits settled_mode ∙ awaits_at bodies (stance_behind h.shapes actor h.past) (subst (λ (k : Bool). is_at k (stance_behind h.shapes actor h.past) ≡ true) is at.at))
         (subst (λ (k : Bool). may_ask h.shapes (record { is_line = s.is_line; inside = s.inside; waits = k }) q ≡ true) is may)
     by_wait false is =
-        let stands : stance_behind actor h.past ≡ stance.Free = free_at (stance_behind actor h.past) (subst (λ (k : Bool). is_at k (stance_behind actor h.past) ≡ true) is at.at) in
+        let stands : stance_behind h.shapes actor h.past ≡ stance.Free = free_at (stance_behind h.shapes actor h.past) (subst (λ (k : Bool). is_at k (stance_behind h.shapes actor h.past) ≡ true) is at.at) in
         free_fits s.is_line at.such (settled_mode ∙ ap (λ (z : Stance). mode_by bodies z) stands) q
         (subst (λ (os : List OperationNumber). may_ask h.shapes (free s.is_line os) q ≡ true) (sym (at.holds is))
         (subst (λ (k : Bool). may_ask h.shapes (record { is_line = s.is_line; inside = s.inside; waits = k }) q ≡ true) is may))
@@ -171,8 +171,8 @@ call_none h a q object (OnProtected site) e =
     each_refused IsNone (version h) (decided h (subject h a) (OnProtected site)) (first_at h a q object (OnProtected site)) (let_in h object site) (λ rule line found. refl)
     (λ none. by_two (excluded h object (is_function site.operation.kind)) (is_barred h object site.operation.kind) _)
 call_none h a q object (OnSuspension unit name wanted) e =
-    each_refused IsNone (version h) (decided h (subject h a) (OnSuspension unit name wanted)) (first_at h a q object (OnSuspension unit name wanted)) (performed (state object h.past) wanted) (λ rule line found. refl)
-    (λ none. performed_none (state object h.past) wanted)
+    each_refused IsNone (version h) (decided h (subject h a) (OnSuspension unit name wanted)) (first_at h a q object (OnSuspension unit name wanted)) (performed (state h.shapes object h.past) wanted) (λ rule line found. refl)
+    (λ none. performed_none (state h.shapes object h.past) wanted)
 
 fire_none : (h : History) (a : ℕ) (n : Option OperationNumber) → handler h.shapes (a - 1) ≡ n → IsNone (due_fire h a n)
 fire_none h a None is = refl
@@ -217,9 +217,10 @@ table_none h a s (request.Call object operation values) may f =
 table_none h a s (request.Complete scalars exit) may f =
     end_none h scalars exit (innermost h.shapes a h.past) (second_of_both (in_body (mode_behind h.shapes a h.past)) (end_fits h.shapes scalars exit (innermost h.shapes a h.past)) f)
 table_none h a s request.Settle may f = absurd (cc may)
-table_none h a s request.Resume may f = resume_none h a (stance_behind a h.past) (to_settle h.shapes a h.past) (held h.shapes a h.past) f
+table_none h a s request.Resume may f = resume_none h a (stance_behind h.shapes a h.past) (to_settle h.shapes a h.past) (held h.shapes a h.past) f
 table_none h a s (request.DelayUntil time) may f = delay_none h a time
 table_none h a s request.Fire may f = fire_none h a (handler h.shapes (a - 1)) refl
+table_none h a s (request.Restart unit) may f = absurd (cc may)
 table_none h a s q may f = refl
 
 within_none : (room : Bool) (r : Answer) → IsNone r → IsNone (within room r)

@@ -38,7 +38,7 @@ pub record StandsAt (h : History) (actor : ℕ) (s : Standing) : Type 0 where
   pub known : nat_lt actor (actors h.shapes) ≡ true
   pub such : is_such s.is_line (who h.shapes actor) ≡ true
   pub settled : to_settle h.shapes actor h.past ≡ None
-  pub at : is_at s.waits (stance_behind actor h.past) ≡ true
+  pub at : is_at s.waits (stance_behind h.shapes actor h.past) ≡ true
   pub holds : s.waits ≡ false → operations_of (held h.shapes actor h.past) ≡ s.inside
 
 -- what fits where an actor stands is never answered Misuse

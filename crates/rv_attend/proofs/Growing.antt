@@ -1,6 +1,6 @@
 -- What the operator has seen only grows.
 use Rattle.std.proofs.Common.{◌≡◌, ◌∙◌, ℕ, zero, suc, List, [], ◌∷◌, ◌++◌, Option, Some, None, Ok, Err, inl, inr, sym, ap, subst, append-nil}
-use Rattle.std.specs.Prelude.{Result, ◌⊎◌}
+use Rattle.std.specs.Prelude.{Bool, true, false, Result, ◌⊎◌}
 use Rattle.rv_code.specs.declared.body.UnitBodies.{UnitBodies}
 use Rattle.rv_behind.specs.Acting.{Does}
 use Rattle.rv_behind.specs.Events.{by, catalogue_of}
@@ -18,7 +18,7 @@ use Rattle.rv_port.specs.Ports.{pass_of}
 use Rattle.rv_port.specs.Traces.{Passing}
 use Rattle.rv_shape.specs.Shape.{Shape}
 use Rattle.rv_shell.specs.Orders.{order_of}
-use Rattle.rv_shell.specs.Serving.{Carries, Obeys, ReadsOrWorn, RequestsOrWorn, Serves}
+use Rattle.rv_shell.specs.Serving.{Carries, Obeys, ReadsOrWorn, RequestsOrWorn, Seeks, Serves}
 use Rattle.rv_shell.specs.declared.order.Order.{Order}
 use Rattle.rv_shell.specs.declared.order.Order.TheVariants as Orders
 use Rattle.rv_shell.specs.declared.shell.LineFault.{LineFault}
@@ -26,14 +26,16 @@ use Rattle.rv_shell.specs.declared.shell.LineFault.TheVariants as Faults
 use Rattle.rv_shell.specs.declared.shell.Next.{Next}
 use Rattle.rv_shell.specs.declared.shell.Next.TheVariants as Nexts
 use Rattle.rv_staff.specs.Ending.{Halts}
-use Rattle.rv_staff.specs.Giving.{GivesOne, GivesUpTo, Starts}
+use Rattle.rv_shape.specs.Units.{is_unit, task_unit}
+use Rattle.rv_staff.specs.Giving.{EachUpTo, GivesOne, GivesUpTo, Starts}
+use Rattle.rv_staff.specs.Restarting.{Restarts, TakesUpIf, TakesUpOne}
 use Rattle.rv_staff.specs.Saying.{Known}
 use Rattle.rv_staff.specs.Staffs.{Staffed}
 use Rattle.rv_text.specs.Words.{words}
 use Rattle.rv_turn.specs.Histories.{StartsWith}
 use Rattle.rv_turn.specs.Passes.{Acted, IsWorn}
 use Rattle.rv_turn.specs.declared.pass.Worn.{Worn as Spent}
-use Rattle.rv_run.specs.Commanding.{Admission, Commands, Follows, LoadsIn, LoadsNext, LoadsText, StartsOn}
+use Rattle.rv_run.specs.Commanding.{Admission, Commands, Follows, LoadsIn, LoadsNext, LoadsText, RestartsIn, RestartsNext, RestartsUnit, SaysOfProcess, StartsOn, TakesUpOn, was_accepted}
 use Rattle.rv_run.specs.Staging.{Outcome, Stage}
 use Rattle.rv_run.specs.declared.command.Goes.TheVariants.{On, Out}
 
@@ -79,11 +81,16 @@ pages_later old new v w from (Err Faults.NoMemory) (inl none) = acted_later v w 
 pages_later old new v w from (Err Faults.NoMemory) (inr pages) = acted_later v w (Ask.Read from) (Gives.Read pages.page) pages.told
 pages_later old new v w from (Err Faults.Worn) none = worn_later v w none.0
 
+seeks_later : (old new : Known) (v w : Passing) (unit : Option ℕ) (result : Result Next LineFault) → Seeks old new v w unit result → Later v w
+seeks_later old new v w (Some unit) result told = same_later v w told.0
+seeks_later old new v w None result none = same_later v w none.0
+
 obeys_later : (old new : Known) (v w : Passing) (order : Order) (result : Result Next LineFault) → Obeys old new v w order result → Later v w
 obeys_later old new v w (Orders.Change (Ok change)) result obeys = requests_later old new v w _ result obeys
 obeys_later old new v w (Orders.Change (Err fault)) result obeys = same_later v w obeys.0
 obeys_later old new v w (Orders.Tick ticks) result obeys = requests_later old new v w _ result obeys
 obeys_later old new v w Orders.Halt result obeys = requests_later old new v w _ result obeys
+obeys_later old new v w (Orders.Restart unit) result obeys = seeks_later old new v w _ result obeys
 obeys_later old new v w (Orders.Raise line) result obeys = same_later v w obeys.0
 obeys_later old new v w Orders.Load result obeys = same_later v w obeys.0
 obeys_later old new v w (Orders.Journal from) result obeys = pages_later old new v w from result obeys
@@ -115,6 +122,43 @@ pub starts_later : {X E : Type 0} (v w : Staffed) (old new : Known) (result : Re
 starts_later v w old new (Ok x) starts = gives_up_later _ v w starts.0 starts.1
 starts_later v w old new (Err error) starts = gives_up_later starts.0 v w starts.1 starts.2
 
+-- Restarts
+
+takes_up_later : (unit : ℕ) (v w : Staffed) (actor : ℕ) (text : List ℕ) (own : Bool) → TakesUpIf own v w actor text → Later v.control w.control
+takes_up_later unit v w actor text true (inl takes) =
+    same_later v.control w.control (ap (λ (s : Staffed). s.control) takes.is ∙ takes.again.control)
+takes_up_later unit v w actor text true (inr away) = same_later v.control w.control (ap (λ (s : Staffed). s.control) away.0)
+takes_up_later unit v w actor text false away = same_later v.control w.control (ap (λ (s : Staffed). s.control) away.0)
+
+takes_up_to_later : (unit count : ℕ) (v w : Staffed) (text : List ℕ) → EachUpTo (TakesUpOne unit) count v w text → Later v.control w.control
+takes_up_to_later unit zero v w text none = same_later v.control w.control (ap (λ (s : Staffed). s.control) none.0)
+takes_up_to_later unit (suc count) v w text takes =
+    later_on v.control takes.0.control w.control (takes_up_to_later unit count v takes.0 takes.1 takes.3)
+    (takes_up_later unit takes.0 w (suc count) takes.2 (is_unit unit (task_unit (catalogue_of takes.0.control.seen) (suc count))) takes.4)
+
+restarts_later : {X E : Type 0} (unit : ℕ) (v w : Staffed) (old new : Known) (result : Result X E) → Restarts unit v w old new result → Later v.control w.control
+restarts_later unit v w old new (Ok x) restarts = takes_up_to_later unit _ v w restarts.0 restarts.1
+restarts_later unit v w old new (Err error) restarts = takes_up_to_later unit restarts.0 v w restarts.1 restarts.2
+
+takes_up_on_later : (restarted : Bool) (unit : ℕ) (v w : Staffed) (old new : Known) (goes result : Outcome) → TakesUpOn restarted unit v w old new goes result → Later v.control w.control
+takes_up_on_later true unit v w old new (Ok On) result takes = restarts_later unit v w old new result takes.0
+takes_up_on_later true unit v w old new (Ok Out) result same = same_later v.control w.control (ap (λ (s : Staffed). s.control) same.0)
+takes_up_on_later true unit v w old new (Err failure) result same = same_later v.control w.control (ap (λ (s : Staffed). s.control) same.0)
+takes_up_on_later false unit v w old new goes result same = same_later v.control w.control (ap (λ (s : Staffed). s.control) same.0)
+
+restart_later : (unit : ℕ) (v w : Passing) (answer : Result Answer Spent) → RestartsIn v unit answer w → Later v w
+restart_later unit v w (Ok r) told = told_later v w (Ask.Step (asks.Restart unit)) r told
+restart_later unit v w (Err x) worn = worn_later v w worn
+
+restarts_next_later : (s t : Stage) (unit : ℕ) (result : Outcome) → RestartsNext s t unit result → Later s.staff.control t.staff.control
+restarts_next_later s t unit result next = by_process next.restarts
+  where
+    by_process : RestartsUnit unit s.staff t.staff s.written t.written result ⊎ SaysOfProcess s.staff t.staff s.written t.written result → Later s.staff.control t.staff.control
+    by_process (inl r) =
+        later_on s.staff.control r.asked t.staff.control (restart_later unit s.staff.control r.asked r.answer r.told)
+        (takes_up_on_later (was_accepted r.answer) unit (record s.staff { control = r.asked }) t.staff r.noted t.written r.goes result r.taken)
+    by_process (inr says) = same_later s.staff.control t.staff.control (ap (λ (x : Staffed). x.control) says.0)
+
 -- Commands
 
 starts_on_later : (v w : Staffed) (old new : Known) (goes result : Outcome) → StartsOn v w old new goes result → Later v.control w.control
@@ -137,6 +181,7 @@ loads_next_later s t result (inr (inr fails)) = same_later _ _ (ap (λ (x : Staf
 follows_later : (admits : Admission) (s t : Stage) (next : Result Next LineFault) (result : Outcome) → Follows admits s t next result → Later s.staff.control t.staff.control
 follows_later admits s t (Ok Nexts.Load) result follows = loads_next_later s t result follows
 follows_later admits s t (Ok (Nexts.Raise line)) result follows = same_later _ _ (ap (λ (x : Staffed). x.control) follows.same)
+follows_later admits s t (Ok (Nexts.Restart unit)) result follows = restarts_next_later s t unit result follows
 follows_later admits s t (Ok Nexts.Go) result follows = same_later _ _ (ap (λ (x : Staffed). x.control) follows.same)
 follows_later admits s t (Ok Nexts.Quit) result follows = same_later _ _ (ap (λ (x : Staffed). x.control) follows.same)
 follows_later admits s t (Err fault) result follows = same_later _ _ (ap (λ (x : Staffed). x.control) follows.same)

@@ -56,6 +56,7 @@ follows_any : (admits : Admission) (s t : Stage) (next : Result Next LineFault) 
 follows_any admits s t (Ok Nexts.Go) result is done = done
 follows_any admits s t (Ok Nexts.Load) result is done = absurd (cc is)
 follows_any admits s t (Ok (Nexts.Raise line)) result is done = absurd (cc is)
+follows_any admits s t (Ok (Nexts.Restart unit)) result is done = absurd (cc is)
 follows_any admits s t (Ok Nexts.Quit) result is done = absurd (cc is)
 follows_any admits s t (Err fault) result is done = done
 

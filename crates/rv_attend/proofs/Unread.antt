@@ -32,6 +32,7 @@ load_none s t (Err failure) on (inr (inr fails)) none = absurd (cc on)
 follows_none : (admits : Admission) (s t : Stage) (next : Result Next LineFault) (result : Outcome) → result ≡ Ok On → Follows admits s t next result → s.left ≡ Some [] → t.left ≡ Some []
 follows_none admits s t (Ok Nexts.Load) result on follows none = load_none s t result on follows none
 follows_none admits s t (Ok (Nexts.Raise line)) result on follows none = follows.unread.left ∙ none
+follows_none admits s t (Ok (Nexts.Restart unit)) result on follows none = follows.unread.left ∙ none
 follows_none admits s t (Ok Nexts.Go) result on follows none = follows.unread.left ∙ none
 follows_none admits s t (Ok Nexts.Quit) result on follows none = follows.unread.left ∙ none
 follows_none admits s t (Err fault) result on follows none = follows.unread.left ∙ none

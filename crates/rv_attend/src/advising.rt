@@ -3,11 +3,15 @@
 use crate::attention::Attention;
 use rv_access::Change;
 use rv_advice::{change_advice, ticks_advice, word_advice};
+use rv_console::mode_word;
+use rv_event::entry::Mode;
 use rv_fault::text_unit;
 use rv_input::Input;
 use rv_never::{firing_text, load_text};
 use rv_notes::change_text;
+use rv_shape::actor::FIRST_TASK;
 use rv_shape::catalogue::Catalogue;
+use rv_shape::name::Name;
 use rv_shell::Order;
 use rv_staff::say;
 use rv_step::reading::StepError;
@@ -142,9 +146,65 @@ fn tell_raise<E: Write>(
     }
 }
 
+// Whether an actor is a task of this unit.
+fn is_task_of(catalogue: &Catalogue, actor: usize, unit: usize) -> bool {
+    match catalogue.unit_of_task(actor) {
+        Some(of) => of == unit,
+        None => false,
+    }
+}
+
+/// Whether a task of a unit is still there, so that it can't be restarted.
+pub(crate) fn is_there(catalogue: &Catalogue, view: &View, unit: usize) -> bool {
+    let mut actor = FIRST_TASK;
+    for mode in view.modes() {
+        if !matches!(*mode, Mode::Ended) && is_task_of(catalogue, actor, unit) {
+            return true;
+        }
+        actor = actor.saturating_add(1);
+    }
+    false
+}
+
+// Tells that a task is still there, and at what.
+fn tell_there<E: Write>(
+    alloc: Global,
+    catalogue: &Catalogue,
+    actor: usize,
+    mode: Mode,
+    errors: &mut E,
+) {
+    let who = catalogue.who(actor);
+    let word = mode_word(mode);
+    if let Ok(text) = format!(in alloc; "note: {who} is still there: {word}\n") {
+        let _ = say(errors, text.as_str());
+    }
+}
+
+// Tells which tasks of a unit are still there, so that it can't be restarted.
+fn tell_restart<E: Write>(
+    alloc: Global,
+    catalogue: &Catalogue,
+    view: &View,
+    unit: &Name,
+    errors: &mut E,
+) {
+    let Some(unit) = catalogue.find_unit(unit.as_str()) else {
+        return;
+    };
+    let mut actor = FIRST_TASK;
+    for mode in view.modes() {
+        let mode = *mode;
+        if !matches!(mode, Mode::Ended) && is_task_of(catalogue, actor, unit) {
+            tell_there(alloc, catalogue, actor, mode, errors);
+        }
+        actor = actor.saturating_add(1);
+    }
+}
+
 /// Tells of a command over what is shown of the host, behind which these bytes come of the input: what a change lacks and brings,
-/// why the handler of a line can't start now, and what can never work of a unit that is loaded. Of a halted host only `raise` is
-/// told of.
+/// why the handler of a line can't start now, who is still there of a unit that is to be restarted, and what can never work of a unit
+/// that is loaded. Of a halted host only `raise` is told of.
 pub(crate) fn tell_over<E: Write>(
     alloc: Global,
     catalogue: &Catalogue,
@@ -158,6 +218,9 @@ pub(crate) fn tell_over<E: Write>(
         Order::Change(Ok(change)) if !view.is_halted() => {
             tell_change(alloc, catalogue, view, change, errors)
         }
+        Order::Restart(unit) if !view.is_halted() => {
+            tell_restart(alloc, catalogue, view, unit, errors)
+        }
         Order::Load if !view.is_halted() => tell_load(alloc, catalogue, view, behind, errors),
         _ => {}
     }
@@ -166,7 +229,7 @@ pub(crate) fn tell_over<E: Write>(
 /// Whether of such a command something may be told over what is shown of the host.
 pub(crate) fn is_told_over(order: &Order) -> bool {
     match order {
-        Order::Change(Ok(_)) | Order::Load | Order::Raise(_) => true,
+        Order::Change(Ok(_)) | Order::Load | Order::Raise(_) | Order::Restart(_) => true,
         _ => false,
     }
 }

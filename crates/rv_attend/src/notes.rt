@@ -6,7 +6,7 @@ ghost use Rattle.rv_attend.specs.Chores.{Chores};
 use crate::advising::{is_of_console, is_told_over, tell_over, tell_plain};
 use crate::attention::Attention;
 use crate::follower::Follower;
-use crate::reserve::keep_books;
+use crate::reserve::{keep_books, keep_restart};
 use crate::viewing::view_of;
 use rv_input::Input;
 use rv_shell::Order;
@@ -118,6 +118,7 @@ pub(crate) fn keep_word<T, F>(follower: &mut Follower<'_, T, F>, line: &str)
 }
 
 /// Tells the notes on a command, where notes are told, explains what stands against it, where that is asked for, and counts it.
+#[tactic(auto, using(crate::proofs::Chores::chores_on))]
 pub(crate) fn tell_before<T: Wait, E: Write, F>(
     rt: &T,
     session: &mut Session,
@@ -140,6 +141,14 @@ pub(crate) fn tell_before<T: Wait, E: Write, F>(
         &*session,
         &follower.asked,
         input,
+        read,
+        &mut follower.reserve,
+        errors,
+    );
+    keep_restart(
+        rt,
+        session,
+        &follower.asked,
         read,
         &mut follower.reserve,
         errors,

@@ -2,23 +2,29 @@
 //! command leave less.
 
 ghost use Rattle.std.specs.Prelude.{◌≡◌, None, is_some, true};
+ghost use Rattle.rv_attend.specs.Chores.{Chores};
 ghost use Rattle.rv_attend.specs.Reserving.{fit_if};
 
+use crate::advising::is_there;
 use crate::archiving::small_line;
 use crate::attention::Attention;
 use crate::letting::{least_with, tasks_in};
+use crate::viewing::view_of;
 use rv_code::Unit;
 use rv_fault::text_unit;
 use rv_input::Input;
 use rv_room::Books;
 use rv_shape::catalogue::Catalogue;
+use rv_shape::name::Name;
 use rv_shape::shape::UnitShape;
 use rv_shell::Order;
-use rv_staff::{Session, say};
+use rv_staff::{Session, Staff, say};
 use rv_step::reading::StepError;
 use rv_tally::grouped;
+use rv_view::View;
 use std::alloc::{AllocError, Global};
 use std::io::Write;
+use std::sync::Wait;
 
 // What is said of a load whose unit isn't let in.
 const REFUSED: &str = "note: this load is answered full";
@@ -133,7 +139,7 @@ pub(crate) fn is_kept<E: Write>(
     false
 }
 
-// Tells of a command behind which a journal no longer holds what is kept.
+// Tells of a command behind which a journal no longer holds what is kept. A restart counts as a unit more.
 fn tell_less<E: Write>(
     session: &Session,
     books: &Books,
@@ -150,7 +156,8 @@ fn tell_less<E: Write>(
         .catalogue()
         .shapes()
         .len()
-        .saturating_add(more);
+        .saturating_add(more)
+        .saturating_add(books.restarts as usize);
     let line = need_line(
         session.alloc,
         what,
@@ -275,5 +282,71 @@ pub(crate) fn keep_books<E: Write>(
     }
     if let (Some(books), Ok(order)) = (reserve.books, read) {
         reserve.books = Some(behind_command(session, asked, books, order, errors));
+    }
+}
+
+// How many tasks begin anew with a unit of this name, if there is one and it has none that is still there.
+fn renewed(catalogue: &Catalogue, view: &View, unit: &Name) -> Option<usize> {
+    let Some(unit) = catalogue.find_unit(unit.as_str()) else {
+        return None;
+    };
+    if is_there(catalogue, view, unit) {
+        return None;
+    }
+    match catalogue.unit(unit) {
+        Some(shape) => Some(tasks_in(shape)),
+        None => None,
+    }
+}
+
+// The same over what is shown of the host.
+#[tactic(auto, using(crate::proofs::Chores::no_chores))]
+fn renewed_by<T: Wait>(rt: &T, staff: &mut Staff, unit: &Name) -> Option<usize>
+    ensures chores { Chores staff.old.control staff.new.control }
+    ensures crew { staff.new.crew ≡ staff.old.crew }
+{
+    match view_of(rt, staff) {
+        Some(view) => renewed(staff.catalogue(), &view, unit),
+        None => None,
+    }
+}
+
+// The unit that a command restarts, if it restarts one.
+fn restarted(read: &Result<Order, StepError>) -> Option<&Name> {
+    match read {
+        Ok(Order::Restart(unit)) => Some(unit),
+        _ => None,
+    }
+}
+
+/// Counts a restart that is to be carried out, and tells, where notes are told, of one that leaves less than is kept. One of a unit that has
+/// a task still there isn't counted, since it isn't carried out.
+#[tactic(auto, using(crate::proofs::Chores::no_chores))]
+pub(crate) fn keep_restart<T: Wait, E: Write>(
+    rt: &T,
+    session: &mut Session,
+    asked: &Attention,
+    read: &Result<Order, StepError>,
+    reserve: &mut Reserve,
+    errors: &mut E,
+)
+    ensures chores { Chores session.old.staff.control session.new.staff.control }
+    ensures crew { session.new.staff.crew ≡ session.old.staff.crew }
+{
+    let Some(books) = reserve.books else {
+        return;
+    };
+    let Some(unit) = restarted(read) else {
+        return;
+    };
+    let Some(tasks) = renewed_by(rt, &mut session.staff, unit) else {
+        return;
+    };
+    let next = books.with_restart(tasks);
+    reserve.books = Some(next);
+    if asked.tells {
+        let need = next.needs(session.staff.catalogue());
+        let what = "note: less room is kept for list changes behind this restart";
+        tell_less(&*session, &next, what, 0, need, errors);
     }
 }

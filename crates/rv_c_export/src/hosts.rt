@@ -5,7 +5,7 @@ ghost use Rattle.rv_access.specs.declared.change.Change.TheVariants as Changes;
 ghost use Rattle.rv_event.specs.declared.entry.Request.TheVariants.{Archive, Clock, DelayUntil, Halt, Quit, Resume, Settle, Tick};
 ghost use Rattle.rv_c_host.specs.Asked as asked;
 ghost use Rattle.rv_c_host.specs.Asked.{Asks, AsksIf, FiresLine, GoesOn, Orders};
-ghost use Rattle.rv_c_host.specs.Carried.{Carries, FindsActor, FindsTarget, ReadsLine, ReadsList, ReadsShape, TellsWords};
+ghost use Rattle.rv_c_host.specs.Carried.{Carries, FindsActor, FindsTarget, ReadsLine, ReadsList, ReadsShape, RestartsNamed, TellsWords};
 ghost use Rattle.rv_c_host.specs.Made.{IsNew};
 ghost use Rattle.rv_c_host.specs.Numbers.{has_host, no_host};
 ghost use Rattle.rv_c_host.specs.States.{state};
@@ -140,6 +140,14 @@ pub extern "C" fn rh_archive(alloc: Global, host: &mut Handle, number: usize) ->
     ensures { Orders (Archive number) host.old.value host.new.value result }
 {
     rv_c_host::command(alloc, host, &Request::Archive(number))
+}
+
+/// As `rv_c_host::restart`.
+#[unsafe(no_mangle)]
+pub extern "C" fn rh_restart(alloc: Global, host: &mut Handle, unit: &[u8]) -> i32
+    ensures { RestartsNamed unit.now host.old.value host.new.value result }
+{
+    rv_c_host::restart(alloc, host, unit)
 }
 
 /// As `rv_c_host::find_actor`.

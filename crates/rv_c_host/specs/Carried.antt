@@ -12,9 +12,9 @@ use Rattle.rv_history.specs.History.{History}
 use Rattle.rv_history.specs.Steps.{MayLackMemory, after_change, due_change}
 use Rattle.rv_code.specs.Bodies.{without_bodies}
 use Rattle.rv_code.specs.BodyView.{unit_view}
-use Rattle.rv_kept.specs.Keeping.{Loads}
+use Rattle.rv_kept.specs.Keeping.{Loads, Restarts}
 use Rattle.rv_kept.specs.declared.kept.Kept.{Kept}
-use Rattle.rv_shape.specs.Names.{object_number, operation_number, task_number}
+use Rattle.rv_shape.specs.Names.{object_number, operation_number, task_number, unit_number}
 use Rattle.rv_shape.specs.ShapeText.{shape_of}
 use Rattle.rv_text.specs.Words.{words}
 use Rattle.rv_c_text.specs.Laid.{Gets}
@@ -77,6 +77,21 @@ Puts found old new status = MatchOption found ((new ≡ old) × (status ≡ unkn
 abbrev pub FindsActor : List ℕ → Option Kept → ℕ → ℕ → ℤ → Type 0
 FindsActor name host old new status = MatchOption host ((new ≡ old) × (status ≡ no_host))
     (λ k. (found : Option ℕ) × IsNumberOf (task_number k.host.shapes) name found × Puts found old new status)
+
+-- a unit is restarted so, whose answer is its kind alone
+pub record RestartsUnit (unit : ℕ) (k new : Kept) (status : ℤ) : Type 0 where
+  pub answer : Answer
+  pub comes : Restarts unit k new answer
+  pub kind : status ≡ kind_of answer
+
+-- that of this name, if there is one; else all is as before
+abbrev pub RestartsFound : Option ℕ → Kept → Kept → ℤ → Type 0
+RestartsFound found k new status = MatchOption found ((new ≡ k) × (status ≡ unknown_name)) (λ unit. RestartsUnit unit k new status)
+
+-- the unit of a name is restarted behind a handle
+abbrev pub RestartsNamed : List ℕ → Option Kept → Option Kept → ℤ → Type 0
+RestartsNamed name old new status = MatchOption old ((new ≡ old) × (status ≡ no_host))
+    (λ k. (now : Kept) × (found : Option ℕ) × (new ≡ Some now) × IsNumberOf (unit_number k.host.shapes) name found × RestartsFound found k now status)
 
 -- the numbers of an object and of its operation, by their names
 abbrev pub IsTargetOf : History → List ℕ → List ℕ → Option Target → Type 0

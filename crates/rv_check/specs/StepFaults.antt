@@ -23,6 +23,7 @@ unless_known (Some found) = None
 -- what stands against a request: a call's object and operation have to be loaded, and a line for the list has to be one
 abbrev pub request_fault : List Shape → Asked → Option What
 request_fault shapes (Asks.Call object operation values) = unless_known (request_of shapes (Asks.Call object operation values))
+request_fault shapes (Asks.Restart unit) = unless_known (request_of shapes (Asks.Restart unit))
 request_fault shapes (Asks.Change (Err fault) number) = Some (Whats.List fault)
 request_fault shapes asked = None
 

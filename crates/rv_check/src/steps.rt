@@ -23,7 +23,7 @@ fn find_names(
     ensures { IsFound line (request_fault catalogue.now asked.now) result }
 {
     match asked {
-        Asked::Call(_, _, _) => match request_of(alloc, catalogue, asked) {
+        Asked::Call(_, _, _) | Asked::Restart(_) => match request_of(alloc, catalogue, asked) {
             Ok(Some(_)) => Ok(()),
             Ok(None) => Err(refused(line, What::UnknownName)),
             Err(_) => Err(Failure::Memory),

@@ -14,6 +14,7 @@ use Rattle.rv_console.specs.Console.{page_of}
 
 one : (asked : Asked) → page_of (of_step asked) ≡ None
 one (Asks.Call object operation values) = refl
+one (Asks.Restart unit) = refl
 one (Asks.Plain (Requests.Call object operation values)) = refl
 one (Asks.Plain (Requests.Complete scalars exit)) = refl
 one (Asks.Plain Requests.Settle) = refl
@@ -25,6 +26,7 @@ one (Asks.Plain Requests.Quit) = refl
 one (Asks.Plain (Requests.Tick ticks)) = refl
 one (Asks.Plain Requests.Halt) = refl
 one (Asks.Plain (Requests.Archive number)) = refl
+one (Asks.Plain (Requests.Restart unit)) = refl
 one (Asks.Go count) = refl
 one (Asks.Change change number) = refl
 

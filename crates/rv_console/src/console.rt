@@ -39,6 +39,7 @@ list            the list in force, its lines numbered
 status          the clock, the room, the tasks, who waits where, entries by unit
 journal         the next page of the journal, 50 entries
 journal N       the page from entry N on
+restart UNIT    a unit begins anew whose tasks have all ended
 halt            nothing new starts
 quit            the run ends
 ";

@@ -10,4 +10,5 @@ mod word;
 
 pub use console::{Console, HELP};
 pub use cut::cut_text;
+pub use status::mode_word;
 pub use word::{Word, word_of};

@@ -13,8 +13,8 @@ use rv_tally::{Tally, room_line};
 use rv_view::{Queue, View};
 use std::alloc::{AllocError, Global};
 
-// What a mode is called.
-fn mode_word(mode: Mode) -> &'static str
+/// What a mode is called.
+pub fn mode_word(mode: Mode) -> &'static str
     ensures { result.now ≡ mode_word mode }
 {
     match mode {

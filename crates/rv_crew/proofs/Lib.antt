@@ -3,3 +3,4 @@ pub mod Doing
 pub mod Turns
 pub mod Closes
 pub mod Parted
+pub mod Taking

@@ -1,5 +1,5 @@
 -- What the calls of a crew leave. (own)
-use Rattle.std.specs.Prelude.{◌≡◌, ℕ, ◌-◌, Bool, true, false, ◌==◌, if◌then◌else◌, is_some, map, List, [], ◌∷◌, ◌++◌, Option, Some, None}
+use Rattle.std.specs.Prelude.{◌≡◌, ℕ, ◌-◌, Bool, true, false, ◌==◌, if◌then◌else◌, is_some, map, remove, slice_get, List, [], ◌∷◌, ◌++◌, Option, Some, None}
 use Rattle.rv_turn.specs.Histories.{Each}
 use Rattle.rv_turn.specs.Passes.{Noted}
 use Rattle.rv_history.specs.declared.limits.Limits.{Limits}
@@ -11,6 +11,7 @@ use Rattle.rv_port.specs.Traces.{Passing}
 use Rattle.rv_port.specs.Ports.{Porting, pass_of, IsExplained}
 use Rattle.rv_port.specs.Closing.{IsClosed}
 use Rattle.rv_port.specs.Following.{FollowsUnless}
+use Rattle.rv_port.specs.Held.{held_by}
 use Rattle.rv_behind.specs.Events.{bodies_at, log_of}
 use Rattle.rv_behind.specs.declared.event.Event.{Event}
 use Rattle.rv_crew.specs.Teams.{EachTwo, Owed, Pays, Team, owing}
@@ -70,6 +71,15 @@ module _ {D : Type 0} {X : Type 0} {F : X → Type 0} {m : Mut ((x : X) × F x) 
 abbrev pub Joins : {D : Type 0} → (does : D → Porting → Porting → Type 0) → List Porting → List (Owed D) → List Porting → Type 0
 Joins does before running after = (back : List Porting) × EachTwo (Pays does) running back × (after ≡ before ++ back)
 
+-- A thread of the crew had ended whose port was this actor's, and gave back what it owed; the crew keeps neither. (own)
+pub record Takes {D : Type 0} (does : D → Porting → Porting → Type 0) (crew after : Team D) (actor : ℕ) (back : Porting) : Type 0 where
+  pub place : ℕ
+  pub thread : Owed D
+  pub there : slice_get crew.running place ≡ Some thread
+  pub whose : thread.port.actor ≡ actor
+  pub pays : Pays does thread back
+  pub is : after ≡ record crew { running = remove crew.running place }
+
 -- what every port keeps that is done
 abbrev pub Keeps : Porting → Type 0
 Keeps p = IsPorts (pass_of p) × IsExplained p
@@ -80,10 +90,10 @@ abbrev pub ExplainedIn : Limits → List Event → Porting → Type 0
 ExplainedIn limits log p = p.refused ≡ false → Explained limits log p.actor
 
 -- What a task asked in a history, of a host with these limits, is what its text asks, with so many requests of its own (9.2, 9.3):
--- where its port had asked nothing when its job began, and had seen the load of its body, and no bodies were refused to it. (own)
+-- where its port held nothing when its job began, and had seen the load of its body, and no bodies were refused to it. (own)
 abbrev pub TextFollowedIn : Limits → List Event → (budget : ℕ) → (began back : Porting) → Type 0
 TextFollowedIn limits log budget began back =
-    began.own ≡ [] → is_some (task_of (bodies_at began.seen) began.actor) ≡ true → back.refused ≡ false
+    held_by (pass_of began) ≡ 0 → is_some (task_of (bodies_at began.seen) began.actor) ≡ true → back.refused ≡ false
     → TextFollowed limits back.actor budget back.left began.seen log
 
 -- a text that was followed in what its port had seen is followed in the history (own)

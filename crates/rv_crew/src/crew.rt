@@ -1,10 +1,10 @@
 //! The crew: threads that were started, each with a job and a port, and what came of them.
 
-ghost use Rattle.std.specs.Prelude.{◌≡◌, ◌==◌, ◌+◌, ◌++◌, ◌≤◌, [], false, map, reverse, length, vec_len, IfOk, IfErr, IfSome, OnOk, OnErr};
+ghost use Rattle.std.specs.Prelude.{◌≡◌, ◌==◌, ◌+◌, ◌++◌, ◌≤◌, [], false, map, reverse, length, vec_len, IfOk, IfErr, IfNone, IfSome, OnOk, OnErr, slice_get};
 ghost use Rattle.std.specs.Vec.{vec_capacity};
 ghost use Rattle.rv_crew.specs.Teams.{IsOfTurn, no_threads};
 ghost use Rattle.rv_turn.specs.Histories.{Each};
-ghost use Rattle.rv_crew.specs.Crews.{Keeps, Joins, IsStartFault, IsClosedBy, actor_of, mark_of, with_started, given_up, with_joined, owed, owed_for};
+ghost use Rattle.rv_crew.specs.Crews.{Keeps, Joins, Takes, IsStartFault, IsClosedBy, actor_of, mark_of, with_started, given_up, with_joined, owed, owed_for};
 
 use crate::job::{Duty, Job};
 use crate::kept::Kept;
@@ -175,6 +175,20 @@ fn mark_of(ports: &[Finished], actor: u64) -> Option<bool>
     }
 }
 
+// The place of the first thread that has a port of this actor; behind all where none has.
+fn place_of<D: Duty>(threads: &[Running<D>], actor: u64) -> usize
+    ensures whose { IfSome (slice_get threads.now result) (λ thread. (owed thread).port.actor ≡ actor) }
+    ensures most { result ≤ length threads.now }
+{
+    let Some((first, others)) = threads.split_first() else {
+        return 0;
+    };
+    if first.actor == actor {
+        return 0;
+    }
+    place_of(others, actor) + 1
+}
+
 // Does nothing. Its clause says what each of these ports keeps.
 fn keep_all(ports: &[Finished])
     ensures { Each (λ p. Keeps p) ports.now }
@@ -296,6 +310,21 @@ impl<D: Duty> Crew<D> {
         let waiting = mem::replace(&mut self.running, Vec::new(self.alloc));
         join_each(rt, turned(waiting), &mut self.joined, &mut self.paid);
         Ok(())
+    }
+
+    /// Waits until the thread that has the port of an actor has ended, and gives the port that it gives back, which the crew keeps no
+    /// more. None where no thread of the crew has a port of this actor.
+    pub fn take<R: Threads>(&mut self, rt: &R, actor: u64) -> Option<Finished>
+        ensures some { IfSome result (Takes D.does self.old self.new actor) }
+        ensures none { IfNone result (self.new ≡ self.old) }
+    {
+        let place = place_of(self.running.as_slice(), actor);
+        if place >= self.running.len() {
+            return None;
+        }
+        let thread = self.running.remove(place);
+        let (finished, _kept) = thread.join(rt);
+        Some(finished)
     }
 
     /// Whether bodies were ever refused to the port of this actor, so that its ends aren't said to be

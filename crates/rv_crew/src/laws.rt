@@ -1,6 +1,6 @@
 //! Laws of crews, each on a function that does nothing.
 
-ghost use Rattle.std.specs.Prelude.{◌≡◌};
+ghost use Rattle.std.specs.Prelude.{◌≡◌, ℕ};
 ghost use Rattle.atomic_table.specs.Seated.{TableId};
 ghost use Rattle.rv_turn.specs.Histories.{mine, StartsWith};
 ghost use Rattle.rv_port.specs.Controls.{IsPorts};
@@ -9,7 +9,7 @@ ghost use Rattle.rv_port.specs.Ports.{Porting, pass_of};
 ghost use Rattle.rv_port.specs.Traces.{Passing};
 ghost use Rattle.rv_crew.specs.Abandoning.{Abandons};
 ghost use Rattle.rv_crew.specs.Teams.{Team, IsOfTurn};
-ghost use Rattle.rv_crew.specs.Crews.{HasLost, IsClosedBy, Joins, with_started, given_up, with_lost, with_joined};
+ghost use Rattle.rv_crew.specs.Crews.{HasLost, IsClosedBy, Joins, Takes, with_started, given_up, with_lost, with_joined};
 ghost use Rattle.rv_crew.specs.declared.crew.Closed.{Closed};
 
 use crate::job::Duty;
@@ -39,6 +39,15 @@ pub fn joins_keep_the_turn<D: Duty>()
 /// So it does where threads are given up that don't end in time.
 pub fn given_up_threads_keep_the_turn<D: Duty>()
     ensures { (turn : TableId) → (crew : Team D) → (after : Team D) → IsOfTurn turn crew → Abandons crew after → IsOfTurn turn after }
+{}
+
+/// So it does where a thread is taken out, whose port is of that turn too.
+#[tactic(auto, using(crate::proofs::Taking::taken_of_turn, crate::proofs::Taking::back_of_turn))]
+pub fn taken_threads_keep_the_turn<D: Duty>()
+    ensures crew { (turn : TableId) → (crew : Team D) → (after : Team D) → (actor : ℕ) → (back : Porting) → IsOfTurn turn crew
+        → Takes D.does crew after actor back → IsOfTurn turn after }
+    ensures port { (turn : TableId) → (crew : Team D) → (after : Team D) → (actor : ℕ) → (back : Porting) → IsOfTurn turn crew
+        → Takes D.does crew after actor back → back.turn ≡ turn }
 {}
 
 /// The entries of a port that was lost stay: the journal's entries of its actor begin with those that the port had made.

@@ -112,6 +112,7 @@ fn is_same_plain(one: &Request, other: &Request) -> bool
         (Request::DelayUntil(a), Request::DelayUntil(b)) => a == b,
         (Request::Tick(a), Request::Tick(b)) => a == b,
         (Request::Archive(a), Request::Archive(b)) => a == b,
+        (Request::Restart(a), Request::Restart(b)) => a == b,
         (Request::Settle, Request::Settle) => true,
         (Request::Resume, Request::Resume) => true,
         (Request::Clock, Request::Clock) => true,

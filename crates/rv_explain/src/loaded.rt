@@ -191,10 +191,21 @@ impl<'c, 'k, 'a> Loaded<'c, 'k, 'a> {
         }))
     }
 
+    // Why a restart names no unit, if it names none.
+    fn bad_unit(&self, line: &Line<'_>) -> Result<Option<Unloaded>, AllocError> {
+        match self.catalogue.find_unit(line.word(2)) {
+            Some(_) => Ok(None),
+            None => Ok(Some(self.no_unit(line.at(2), line.word(2))?)),
+        }
+    }
+
     // Which name of a step isn't loaded, if one isn't.
     fn found(&self, line: &Line<'_>) -> Result<Option<Unloaded>, AllocError> {
         if let Some(told) = self.bad_part(line.at(0), line.word(0), true)? {
             return Ok(Some(told));
+        }
+        if line.is(1, "restart") {
+            return self.bad_unit(line);
         }
         if !line.is(1, "call") {
             return Ok(None);

@@ -9,7 +9,7 @@ use std::alloc::{AllocError, Global};
 const NUMBERED: &str = "{0} takes one number";
 
 // What is said of a request that takes something else than it has, by its word.
-const REQUESTS: [Form; 7] = [
+const REQUESTS: [Form; 8] = [
     Form {
         word: "delay",
         said: NUMBERED,
@@ -21,6 +21,10 @@ const REQUESTS: [Form; 7] = [
     Form {
         word: "archive",
         said: "archive takes one number, 1 or more",
+    },
+    Form {
+        word: "restart",
+        said: "restart takes the name of a unit",
     },
     Form {
         word: "remove",
@@ -89,7 +93,7 @@ fn told<'a>(line: &Line<'a>, reason: StepReason) -> Cause<'a> {
         }
         StepReason::Unknown => line.cause(
             1,
-            "{0} is no request; there are call, end, settle, resume, delay, clock, fire, finish, tick, halt, archive, append, remove, replace, go",
+            "{0} is no request; there are call, end, settle, resume, delay, clock, fire, finish, tick, halt, archive, restart, append, remove, replace, go",
         ),
         StepReason::Behind => {
             let said = "nothing may stand behind {0}; {1} does";

@@ -24,6 +24,7 @@ pub fn asking(request: &Request) -> &'static str
         Request::Tick(_) => "\",\"request\":\"tick\",\"answer\":\"",
         Request::Halt => "\",\"request\":\"halt\",\"answer\":\"",
         Request::Archive(_) => "\",\"request\":\"archive\",\"answer\":\"",
+        Request::Restart(_) => "\",\"request\":\"restart\",\"answer\":\"",
     }
 }
 

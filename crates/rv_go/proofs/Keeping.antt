@@ -14,22 +14,22 @@ use Rattle.rv_shape.specs.Catalogue.{UnitTask, Operator, Line, who, all_tasks}
 use Rattle.rv_shape.specs.Catalogue.{task_of as seat_of}
 use Rattle.rv_flat.specs.declared.unit.FlatUnit.{FlatUnit}
 use Rattle.rv_flat.specs.FlatUnits.{flat_view}
-use Rattle.rv_go.specs.Answers.{answers_to, with_answer}
+use Rattle.rv_go.specs.Answers.{answers_to, given_by, heard_answer, heard_restart, with_answer}
 use Rattle.rv_go.specs.declared.listening.Listener.{Listener}
 use Rattle.rv_go.specs.declared.run.Run.{Run}
 use Rattle.rv_go.specs.declared.run.Text.{Text}
 use Rattle.rv_go.specs.declared.running.Running.{Running}
 use Rattle.rv_go.specs.declared.texts.Heard.{Heard}
-use Rattle.rv_go.specs.Runs.{asked_by, given_by, heard_by, settled, is_of_task, IsRun, IsTaskOf, IsText, Follows}
+use Rattle.rv_go.specs.Runs.{asked_by, heard_by, settled, is_of_task, IsRun, IsTaskOf, IsText, Follows}
 use Rattle.rv_go.specs.Kept.{Keeps, Listens, IsWhole, AreNumbered, AreKept, IsKept}
 use Rattle.rv_go.proofs.Following.{begins_to_follow, follows_more, still_follows, other_whole, text_of_task}
 
 -- One answer more
 
-same_number : (a b : ℕ) → a ≡ b → (a == b) ≡ true
+pub same_number : (a b : ℕ) → a ≡ b → (a == b) ≡ true
 same_number a b is = grind (arith, nat_tests, is)
 
-other_number : (a b : ℕ) → a ≢ b → (a == b) ≡ false
+pub other_number : (a b : ℕ) → a ≢ b → (a == b) ≡ false
 other_number a b not = grind (arith, nat_tests, not)
 
 passed_over : (b : Bool) (one other : List Answer) → b ≡ false → cond b one other ≡ other
@@ -40,7 +40,7 @@ taken_in : (b : Bool) (one other : List Answer) → b ≡ true → cond b one ot
 taken_in true one other is = refl
 taken_in false one other is = absurd (cc is)
 
-heard_more : (actor : ℕ) (heard : List Heard) (h : Heard) → heard_by actor (heard ++ h ∷ []) ≡ with_answer actor h (heard_by actor heard)
+pub heard_more : (actor : ℕ) (heard : List Heard) (h : Heard) → heard_by actor (heard ++ h ∷ []) ≡ with_answer actor h (heard_by actor heard)
 heard_more actor heard h = ap (λ (x : List Heard). answers_to actor x) (reverse-append heard (h ∷ []))
 
 heard_other : (actor : ℕ) (heard : List Heard) (h : Heard) → h.actor ≢ actor → heard_by actor (heard ++ h ∷ []) ≡ heard_by actor heard
@@ -117,38 +117,51 @@ keeps_table : (r : Running) (budget : ℕ) (all : List Answer) (actor : ℕ) (ke
 keeps_table r budget all actor kept o keeps = to_keep (Some r) budget all actor kept o (table_by r budget all actor kept o (of_keep None budget all actor kept o keeps))
 
 -- one answer more
-on_by : (running : Option Running) (budget : ℕ) (all : List Answer) (actor : ℕ) (kept : List Answer) (o : Option Run) (h : Heard) (b : Bool)
+on_by : (running : Option Running) (budget : ℕ) (all : List Answer) (actor : ℕ) (kept : List Answer) (o : Option Run) (answer : Answer) (b : Bool)
     → KeepsBy running budget all actor kept o
-    → KeepsBy running budget (cond b (h.answer ∷ []) (all ++ h.answer ∷ [])) actor (cond b (h.answer ∷ []) (kept ++ h.answer ∷ [])) (cond b None o)
+    → KeepsBy running budget (cond b (answer ∷ []) (all ++ answer ∷ [])) actor (cond b (answer ∷ []) (kept ++ answer ∷ [])) (cond b None o)
 unfolding KeepsBy
-on_by running budget all actor kept o h true keeps = refl
-on_by running budget all actor kept None h false keeps = ap (λ (x : List Answer). x ++ h.answer ∷ []) keeps
-on_by None budget all actor kept (Some run) h false keeps = absurd keeps
-on_by (Some r) budget all actor kept (Some run) h false keeps = follows_more r.table budget all actor kept run h.answer keeps
+on_by running budget all actor kept o answer true keeps = refl
+on_by running budget all actor kept None answer false keeps = ap (λ (x : List Answer). x ++ answer ∷ []) keeps
+on_by None budget all actor kept (Some run) answer false keeps = absurd keeps
+on_by (Some r) budget all actor kept (Some run) answer false keeps = follows_more r.table budget all actor kept run answer keeps
 
-pub keeps_on : (running : Option Running) (budget : ℕ) (all : List Answer) (actor : ℕ) (kept : List Answer) (o : Option Run) (h : Heard) (b : Bool)
+pub keeps_on : (running : Option Running) (budget : ℕ) (all : List Answer) (actor : ℕ) (kept : List Answer) (o : Option Run) (answer : Answer) (b : Bool)
     → Keeps running budget all actor kept o
-    → Keeps running budget (cond b (h.answer ∷ []) (all ++ h.answer ∷ [])) actor (cond b (h.answer ∷ []) (kept ++ h.answer ∷ [])) (cond b None o)
-keeps_on running budget all actor kept o h b keeps =
-    to_keep running budget (cond b (h.answer ∷ []) (all ++ h.answer ∷ [])) actor (cond b (h.answer ∷ []) (kept ++ h.answer ∷ [])) (cond b None o)
-    (on_by running budget all actor kept o h b (of_keep running budget all actor kept o keeps))
+    → Keeps running budget (cond b (answer ∷ []) (all ++ answer ∷ [])) actor (cond b (answer ∷ []) (kept ++ answer ∷ [])) (cond b None o)
+keeps_on running budget all actor kept o answer b keeps =
+    to_keep running budget (cond b (answer ∷ []) (all ++ answer ∷ [])) actor (cond b (answer ∷ []) (kept ++ answer ∷ [])) (cond b None o)
+    (on_by running budget all actor kept o answer b (of_keep running budget all actor kept o keeps))
+
+-- the answers behind one more
+abbrev pub with_next : Bool → Answer → List Answer → List Answer
+with_next starts answer before = cond starts (answer ∷ []) (before ++ answer ∷ [])
 
 -- the same of an actor that has heard it
-pub listens_on : (running : Option Running) (budget : ℕ) (heard : List Heard) (old new : Listener) (h : Heard)
-    → h.actor ≡ old.actor → new.actor ≡ old.actor → new.answers.items ≡ given_by h old.answers.items → new.run ≡ cond h.starts None old.run
-    → Listens running budget heard old → Listens running budget (heard ++ h ∷ []) new
-listens_on running budget heard old new h own actor answers run listens =
+pub listens_on : (running : Option Running) (budget : ℕ) (heard : List Heard) (old new : Listener) (by : ℕ) (starts : Bool) (answer : Answer)
+    → by ≡ old.actor → new.actor ≡ old.actor → new.answers.items ≡ with_next starts answer old.answers.items → new.run ≡ cond starts None old.run
+    → Listens running budget heard old → Listens running budget (heard ++ heard_answer by starts answer ∷ []) new
+listens_on running budget heard old new by starts answer own actor answers run listens =
+    let h : Heard = heard_answer by starts answer in
     subst (λ (a : ℕ). Keeps running budget (heard_by a (heard ++ h ∷ [])) a new.answers.items new.run) (sym actor)
     (subst (λ (kept : List Answer). Keeps running budget (heard_by old.actor (heard ++ h ∷ [])) old.actor kept new.run) (sym answers)
-    (subst (λ (o : Option Run). Keeps running budget (heard_by old.actor (heard ++ h ∷ [])) old.actor (given_by h old.answers.items) o) (sym run)
-    (subst (λ (all : List Answer). Keeps running budget all old.actor (given_by h old.answers.items) (cond h.starts None old.run)) (sym (heard_own old.actor heard h own))
-    (keeps_on running budget (heard_by old.actor heard) old.actor old.answers.items old.run h h.starts listens))))
+    (subst (λ (o : Option Run). Keeps running budget (heard_by old.actor (heard ++ h ∷ [])) old.actor (with_next starts answer old.answers.items) o) (sym run)
+    (subst (λ (all : List Answer). Keeps running budget all old.actor (with_next starts answer old.answers.items) (cond starts None old.run)) (sym (heard_own old.actor heard h own))
+    (keeps_on running budget (heard_by old.actor heard) old.actor old.answers.items old.run answer starts listens))))
 
-pub whole_on : (heard : List Heard) (old new : Listener) (h : Heard)
-    → h.actor ≡ old.actor → new.actor ≡ old.actor → new.answers.items ≡ given_by h old.answers.items
-    → IsWhole heard old → IsWhole (heard ++ h ∷ []) new
-whole_on heard old new h own actor answers whole =
-    answers ∙ (ap (λ (x : List Answer). given_by h x) whole ∙ (sym (heard_own old.actor heard h own) ∙ ap (λ (a : ℕ). heard_by a (heard ++ h ∷ [])) (sym actor)))
+pub whole_on : (heard : List Heard) (old new : Listener) (by : ℕ) (starts : Bool) (answer : Answer)
+    → by ≡ old.actor → new.actor ≡ old.actor → new.answers.items ≡ with_next starts answer old.answers.items
+    → IsWhole heard old → IsWhole (heard ++ heard_answer by starts answer ∷ []) new
+whole_on heard old new by starts answer own actor answers whole =
+    let h : Heard = heard_answer by starts answer in
+    answers ∙ (ap (λ (x : List Answer). with_next starts answer x) whole ∙ (sym (heard_own old.actor heard h own) ∙ ap (λ (a : ℕ). heard_by a (heard ++ h ∷ [])) (sym actor)))
+
+-- an actor whose text begins anew has heard nothing
+anew_whole : (heard : List Heard) (old new : Listener) (by : ℕ)
+    → by ≡ old.actor → new.actor ≡ old.actor → new.answers.items ≡ [] → IsWhole (heard ++ heard_restart by ∷ []) new
+anew_whole heard old new by own actor none =
+    let h : Heard = heard_restart by in
+    none ∙ (sym (heard_own old.actor heard h own) ∙ ap (λ (a : ℕ). heard_by a (heard ++ h ∷ [])) (sym actor))
 
 -- the same in another place of the memory
 pub listens_same : (running : Option Running) (budget : ℕ) (heard : List Heard) (old new : Listener)
@@ -287,30 +300,59 @@ kept_heard budget awaited heard running ls h new within actor listens whole are 
     apart n default lt other = λ e. other (sym (e ∙ are.numbered.actors n default lt))
 
 -- the answer is kept, where memory was there
-pub hears_ok : {E : Type 0} (result : Result (Unit {0}) E) (start ls : List Listener) (h : Heard) (old new : Listener)
-    → h.actor < length ls → old ≡ get_or ls h.actor old → new.actor ≡ old.actor
-    → OnOk result (new.answers.items ≡ given_by h old.answers.items) → OnOk result (new.run ≡ cond h.starts None old.run)
+pub hears_ok : {E : Type 0} (result : Result (Unit {0}) E) (start ls : List Listener) (by : ℕ) (starts : Bool) (answer : Answer) (old new : Listener)
+    → by < length ls → old ≡ get_or ls by old → new.actor ≡ old.actor
+    → OnOk result (new.answers.items ≡ with_next starts answer old.answers.items) → OnOk result (new.run ≡ cond starts None old.run)
     → ((budget awaited : ℕ) (heard : List Heard) (running : Option Running) → AreKept budget awaited heard running start → AreKept budget awaited heard running ls)
-    → OnOk result ((budget awaited : ℕ) (heard : List Heard) (running : Option Running) → AreKept budget awaited heard running start → AreKept budget awaited (heard ++ h ∷ []) running (set ls h.actor new))
-hears_ok (Ok x) start ls h old new within at actor answers run reached = λ budget awaited heard running is.
+    → OnOk result ((budget awaited : ℕ) (heard : List Heard) (running : Option Running) → AreKept budget awaited heard running start → AreKept budget awaited (heard ++ heard_answer by starts answer ∷ []) running (set ls by new))
+hears_ok (Ok x) start ls by starts answer old new within at actor answers run reached = λ budget awaited heard running is.
     let are : AreKept budget awaited heard running ls = reached budget awaited heard running is in
-    let own : h.actor ≡ old.actor = sym (ap (λ (l : Listener). l.actor) at ∙ are.numbered.actors h.actor old within) in
-    kept_heard budget awaited heard running ls h new within (actor ∙ sym own)
-    (listens_on running budget heard old new h own actor answers run (subst (λ (l : Listener). Listens running budget heard l) (sym at) (are.listen h.actor old within)))
-    (λ some. whole_on heard old new h own actor answers (subst (λ (l : Listener). IsWhole heard l) (sym at) (are.whole some h.actor old within))) are
-hears_ok (Err e) start ls h old new within at actor answers run reached = tt
+    let own : by ≡ old.actor = sym (ap (λ (l : Listener). l.actor) at ∙ are.numbered.actors by old within) in
+    kept_heard budget awaited heard running ls (heard_answer by starts answer) new within (actor ∙ sym own)
+    (listens_on running budget heard old new by starts answer own actor answers run (subst (λ (l : Listener). Listens running budget heard l) (sym at) (are.listen by old within)))
+    (λ some. whole_on heard old new by starts answer own actor answers (subst (λ (l : Listener). IsWhole heard l) (sym at) (are.whole some by old within))) are
+hears_ok (Err e) start ls by starts answer old new within at actor answers run reached = tt
 
-pub hears_err : {E : Type 0} (result : Result (Unit {0}) E) (start ls : List Listener) (h : Heard) (old new : Listener)
-    → h.actor < length ls → old ≡ get_or ls h.actor old → new.actor ≡ old.actor
+pub hears_err : {E : Type 0} (result : Result (Unit {0}) E) (start ls : List Listener) (by : ℕ) (old new : Listener)
+    → by < length ls → old ≡ get_or ls by old → new.actor ≡ old.actor
     → OnErr result (new.answers.items ≡ old.answers.items) → OnErr result (new.run ≡ old.run)
     → ((budget awaited : ℕ) (heard : List Heard) (running : Option Running) → AreKept budget awaited heard running start → AreKept budget awaited heard running ls)
-    → OnErr result ((budget awaited : ℕ) (heard : List Heard) (running : Option Running) → AreKept budget awaited heard running start → AreKept budget awaited heard running (set ls h.actor new))
-hears_err (Ok x) start ls h old new within at actor answers run reached = tt
-hears_err (Err e) start ls h old new within at actor answers run reached = λ budget awaited heard running is.
+    → OnErr result ((budget awaited : ℕ) (heard : List Heard) (running : Option Running) → AreKept budget awaited heard running start → AreKept budget awaited heard running (set ls by new))
+hears_err (Ok x) start ls by old new within at actor answers run reached = tt
+hears_err (Err e) start ls by old new within at actor answers run reached = λ budget awaited heard running is.
     let are : AreKept budget awaited heard running ls = reached budget awaited heard running is in
-    kept_set budget awaited heard running ls h.actor new within (actor ∙ (ap (λ (l : Listener). l.actor) at ∙ are.numbered.actors h.actor old within))
-    (listens_same running budget heard old new actor answers run (subst (λ (l : Listener). Listens running budget heard l) (sym at) (are.listen h.actor old within)))
-    (λ some. whole_same heard old new actor answers (subst (λ (l : Listener). IsWhole heard l) (sym at) (are.whole some h.actor old within))) are
+    kept_set budget awaited heard running ls by new within (actor ∙ (ap (λ (l : Listener). l.actor) at ∙ are.numbered.actors by old within))
+    (listens_same running budget heard old new actor answers run (subst (λ (l : Listener). Listens running budget heard l) (sym at) (are.listen by old within)))
+    (λ some. whole_same heard old new actor answers (subst (λ (l : Listener). IsWhole heard l) (sym at) (are.whole some by old within))) are
+
+-- the text of an actor that listens begins anew
+pub anew_there : (ls : List Listener) (by : ℕ) (old new : Listener)
+    → by < length ls → old ≡ get_or ls by old → new.actor ≡ old.actor → new.answers.items ≡ [] → new.run ≡ None
+    → (budget awaited : ℕ) (heard : List Heard) (running : Option Running) → AreKept budget awaited heard running ls → AreKept budget awaited (heard ++ heard_restart by ∷ []) running (set ls by new)
+anew_there ls by old new within at actor none run budget awaited heard running are =
+    let own : by ≡ old.actor = sym (ap (λ (l : Listener). l.actor) at ∙ are.numbered.actors by old within) in
+    let whole : IsWhole (heard ++ heard_restart by ∷ []) new = anew_whole heard old new by own actor none in
+    kept_heard budget awaited heard running ls (heard_restart by) new within (actor ∙ sym own)
+    (keeps_none running budget (heard_by new.actor (heard ++ heard_restart by ∷ [])) new.actor new.answers.items new.run run whole) (λ some. whole) are
+
+-- one that hasn't listened yet has heard nothing
+pub anew_away : (ls : List Listener) (by : ℕ) → length ls ≤ by
+    → (budget awaited : ℕ) (heard : List Heard) (running : Option Running) → AreKept budget awaited heard running ls → AreKept budget awaited (heard ++ heard_restart by ∷ []) running ls
+anew_away ls by beyond budget awaited heard running are = record {
+  numbered = record {
+    actors = are.numbered.actors;
+    others = λ other le.
+        elim (cases_eq by other) [
+          | inl same ↦ heard_own other heard (heard_restart by) same
+          | inr not ↦ heard_other other heard (heard_restart by) not ∙ are.numbered.others other le
+        ];
+  };
+  listen = λ n default lt. listens_not running budget heard (heard_restart by) (get_or ls n default) (apart n default lt) (are.listen n default lt);
+  whole = λ some n default lt. whole_not heard (heard_restart by) (get_or ls n default) (apart n default lt) (are.whole some n default lt);
+}
+  where
+    apart : (n : ℕ) (default : Listener) → n < length ls → by ≢ (get_or ls n default).actor
+    apart n default lt = λ e. let number = e ∙ are.numbered.actors n default lt in omega (arith, number, lt, beyond)
 
 -- who stands in a place
 pub listens_at : (budget awaited : ℕ) (heard : List Heard) (running : Option Running) (ls : List Listener) (place : ℕ) (l : Listener)

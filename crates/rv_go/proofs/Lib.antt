@@ -1,4 +1,5 @@
 pub mod Behind
 pub mod Following
 pub mod Keeping
+pub mod Restarting
 mod More

@@ -14,7 +14,6 @@ use Rattle.rv_code.specs.Bodies.{Body}
 use Rattle.rv_exec.specs.Bodies.{operation_of, task_of}
 use Rattle.rv_exec.specs.Next.{settling, next_of}
 use Rattle.rv_exec.specs.Tasks.{task_run, line_run}
-use Rattle.rv_go.specs.Answers.{answers_to}
 use Rattle.rv_go.specs.Texts.{TextsView}
 
 -- what is asked, where there is a body
@@ -26,14 +25,14 @@ if_body (Some body) asked = asked
 abbrev pub task_asks : TextsView → ℕ → Option Request
 task_asks texts actor =
     if_body (task_of texts.bodies actor)
-    (next_of (task_run texts.bodies actor texts.budget) (settling (answers_to actor texts.heard)))
+    (next_of (task_run texts.bodies actor texts.budget) (settling (texts.answers actor)))
 
 -- what a line asks by the body of its handler (C.3)
 abbrev pub handler_asks : TextsView → ℕ → Option OperationNumber → Option Request
 handler_asks texts actor None = None
 handler_asks texts actor (Some at) =
     if_body (operation_of texts.bodies at.object at.operation)
-    (next_of (line_run texts.bodies at.object at.operation) (settling (answers_to actor texts.heard)))
+    (next_of (line_run texts.bodies at.object at.operation) (settling (texts.answers actor)))
 
 -- an idle line fires; another goes on by its handler's body
 abbrev pub line_asks : TextsView → List Shape → ℕ → ℕ → Mode → Option Request

@@ -1,5 +1,5 @@
 -- Machines that run the texts of actors, kept from one `go` to the next (own).
-use Rattle.std.specs.Prelude.{◌≡◌, ◌≤◌, ◌<◌, ◌-◌, ℕ, Bool, true, false, if◌then◌else◌, List, [], ◌∷◌, ◌++◌, length, reverse, take, Option}
+use Rattle.std.specs.Prelude.{◌≡◌, ◌≤◌, ◌<◌, ◌-◌, ℕ, Bool, true, false, List, ◌++◌, length, reverse, take, Option}
 use Rattle.rv_event.specs.declared.entry.Answer.{Answer}
 use Rattle.rv_event.specs.declared.entry.Request.{Request}
 use Rattle.rv_code.specs.Bodies.{UnitBodies}
@@ -23,10 +23,6 @@ asked_by bodies budget (texts.Handler object operation) given = next_of (line_ru
 -- a machine stands where a text is that asks so, behind these answers
 pub record IsBehind (u : FlatUnit) (asks : List Answer → Option Request) (given : List Answer) (m : Machine) : Type 0 where
   pub same : (more : List Answer) → next_of (stands u m) more ≡ asks (given ++ more)
-
--- the answers behind what an actor has heard
-abbrev pub given_by : Heard → List Answer → List Answer
-given_by h before = if h.starts then h.answer ∷ [] else before ++ h.answer ∷ []
 
 -- an actor's answers since its text began, of those that were heard, the oldest first
 abbrev pub heard_by : ℕ → List Heard → List Answer

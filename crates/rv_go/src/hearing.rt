@@ -1,17 +1,20 @@
 //! What actors are answered, and what their texts go on by.
 
-ghost use Rattle.std.specs.Prelude.{◌≡◌, ◌<◌, IfOk, OnErr, OnOk};
+ghost use Rattle.std.specs.Prelude.{◌≡◌, ◌<◌, IfOk, OnErr, OnOk, Some};
 ghost use Rattle.rv_code.specs.BodyView.{unit_view};
 ghost use Rattle.rv_exec.specs.Bodies.{bodies_view, no_bodies, with_unit};
-ghost use Rattle.rv_go.specs.Texts.{texts_view, no_texts, with_bodies, is_started, is_fire, is_heard, is_settle, hears};
+ghost use Rattle.rv_go.specs.Restarted.{forgets};
+ghost use Rattle.rv_go.specs.Texts.{texts_view, no_texts, with_bodies, is_started, is_fire, is_heard, is_settle, hears, hears_one, restarts, begin_anew, behind};
+ghost use Rattle.rv_shape.specs.Units.{is_unit, task_unit};
 
-use crate::places::{hear, stop};
+use crate::places::{begin_anew, hear, stop};
 use crate::texts::{Heard, Texts};
 use rv_code::UnitBodies;
 use rv_event::entry::{Answer, Next, Request, Rule};
 use rv_exec::bodies::{Bodies, SharedUnit};
 use rv_exec::outward::stands;
 use rv_ring::past::Past;
+use rv_shape::catalogue::Catalogue;
 use rv_value::Scalars;
 use std::alloc::{AllocError, Global};
 
@@ -53,6 +56,26 @@ fn is_heard(goes: bool, request: &Request, answer: &Answer) -> bool
         return is_started(answer);
     }
     goes && !is_settle(request) && !stands(answer)
+}
+
+// The unit that an answer to a request restarts, if it restarts one.
+fn restarts(request: &Request, answer: &Answer) -> Option<usize>
+    ensures { result ≡ restarts request.now answer.now }
+{
+    match (request, answer) {
+        (Request::Restart(unit), Answer::Accepted(_)) => Some(*unit),
+        _ => None,
+    }
+}
+
+// Whether an actor is a task of a unit.
+fn is_task_of(catalogue: &Catalogue, actor: usize, unit: usize) -> bool
+    ensures { result ≡ is_unit unit (task_unit catalogue.now actor) }
+{
+    match catalogue.unit_of_task(actor) {
+        Some(of) => of == unit,
+        None => false,
+    }
 }
 
 /// As many units as there may ever be are awaited, for a host whose units may be loaded at any time. So all answers since an actor's
@@ -128,9 +151,57 @@ impl Texts {
         self.bodies = more;
     }
 
-    /// Keeps the answer to a request of an actor, where its text goes on by it: `goes` says whether the request was a
-    /// `go`. Where memory was refused nothing is kept.
-    pub fn hear(
+    // The text of an actor begins anew; it takes no memory.
+    fn forget(&mut self, actor: usize)
+        ensures { texts_view self.new ≡ forgets actor (texts_view self.old) }
+    {
+        let heard = Heard {
+            actor,
+            starts: true,
+            answer: None,
+        };
+        begin_anew(&mut self.listeners, actor);
+        self.heard = self.heard.with(&heard);
+    }
+
+    // The texts of the tasks of a unit begin anew; it takes no memory.
+    fn begin_anew(&mut self, catalogue: &Catalogue, unit: usize)
+        ensures { texts_view self.new ≡ begin_anew catalogue.now (Some unit) (texts_view self.old) }
+    {
+        'actors: for actor in 0..self.listeners.len() {
+            if is_task_of(catalogue, actor, unit) {
+                self.forget(actor);
+            }
+        }
+    }
+
+    // An actor has heard an answer more, by which its text starts, or not.
+    fn keep_one(
+        &mut self,
+        alloc: Global,
+        actor: usize,
+        starts: bool,
+        answer: Answer,
+    ) -> Result<(), AllocError>
+        ensures ok { OnOk result (texts_view self.new ≡ hears_one actor starts answer (texts_view self.old)) }
+        ensures err { OnErr result (texts_view self.new ≡ texts_view self.old) }
+    {
+        // The check is told of these types only where they are named.
+        let _scalars: Option<Scalars> = None;
+        let _rule: Option<Rule> = None;
+        let _next: Option<Next> = None;
+        let heard = Heard {
+            actor,
+            starts,
+            answer: Some(answer),
+        };
+        hear(alloc, &mut self.listeners, actor, starts, answer)?;
+        self.heard = self.heard.with(&heard);
+        Ok(())
+    }
+
+    // Keeps an answer, where a text goes on by it.
+    fn keep(
         &mut self,
         alloc: Global,
         actor: usize,
@@ -141,22 +212,32 @@ impl Texts {
         ensures ok { OnOk result (texts_view self.new ≡ hears (texts_view self.old) actor goes request.now answer.now) }
         ensures err { OnErr result (texts_view self.new ≡ texts_view self.old) }
     {
-        // The check is told of these types only where they are named.
-        let _scalars: Option<Scalars> = None;
-        let _rule: Option<Rule> = None;
-        let _next: Option<Next> = None;
-        if !is_heard(goes, request, answer) {
-            return Ok(());
+        if is_heard(goes, request, answer) {
+            self.keep_one(alloc, actor, is_fire(request), *answer)
+        } else {
+            Ok(())
         }
-        let starts = is_fire(request);
-        let answer = *answer;
-        let heard = Heard {
-            actor,
-            starts,
-            answer,
-        };
-        hear(alloc, &mut self.listeners, &heard)?;
-        self.heard = self.heard.with(&heard);
+    }
+
+    /// Keeps the answer to a request of an actor, where its text goes on by it: `goes` says whether the request was a
+    /// `go`. Where a unit was restarted the texts of its tasks begin anew, which takes no memory. Where memory was refused nothing
+    /// is kept.
+    pub fn hear(
+        &mut self,
+        alloc: Global,
+        catalogue: &Catalogue,
+        actor: usize,
+        goes: bool,
+        request: &Request,
+        answer: &Answer,
+    ) -> Result<(), AllocError>
+        ensures ok { OnOk result (texts_view self.new ≡ behind catalogue.now (texts_view self.old) actor goes request.now answer.now) }
+        ensures err { OnErr result (texts_view self.new ≡ texts_view self.old) }
+    {
+        self.keep(alloc, actor, goes, request, answer)?;
+        if let Some(unit) = restarts(request, answer) {
+            self.begin_anew(catalogue, unit);
+        }
         Ok(())
     }
 }

@@ -2,7 +2,7 @@
 
 ghost use Rattle.std.specs.Prelude.{◌≡◌, ℕ, List, [], ◌∷◌, ◌++◌, length, None, Some, IfOk, IfSome, IsNone, IsTrue, IsFalse, OnOk, OnErr, if◌then◌else◌};
 ghost use Rattle.rv_flat.specs.FlatUnits.{flat_view};
-ghost use Rattle.rv_go.specs.Runs.{asked_by, given_by, heard_by, settled, Follows, IsTaskOf, IsText};
+ghost use Rattle.rv_go.specs.Runs.{asked_by, heard_by, settled, Follows, IsTaskOf, IsText};
 ghost use Rattle.rv_go.specs.Kept.{Keeps, Listens};
 
 use crate::run::{Run, Text};
@@ -50,21 +50,32 @@ impl Listener {
 
     /// Keeps an answer; one that starts its text stands alone, without a machine. Err where memory was refused; all stays as it
     /// was then.
-    pub fn hear(&mut self, alloc: Global, heard: &Heard) -> Result<(), AllocError>
-        ensures answers { OnOk result (self.new.answers.items ≡ given_by heard.now self.old.answers.items) }
-        ensures run { OnOk result (self.new.run ≡ (if heard.now.starts then None else self.old.run)) }
+    pub fn hear(&mut self, alloc: Global, starts: bool, answer: Answer) -> Result<(), AllocError>
+        ensures answers { OnOk result (self.new.answers.items
+            ≡ (if starts then answer ∷ [] else self.old.answers.items ++ answer ∷ [])) }
+        ensures run { OnOk result (self.new.run ≡ (if starts then None else self.old.run)) }
         ensures err { OnErr result (self.new.answers.items ≡ self.old.answers.items) }
         ensures same { OnErr result (self.new.run ≡ self.old.run) }
         ensures actor { self.new.actor ≡ self.old.actor }
     {
-        if heard.starts {
+        if starts {
             let mut answers = Vec::new(alloc);
-            add(&mut answers, heard.answer)?;
+            add(&mut answers, answer)?;
             self.answers = answers;
             self.run = None;
             return Ok(());
         }
-        add(&mut self.answers, heard.answer)
+        add(&mut self.answers, answer)
+    }
+
+    /// Its text begins anew, as that of one that has heard nothing; it takes no memory.
+    pub fn begin_anew(&mut self)
+        ensures answers { self.new.answers.items ≡ [] }
+        ensures run { self.new.run ≡ None }
+        ensures actor { self.new.actor ≡ self.old.actor }
+    {
+        self.answers.clear();
+        self.run = None;
     }
 
     // The machine that runs this text is taken out, if there is one; another is let go.

@@ -2,6 +2,7 @@
 
 ghost use Rattle.std.specs.Prelude.{◌≡◌, ◌<◌, ◌++◌, ◌∷◌, [], ℕ, IfOk, List, OnOk, OnErr, Option, Some, length};
 ghost use Rattle.rv_flat.specs.FlatUnits.{flat_view};
+ghost use Rattle.rv_go.specs.Answers.{heard_answer, heard_restart};
 ghost use Rattle.rv_go.specs.Kept.{AreKept};
 ghost use Rattle.rv_go.specs.Runs.{asked_by, settled, IsText};
 
@@ -9,7 +10,7 @@ use crate::listening::Listener;
 use crate::run::Text;
 use crate::running::Running;
 use crate::texts::Heard;
-use rv_event::entry::Request;
+use rv_event::entry::{Answer, Request};
 use rv_ring::past::Past;
 use std::alloc::{AllocError, Global};
 
@@ -41,14 +42,32 @@ pub fn stop(listeners: &mut Vec<Listener>)
 }
 
 /// Keeps an answer that an actor has heard. Err where memory was refused; what is kept stays then.
-pub fn hear(alloc: Global, listeners: &mut Vec<Listener>, item: &Heard) -> Result<(), AllocError>
+pub fn hear(
+    alloc: Global,
+    listeners: &mut Vec<Listener>,
+    actor: usize,
+    starts: bool,
+    answer: Answer,
+) -> Result<(), AllocError>
     ensures ok { OnOk result ((budget awaited : ℕ) (heard : List Heard) (running : Option Running)
-        → AreKept budget awaited heard running listeners.old.items → AreKept budget awaited (heard ++ item.now ∷ []) running listeners.new.items) }
+        → AreKept budget awaited heard running listeners.old.items
+        → AreKept budget awaited (heard ++ heard_answer actor starts answer ∷ []) running listeners.new.items) }
     ensures err { OnErr result ((budget awaited : ℕ) (heard : List Heard) (running : Option Running)
         → AreKept budget awaited heard running listeners.old.items → AreKept budget awaited heard running listeners.new.items) }
 {
-    reach(alloc, listeners, item.actor)?;
-    listeners[item.actor].hear(alloc, item)
+    reach(alloc, listeners, actor)?;
+    listeners[actor].hear(alloc, starts, answer)
+}
+
+/// The text of an actor begins anew, as its unit was restarted; it takes no memory.
+pub fn begin_anew(listeners: &mut Vec<Listener>, actor: usize)
+    ensures { (budget awaited : ℕ) (heard : List Heard) (running : Option Running)
+        → AreKept budget awaited heard running listeners.old.items
+        → AreKept budget awaited (heard ++ heard_restart actor ∷ []) running listeners.new.items }
+{
+    if actor < listeners.len() {
+        listeners[actor].begin_anew();
+    }
 }
 
 /// What a text of an actor asks next, behind all that was heard; its answers are forgotten where no unit is awaited. Err where memory

@@ -9,15 +9,16 @@ use rv_event::entry::Answer;
 use rv_exec::bodies::Bodies;
 use rv_ring::past::Past;
 
-/// An answer that an actor's text goes on by.
+/// What an actor's text goes on by: an answer, or a restart of its unit.
 #[derive(Clone, Copy, Drop)]
 pub struct Heard {
     /// The number of the actor.
     pub actor: usize,
-    /// Whether it starts the body of a line's handler, so that its text begins (C.3).
+    /// Whether its text begins: that of a line's handler by the answer that its body has started (C.3), that of a task where its
+    /// unit is restarted.
     pub starts: bool,
-    /// The answer.
-    pub answer: Answer,
+    /// The answer; a restart brings none.
+    pub answer: Option<Answer>,
 }
 
 /// The texts of actors: the bodies of the loaded units, and what actors were answered since their texts began.

@@ -12,7 +12,7 @@ use Rattle.rv_event.specs.declared.entry.Entry.{Entry}
 use Rattle.rv_event.specs.declared.entry.Entry.TheVariants.{Asked, Load, ListChange}
 use Rattle.rv_event.specs.declared.entry.Next.TheVariants.{Nothing, HandedTo, Dropped}
 use Rattle.rv_event.specs.declared.entry.Request.{Request}
-use Rattle.rv_event.specs.declared.entry.Request.TheVariants.{Call, Complete, Settle, Resume, DelayUntil, Clock, Fire, Quit, Tick, Halt, Archive}
+use Rattle.rv_event.specs.declared.entry.Request.TheVariants.{Call, Complete, Settle, Resume, DelayUntil, Clock, Fire, Quit, Tick, Halt, Archive, Restart}
 use Rattle.rv_event.specs.declared.entry.Recorded.{Recorded}
 use Rattle.rv_event.specs.declared.entry.Recorded.TheVariants.{Started, Done}
 use Rattle.rv_history.specs.declared.limits.Limits.{Limits}
@@ -85,6 +85,7 @@ bodies_manned h a Quit w all e k = k
 bodies_manned h a (Tick n) w all e k = k
 bodies_manned h a Halt w all e k = k
 bodies_manned h a (Archive n) w all e k = k
+bodies_manned h a (Restart u) w all e k = k
 
 left_manned : (shapes : List Shape) (past : List Entry) (a : ℕ) (r : Request) (w : Recorded) → Manned shapes past → Each IsManned (unsettled shapes (Asked a r w ∷ past))
 left_manned shapes past a (Complete vs x) (Done next) k =

@@ -1,11 +1,11 @@
 -- After a halt only ends, resumes and quits add entries, and one that has quit adds none.
-use Rattle.std.proofs.Common.{◌≡◌, ℕ, List, [], ◌∷◌, ◌++◌, Bool, true, false, ap, subst, sym, ◌∙◌, refl, append_assoc}
+use Rattle.std.proofs.Common.{◌≡◌, ℕ, List, [], ◌∷◌, ◌++◌, Bool, true, false, sym, refl}
 use Rattle.std.specs.Prelude.{ℤ, ◌&&◌, ◌||◌, not}
-use Rattle.std.specs.List.{list_all}
+use Rattle.std.specs.List.{list_all, list_any}
 use Rattle.rv_access.specs.Words.{Words}
 use Rattle.rv_shape.specs.Fits.{shape_fits}
 use Rattle.rv_shape.specs.Shape.{Shape}
-use Rattle.rv_event.specs.Past.{halted, halts, mode}
+use Rattle.rv_event.specs.Past.{halted, halts, mode, renews_task}
 use Rattle.rv_event.specs.declared.entry.Answer.{Answer}
 use Rattle.rv_event.specs.declared.entry.Entry.{Entry}
 use Rattle.rv_event.specs.declared.entry.Entry.TheVariants.{Asked, Load, ListChange}
@@ -19,35 +19,10 @@ use Rattle.rv_history.specs.History.{History}
 use Rattle.rv_history.specs.Legal.{IsLegal, Legal}
 use Rattle.rv_history.proofs.Answered.{off, answered}
 use Rattle.rv_history.proofs.Frame.{all_more}
-use Rattle.rv_history.proofs.Loaded.{append_none}
 use Rattle.rv_history.proofs.Pays.{idle_high}
 use Rattle.rv_history.proofs.Silent.{gone_apart}
 use Rattle.rv_history.proofs.Stances.{own_stance}
-
--- what was legal before the later entries
-pub record Was (c : Limits) (past : List Entry) (shapes : List Shape) : Type 0 where
-  pub old : List Shape
-  pub more : List Shape
-  pub lists : List (List Words)
-  pub whole : shapes ≡ old ++ more
-  pub legal : IsLegal c past old lists
-
-pub legal_before : (c : Limits) (later past : List Entry) (shapes : List Shape) (lists : List (List Words)) → IsLegal c (later ++ past) shapes lists → Was c past shapes
-legal_before c [] past shapes lists l = record { old = shapes; more = []; lists = lists; whole = sym (append_none shapes); legal = l }
-legal_before c (Asked a r w ∷ later) past shapes lists l = legal_before c later past shapes lists l.0
-legal_before c (Load ∷ later) past shapes lists l =
-    let w = legal_before c later past l.0 lists l.3 in
-    record {
-      old = w.old;
-      more = w.more ++ l.1 ∷ [];
-      lists = w.lists;
-      whole = l.2 ∙ ap (λ (ss : List Shape). ss ++ l.1 ∷ []) w.whole ∙ append_assoc w.old w.more (l.1 ∷ []);
-      legal = w.legal;
-    }
-legal_before c (ListChange ∷ later) past shapes lists l = legal_before c later past shapes l.0 l.3
-
-pub legal_split : (h : History) (later past : List Entry) → Legal h → h.past ≡ later ++ past → IsLegal h.limits (later ++ past) h.shapes h.lists
-legal_split h later past l split = subst (λ (es : List Entry). IsLegal h.limits es h.shapes h.lists) split l
+pub use Rattle.rv_history.proofs.Before.{Was, legal_before, legal_split}
 
 -- After a halt
 
@@ -83,11 +58,12 @@ halted_closes h later past l split halt = closes_all h.limits later past h.shape
 
 -- After a quit
 
-pub quit_apart : (h : History) (a : ℕ) (v : ℤ) (later past : List Entry) → Legal h → h.past ≡ later ++ Asked a Quit (Accepted v) ∷ past → list_all (is_apart a) later ≡ true
-quit_apart h a v later past l split =
+pub quit_apart : (h : History) (a : ℕ) (v : ℤ) (later past : List Entry) → Legal h → h.past ≡ later ++ Asked a Quit (Accepted v) ∷ past → list_any (renews_task h.shapes a) later ≡ false →
+    list_all (is_apart h.shapes a) later ≡ true
+quit_apart h a v later past l split calm =
     let e : Entry = Asked a Quit (Accepted v) in
     let whole = legal_split h later (e ∷ past) l split in
     let w = legal_before h.limits later (e ∷ past) h.shapes h.lists whole in
     let before : History = record { limits = h.limits; past = past; shapes = w.old; lists = w.lists } in
     let g = answered before a Quit (Accepted v) w.legal.1 in
-    gone_apart h.limits later (e ∷ past) h.shapes h.lists a whole (own_stance a Quit (Accepted v) past refl) (idle_high w.old a (mode w.old a past) g.fits_in)
+    gone_apart h.limits later (e ∷ past) h.shapes h.lists a whole (own_stance h.shapes a Quit (Accepted v) past refl) (idle_high w.old a (mode w.old a past) g.fits_in) calm

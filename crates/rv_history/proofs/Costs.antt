@@ -20,9 +20,11 @@ use Rattle.rv_history.proofs.Answered.{off, both, and_true}
 use Rattle.rv_history.proofs.Ends.{end_never_full, settle_never_full}
 use Rattle.rv_history.proofs.Loaded.{left_stays, tasks_append, way_stays}
 use Rattle.rv_history.proofs.NeverFull.{never_due}
-use Rattle.rv_history.proofs.Pays.{Pays, fit_parts, out_due, pays_archive, pays_halt, quit_never_full, resume_never_full}
+use Rattle.rv_history.proofs.Pays.{Pays, dues_by, fit_parts, out_due, pays_archive, pays_halt, quit_never_full, resume_never_full}
 use Rattle.rv_history.proofs.Room.{from_room, to_room}
+use Rattle.rv_history.proofs.Restarts.{stance_loaded}
 use Rattle.rv_history.proofs.Silent.{beyond_free}
+use Rattle.rv_history.proofs.Sums.{each_same}
 
 -- The tasks of a load are owed then
 
@@ -40,9 +42,9 @@ each_ones n (suc m) f ones =
 high : (j n : ℕ) → 11 + n ≤ j → nat_lt j 11 ≡ false
 high j n e = grind (arith, nat_tests)
 
-new_due : (h : History) (j : ℕ) → Legal h → actors h.shapes ≤ j → dues h.past j ≡ 1
-new_due h j l beyond =
-    let free : stance j h.past ≡ Free = beyond_free h.limits h.past h.shapes h.lists j l beyond in
+new_due : (h : History) (s : Shape) (j : ℕ) → Legal h → actors h.shapes ≤ j → dues (h.shapes ++ s ∷ []) h.past j ≡ 1
+new_due h s j l beyond =
+    let free : stance (h.shapes ++ s ∷ []) j h.past ≡ Free = stance_loaded h.limits h.past h.shapes (s ∷ []) h.lists j l ∙ beyond_free h.limits h.past h.shapes h.lists j l beyond in
     λ i. surcharge (free i) + (if high j (length (all_tasks h.shapes)) beyond i then 0 else unfinished (free i))
 
 more_actors : (shapes : List Shape) (s : Shape) → actors (shapes ++ s ∷ []) ≡ actors shapes + length s.tasks
@@ -55,10 +57,13 @@ load_owed : (h : History) (s : Shape) → Legal h → owed (h.shapes ++ s ∷ []
 load_owed h s l =
     let ways : length (under_way (h.shapes ++ s ∷ []) h.past) ≡ length (under_way h.shapes h.past) = ap length (way_stays h.limits h.past h.shapes (s ∷ []) h.lists l) in
     let lefts : length (unsettled (h.shapes ++ s ∷ []) h.past) ≡ length (unsettled h.shapes h.past) = ap length (left_stays h.limits h.past h.shapes (s ∷ []) h.lists l) in
-    let tasks : each (actors (h.shapes ++ s ∷ [])) (dues h.past) ≡ each (actors h.shapes) (dues h.past) + length s.tasks =
-    ap (λ n. each n (dues h.past)) (more_actors h.shapes s) ∙ each_ones (actors h.shapes) (length s.tasks) (dues h.past) (λ j beyond. new_due h j l beyond) in
-    let now : owed (h.shapes ++ s ∷ []) (Load ∷ h.past) ≡ length (under_way (h.shapes ++ s ∷ []) h.past) + length (unsettled (h.shapes ++ s ∷ []) h.past) + each (actors (h.shapes ++ s ∷ [])) (dues h.past) + halt_due (halted h.past) = refl in
-    omega (arith, ways, lefts, tasks, now)
+    let more : List Shape = h.shapes ++ s ∷ [] in
+    let same : each (actors h.shapes) (dues more h.past) ≡ each (actors h.shapes) (dues h.shapes h.past) =
+    each_same (actors h.shapes) (dues more h.past) (dues h.shapes h.past) (λ j less. ap (λ t. dues_by t (nat_lt j 11)) (stance_loaded h.limits h.past h.shapes (s ∷ []) h.lists j l)) in
+    let tasks : each (actors more) (dues more h.past) ≡ each (actors h.shapes) (dues more h.past) + length s.tasks =
+    ap (λ n. each n (dues more h.past)) (more_actors h.shapes s) ∙ each_ones (actors h.shapes) (length s.tasks) (dues more h.past) (λ j beyond. new_due h s j l beyond) in
+    let now : owed more (Load ∷ h.past) ≡ length (under_way more h.past) + length (unsettled more h.past) + each (actors more) (dues more h.past) + halt_due (halted h.past) = refl in
+    omega (arith, ways, lefts, same, tasks, now)
 
 pub load_costs : (h : History) (s : Shape) → Legal h → IsSolvent h → (has_room h.limits.capacity (h.shapes ++ s ∷ []) (Load ∷ h.past) ≡ true) ↔ (1 + length s.tasks ≤ room h)
 load_costs h s l solvent =

@@ -1,24 +1,28 @@
 -- The scalars of an object stay from the start of an exclusive body on it until that body's end.
-use Rattle.std.proofs.Common.{◌≡◌, ◌≢◌, inl, inr, ℕ, ◌+◌, ◌≤◌, List, [], ◌∷◌, ◌++◌, length, Some, None, Option, Bool, true, false, cond, arith, ap, subst, sym, ◌∙◌, refl}
+use Rattle.std.proofs.Common.{◌≡◌, ◌≢◌, inl, inr, ℕ, ◌+◌, ◌≤◌, List, [], ◌∷◌, ◌++◌, length, Some, None, Option, Bool, true, false, cond, arith, ap, subst, sym, ◌∙◌, refl, append_assoc}
 use Rattle.std.specs.Prelude.{slice_get, not, ◌||◌, ◌&&◌, ◌==◌, if◌then◌else◌}
 use Rattle.std.specs.List.{filter, list_any}
 use Rattle.rv_shape.specs.Shape.{Shape}
-use Rattle.rv_shape.specs.Catalogue.{target, shares}
-use Rattle.rv_event.specs.Past.{under_way, started, ended, closed, begun, without, innermost, writes, scalars}
+use Rattle.rv_shape.specs.Catalogue.{target, shares, initial}
+use Rattle.rv_event.specs.Past.{under_way, started, ended, closed, begun, without, innermost, writes, scalars, renews_object}
 use Rattle.rv_event.specs.declared.entry.Body.{Body}
 use Rattle.rv_event.specs.declared.entry.Entry.{Entry}
-use Rattle.rv_event.specs.declared.entry.Entry.TheVariants.{Asked}
-use Rattle.rv_event.specs.declared.entry.Request.TheVariants.{Complete}
+use Rattle.rv_event.specs.declared.entry.Entry.TheVariants.{Asked, Load, ListChange}
+use Rattle.rv_event.specs.declared.entry.Request.TheVariants.{Complete, Restart}
 use Rattle.rv_event.proofs.Matching.{by}
 use Rattle.rv_history.specs.declared.limits.Limits.{Limits}
 use Rattle.rv_history.specs.History.{History}
-use Rattle.rv_history.specs.Legal.{Legal}
+use Rattle.rv_history.specs.Legal.{Legal, IsLegal}
 use Rattle.rv_history.specs.Orderly.{is_on, is_exclusive_on, IsShared, IsOrderly}
 use Rattle.rv_history.specs.Unended.{IsUnended}
 use Rattle.rv_history.proofs.Answered.{off}
 use Rattle.rv_history.proofs.Stances.{first_actor, itself, some_is}
 use Rattle.rv_history.proofs.Bodies.{one_less}
 use Rattle.rv_history.proofs.Orderly.{legal_orderly, orderly_suffix}
+use Rattle.rv_event.specs.declared.entry.Recorded.TheVariants.{Accepted}
+use Rattle.rv_access.specs.Words.{Words}
+use Rattle.rv_history.proofs.Loaded.{append_none, way_stays}
+use Rattle.rv_history.proofs.Restarts.{held_unrenewed, object_renewals_stay}
 
 -- Lists of bodies
 
@@ -111,6 +115,35 @@ none_starts shapes o b (Some c) bs is one k = by_test (c.object == o) refl k
         let two : length (filter (is_on o) (c ∷ bs)) ≡ length (c ∷ b ∷ []) = ap (λ t. length (cond t (c ∷ filter (is_on o) bs) (filter (is_on o) bs))) e ∙ ap (λ ys. length (c ∷ ys)) one in
         absurd (omega (arith, two, few))
 
+some_kept : (p : Body → Bool) (bs : List Body) (b : Body) → filter p bs ≡ b ∷ [] → list_any p bs ≡ true
+some_kept p [] b e = absurd (cc)
+some_kept p (x ∷ bs) b e = by_test (p x) e (some_kept p bs b)
+  where
+    by_test : (t : Bool) → cond t (x ∷ filter p bs) (filter p bs) ≡ b ∷ [] → (filter p bs ≡ b ∷ [] → list_any p bs ≡ true) → (t || list_any p bs) ≡ true
+    by_test true f rest = refl
+    by_test false f rest = rest f
+
+-- No restart is of an object that is held
+
+abbrev AreKept : List Shape → List Entry → Type 0
+AreKept shapes [] = Unit {0}
+AreKept shapes (e ∷ past) = ((o : ℕ) → list_any (is_on o) (under_way shapes past) ≡ true → renews_object shapes o e ≡ false) × AreKept shapes past
+
+kept_loaded : (c : Limits) (past : List Entry) (shapes more : List Shape) (lists : List (List Words)) → IsLegal c past shapes lists → AreKept (shapes ++ more) past
+kept_loaded c [] shapes more lists l = tt
+kept_loaded c (Asked a r w ∷ past) shapes more lists l =
+    let h : History = record { limits = c; past = past; shapes = shapes; lists = lists } in (
+      λ o held. object_renewals_stay h more a r w o l.1 ∙ held_unrenewed h a r w o l.1 (sym (ap (list_any (is_on o)) (way_stays c past shapes more lists l.0)) ∙ held),
+      kept_loaded c past shapes more lists l.0,
+    )
+kept_loaded c (Load ∷ past) shapes more lists l =
+    let whole : l.0 ++ (l.1 ∷ more) ≡ shapes ++ more = sym (append_assoc l.0 (l.1 ∷ []) more) ∙ ap (λ (ss : List Shape). ss ++ more) (sym l.2) in
+    (λ o held. refl, subst (λ (ss : List Shape). AreKept ss past) whole (kept_loaded c past l.0 (l.1 ∷ more) lists l.3))
+kept_loaded c (ListChange ∷ past) shapes more lists l = (λ o held. refl, kept_loaded c past shapes more l.0 l.3)
+
+legal_kept : (h : History) → Legal h → AreKept h.shapes h.past
+legal_kept h l = subst (λ (ss : List Shape). AreKept ss h.past) (append_none h.shapes) (kept_loaded h.limits h.past h.shapes [] h.lists l)
+
 -- An entry that doesn't end it
 
 record Stays (shapes : List Shape) (o : ℕ) (b : Body) (e : Entry) (past : List Entry) : Type 0 where
@@ -133,18 +166,21 @@ end_stays shapes o b past a (Some c) is one apart = by_test (c.object == o) refl
         let mine : a ≡ b.actor = sym its ∙ ap (λ (d : Body). d.actor) same in
         absurd (apart mine (ap (λ n. innermost shapes n past) (sym mine) ∙ is ∙ ap (λ d. Some d) same))
 
-stays : (shapes : List Shape) (o : ℕ) (b : Body) (e : Entry) (past : List Entry) → filter (is_on o) (under_way shapes past) ≡ b ∷ [] → (ended e ≡ Some b.actor → innermost shapes b.actor past ≢ Some b) → Stays shapes o b e past
-stays shapes o b (Asked a (Complete vs x) w) past one apart =
+stays : (shapes : List Shape) (o : ℕ) (b : Body) (e : Entry) (past : List Entry) → filter (is_on o) (under_way shapes past) ≡ b ∷ [] → (ended e ≡ Some b.actor → innermost shapes b.actor past ≢ Some b) → renews_object shapes o e ≡ false → Stays shapes o b e past
+stays shapes o b (Asked a (Complete vs x) w) past one apart calm =
     let t = end_stays shapes o b past a (innermost shapes a past) refl one (λ same. apart (ap (λ n. Some n) same)) in
     record { bodies = t.0; values = ap (λ u. if u then vs else scalars shapes o past) t.1 }
-stays shapes o b e past one apart = record { bodies = one; values = refl }
+stays shapes o b (Asked a (Restart u) (Accepted v)) past one apart calm = record { bodies = one; values = ap (λ t. if t then initial shapes o else scalars shapes o past) calm }
+stays shapes o b (Asked a (Restart u) w) past one apart calm = record { bodies = one; values = refl }
+stays shapes o b e past one apart calm = record { bodies = one; values = refl }
 
-during : (c : Limits) (shapes : List Shape) (b : Body) (later past : List Entry) → IsOrderly c shapes (later ++ past) → shares (target shapes b.object b.operation) ≡ false → filter (is_on b.object) (under_way shapes past) ≡ b ∷ [] → IsUnended shapes b later past →
+during : (c : Limits) (shapes : List Shape) (b : Body) (later past : List Entry) → IsOrderly c shapes (later ++ past) → AreKept shapes (later ++ past) → shares (target shapes b.object b.operation) ≡ false → filter (is_on b.object) (under_way shapes past) ≡ b ∷ [] → IsUnended shapes b later past →
     (filter (is_on b.object) (under_way shapes (later ++ past)) ≡ b ∷ []) × (scalars shapes b.object (later ++ past) ≡ scalars shapes b.object past)
-during c shapes b [] past k is one u = (one, refl)
-during c shapes b (e ∷ later) past k is one u =
-    let rest = during c shapes b later past k.1 is one u.0 in
-    let s = stays shapes b.object b e (later ++ past) rest.0 u.1 in
+during c shapes b [] past k kept is one u = (one, refl)
+during c shapes b (e ∷ later) past k kept is one u =
+    let rest = during c shapes b later past k.1 kept.1 is one u.0 in
+    let calm = kept.0 b.object (some_kept (is_on b.object) (under_way shapes (later ++ past)) b rest.0) in
+    let s = stays shapes b.object b e (later ++ past) rest.0 u.1 calm in
     (none_starts shapes b.object b (started shapes (later ++ past) e) (closed (ended e) (under_way shapes (later ++ past))) is s.bodies (k.0.shared b.object), s.values ∙ rest.1)
 
 pub scalars_during : (h : History) (later past : List Entry) (start : Entry) (b : Body) → Legal h → h.past ≡ later ++ start ∷ past → started h.shapes past start ≡ Some b →
@@ -157,4 +193,5 @@ scalars_during h later past start b l split starts is u =
     let alone : filter (is_on b.object) (b ∷ rest) ≡ b ∷ [] =
     ap (λ t. cond t (b ∷ filter (is_on b.object) rest) (filter (is_on b.object) rest)) (itself b.object) ∙ ap (λ bs. b ∷ bs) (exclusive_few h.shapes b rest is shared) in
     let one : filter (is_on b.object) (under_way h.shapes (start ∷ past)) ≡ b ∷ [] = ap (λ q. filter (is_on b.object) (begun q rest)) starts ∙ alone in
-    ap (scalars h.shapes b.object) split ∙ (during h.limits h.shapes b later (start ∷ past) all is one u).1
+    let kept : AreKept h.shapes (later ++ start ∷ past) = subst (AreKept h.shapes) split (legal_kept h l) in
+    ap (scalars h.shapes b.object) split ∙ (during h.limits h.shapes b later (start ∷ past) all kept is one u).1

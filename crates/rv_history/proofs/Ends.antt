@@ -24,7 +24,7 @@ use Rattle.rv_history.specs.Due.{out, due, due_end, due_settle, end_of, after_en
 use Rattle.rv_history.specs.Legal.{Legal}
 use Rattle.rv_history.proofs.Answered.{both}
 use Rattle.rv_history.proofs.Modes.{ends_at, free_in}
-use Rattle.rv_history.proofs.Stances.{itself, another, is_other, same_number}
+use Rattle.rv_history.proofs.Stances.{itself, another, calm_stance, done_calm, is_other, same_number}
 use Rattle.rv_history.proofs.Sums.{each_change, each_same}
 use Rattle.rv_history.proofs.Waits.{AllWait}
 use Rattle.rv_history.proofs.Ending.{head_waits, serves_named}
@@ -34,7 +34,7 @@ use Rattle.rv_history.proofs.Pays.{dues_by, Pays, with_entry, unrecorded, paid_a
 
 -- whom an answer names is in a queue
 pub record Queues (h : History) (next : Next) : Type 0 where
-  pub named : (n : ℕ) → named_in next ≡ Some n → (stance n h.past ≡ InQueue) × (n < actors h.shapes)
+  pub named : (n : ℕ) → named_in next ≡ Some n → (stance h.shapes n h.past ≡ InQueue) × (n < actors h.shapes)
 
 -- one body fewer, in all, than with whom it names, and all else as it was
 record Counted (h : History) (a : ℕ) (r : Request) (next : Next) : Type 0 where
@@ -63,35 +63,36 @@ settle_counted h a b next is =
     record { bodies = omega (arith, few, one_gone a b (unsettled h.shapes h.past) is); own = refl; going = refl }
 
 -- whoever isn't named owes what it owed
-same_dues : (h : History) (a : ℕ) (r : Request) (next : Next) (j : ℕ) → is_other (named_in next) j ≡ true → stance_of (Asked a r (Done next)) ≡ Free → stance a h.past ≡ Free → dues (Asked a r (Done next) ∷ h.past) j ≡ dues h.past j
+same_dues : (h : History) (a : ℕ) (r : Request) (next : Next) (j : ℕ) → is_other (named_in next) j ≡ true → stance_of (Asked a r (Done next)) ≡ Free → stance h.shapes a h.past ≡ Free → dues h.shapes (Asked a r (Done next) ∷ h.past) j ≡ dues h.shapes h.past j
 same_dues h a r next j other own free =
-    ap (λ s. dues_by s (nat_lt j 11)) (stance_unnamed next j a (stance_of (Asked a r (Done next))) (stance j h.past) other ∙ by_test (a == j) refl)
+    ap (λ s. dues_by s (nat_lt j 11)) (calm_stance h.shapes j (Asked a r (Done next)) h.past (done_calm h.shapes j a r next)
+    ∙ stance_unnamed next j a (stance_of (Asked a r (Done next))) (stance h.shapes j h.past) other ∙ by_test (a == j) refl)
   where
-    by_test : (b : Bool) → (a == j) ≡ b → (if b then stance_of (Asked a r (Done next)) else stance j h.past) ≡ stance j h.past
+    by_test : (b : Bool) → (a == j) ≡ b → (if b then stance_of (Asked a r (Done next)) else stance h.shapes j h.past) ≡ stance h.shapes j h.past
     by_test false is = refl
-    by_test true is = own ∙ sym free ∙ ap (λ n. stance n h.past) (same_number a j is)
+    by_test true is = own ∙ sym free ∙ ap (λ n. stance h.shapes n h.past) (same_number a j is)
 
 -- whom it names owes one less
-named_less : (h : History) (a : ℕ) (r : Request) (next : Next) (n : ℕ) (s : Stance) → named_in next ≡ Some n → stance n (Asked a r (Done next) ∷ h.past) ≡ s → ((low : Bool) → dues_by s low + 1 ≡ dues_by InQueue low) →
-    stance_of (Asked a r (Done next)) ≡ Free → stance a h.past ≡ Free → Queues h next → each (actors h.shapes) (dues (Asked a r (Done next) ∷ h.past)) + 1 ≡ each (actors h.shapes) (dues h.past)
+named_less : (h : History) (a : ℕ) (r : Request) (next : Next) (n : ℕ) (s : Stance) → named_in next ≡ Some n → stance h.shapes n (Asked a r (Done next) ∷ h.past) ≡ s → ((low : Bool) → dues_by s low + 1 ≡ dues_by InQueue low) →
+    stance_of (Asked a r (Done next)) ≡ Free → stance h.shapes a h.past ≡ Free → Queues h next → each (actors h.shapes) (dues h.shapes (Asked a r (Done next) ∷ h.past)) + 1 ≡ each (actors h.shapes) (dues h.shapes h.past)
 named_less h a r next n s is at less own free q =
     let queued = q.named n is in
-    let was : dues h.past n ≡ dues_by InQueue (nat_lt n 11) = ap (λ t. dues_by t (nat_lt n 11)) queued.0 in
-    let now : dues (Asked a r (Done next) ∷ h.past) n ≡ dues_by s (nat_lt n 11) = ap (λ t. dues_by t (nat_lt n 11)) at in
-    let rest = each_change (actors h.shapes) n (dues (Asked a r (Done next) ∷ h.past)) (dues h.past) queued.1 (λ j k. same_dues h a r next j (ap (λ o. is_other o j) is ∙ ap not (another n j k)) own free) in
+    let was : dues h.shapes h.past n ≡ dues_by InQueue (nat_lt n 11) = ap (λ t. dues_by t (nat_lt n 11)) queued.0 in
+    let now : dues h.shapes (Asked a r (Done next) ∷ h.past) n ≡ dues_by s (nat_lt n 11) = ap (λ t. dues_by t (nat_lt n 11)) at in
+    let rest = each_change (actors h.shapes) n (dues h.shapes (Asked a r (Done next) ∷ h.past)) (dues h.shapes h.past) queued.1 (λ j k. same_dues h a r next j (ap (λ o. is_other o j) is ∙ ap not (another n j k)) own free) in
     omega (arith, was, now, rest, less (nat_lt n 11))
 
-dues_fall : (h : History) (a : ℕ) (r : Request) (next : Next) → stance_of (Asked a r (Done next)) ≡ Free → stance a h.past ≡ Free → Queues h next →
-    each (actors h.shapes) (dues (Asked a r (Done next) ∷ h.past)) + names_one next ≡ each (actors h.shapes) (dues h.past)
+dues_fall : (h : History) (a : ℕ) (r : Request) (next : Next) → stance_of (Asked a r (Done next)) ≡ Free → stance h.shapes a h.past ≡ Free → Queues h next →
+    each (actors h.shapes) (dues h.shapes (Asked a r (Done next) ∷ h.past)) + names_one next ≡ each (actors h.shapes) (dues h.shapes h.past)
 dues_fall h a r Nothing own free q =
-    let same : each (actors h.shapes) (dues (Asked a r (Done Nothing) ∷ h.past)) ≡ each (actors h.shapes) (dues h.past) = each_same (actors h.shapes) _ _ (λ j less. same_dues h a r Nothing j refl own free) in
+    let same : each (actors h.shapes) (dues h.shapes (Asked a r (Done Nothing) ∷ h.past)) ≡ each (actors h.shapes) (dues h.shapes h.past) = each_same (actors h.shapes) _ _ (λ j less. same_dues h a r Nothing j refl own free) in
     omega (arith, same)
-dues_fall h a r (HandedTo n) own free q = named_less h a r (HandedTo n) n HandedOver refl (λ i. or_else (first_of (if itself n i then Some HandedOver else None) (if a == n then Some (stance_of (Asked a r (Done (HandedTo n)))) else None)) (stance n h.past)) by_low own free q
+dues_fall h a r (HandedTo n) own free q = named_less h a r (HandedTo n) n HandedOver refl (calm_stance h.shapes n (Asked a r (Done (HandedTo n))) h.past (done_calm h.shapes n a r (HandedTo n)) ∙ (λ i. or_else (first_of (if itself n i then Some HandedOver else None) (if a == n then Some (stance_of (Asked a r (Done (HandedTo n)))) else None)) (stance h.shapes n h.past))) by_low own free q
   where
     by_low : (low : Bool) → dues_by HandedOver low + 1 ≡ dues_by InQueue low
     by_low true = refl
     by_low false = refl
-dues_fall h a r (Dropped n line) own free q = named_less h a r (Dropped n line) n (DroppedBy line) refl (λ i. or_else (first_of (if itself n i then Some (DroppedBy line) else None) (if a == n then Some (stance_of (Asked a r (Done (Dropped n line)))) else None)) (stance n h.past)) by_low own free q
+dues_fall h a r (Dropped n line) own free q = named_less h a r (Dropped n line) n (DroppedBy line) refl (calm_stance h.shapes n (Asked a r (Done (Dropped n line))) h.past (done_calm h.shapes n a r (Dropped n line)) ∙ (λ i. or_else (first_of (if itself n i then Some (DroppedBy line) else None) (if a == n then Some (stance_of (Asked a r (Done (Dropped n line)))) else None)) (stance h.shapes n h.past))) by_low own free q
   where
     by_low : (low : Bool) → dues_by (DroppedBy line) low + 1 ≡ dues_by InQueue low
     by_low true = refl
@@ -102,7 +103,7 @@ none_given : (a : ℕ) (r : Request) (next : Next) (past : List Entry) → archi
 none_given a (Archive n) next past = refl
 none_given a r next past = refl
 
-paid_done : (h : History) (a : ℕ) (r : Request) (next : Next) → Counted h a r next → stance a h.past ≡ Free → Queues h next → IsSolvent h → IsSolvent (with_entry h a r (Done next))
+paid_done : (h : History) (a : ℕ) (r : Request) (next : Next) → Counted h a r next → stance h.shapes a h.past ≡ Free → Queues h next → IsSolvent h → IsSolvent (with_entry h a r (Done next))
 paid_done h a r next t free q solvent =
     let going : halt_due (halted (Asked a r (Done next) ∷ h.past)) ≡ halt_due (halted h.past) = ap halt_due t.going in
     let bodies = t.bodies in
@@ -114,13 +115,13 @@ none_queues h = record { named = λ n e. absurd (cc) }
 after_queues : (h : History) (o : ℕ) (vs : List ℤ) → AllWait h.shapes h.past (waiting h.past) → Queues h (after_end h o vs)
 after_queues h o vs all = record { named = λ n e. by_head n e }
   where
-    by_head : (n : ℕ) → named_in (after_end h o vs) ≡ Some n → (stance n h.past ≡ InQueue) × (n < actors h.shapes)
+    by_head : (n : ℕ) → named_in (after_end h o vs) ≡ Some n → (stance h.shapes n h.past ≡ InQueue) × (n < actors h.shapes)
     by_head n e =
         let q = serves_named h o vs (after_end h o vs) n refl e in
         let v = head_waits h.shapes h.past o q.call q.rest all q.queued in
-        subst (λ m. (stance m h.past ≡ InQueue) × (m < actors h.shapes)) q.is_its (v.at, v.known)
+        subst (λ m. (stance h.shapes m h.past ≡ InQueue) × (m < actors h.shapes)) q.is_its (v.at, v.known)
 
-pays_end : (h : History) (a : ℕ) (vs : List ℤ) (x : Exit) (b : Option Body) → innermost h.shapes a h.past ≡ b → stance a h.past ≡ Free → AllWait h.shapes h.past (waiting h.past) → IsSolvent h →
+pub pays_end : (h : History) (a : ℕ) (vs : List ℤ) (x : Exit) (b : Option Body) → innermost h.shapes a h.past ≡ b → stance h.shapes a h.past ≡ Free → AllWait h.shapes h.past (waiting h.past) → IsSolvent h →
     Pays h a (Complete vs x) (due_end h vs b)
 pays_end h a vs x None is free all solvent = unrecorded h a (Complete vs x) Answers.Misuse refl
 pays_end h a vs x (Some b) is free all solvent = by_target (target h.shapes b.object b.operation)
@@ -140,10 +141,10 @@ pub end_never_full : (h : History) (a : ℕ) (vs : List ℤ) (x : Exit) → Lega
 end_never_full h a vs x legal solvent = out_due h a (Complete vs x) refl (λ f c.
     let t = fit_parts h a (Complete vs x) f in
     let m = both (in_body (mode h.shapes a h.past)) (end_fits h.shapes vs x (innermost h.shapes a h.past)) t.1 in
-    let ends = ends_at (to_settle h.shapes a h.past) (mode_by (held h.shapes a h.past) (stance a h.past)) m.0 in
-    pays_end h a vs x (innermost h.shapes a h.past) refl (free_in (held h.shapes a h.past) (stance a h.past) ends) (legal_waits h.limits h.past h.shapes h.lists legal) solvent)
+    let ends = ends_at (to_settle h.shapes a h.past) (mode_by (held h.shapes a h.past) (stance h.shapes a h.past)) m.0 in
+    pays_end h a vs x (innermost h.shapes a h.past) refl (free_in (held h.shapes a h.past) (stance h.shapes a h.past) ends) (legal_waits h.limits h.past h.shapes h.lists legal) solvent)
 
-pays_settle : (h : History) (a : ℕ) (b : Option Body) → to_settle h.shapes a h.past ≡ b → Standing h.shapes h.past → IsSolvent h → Pays h a Settle (due_settle h b)
+pub pays_settle : (h : History) (a : ℕ) (b : Option Body) → to_settle h.shapes a h.past ≡ b → Standing h.shapes h.past → IsSolvent h → Pays h a Settle (due_settle h b)
 pays_settle h a None is k solvent = unrecorded h a Settle Answers.Misuse refl
 pays_settle h a (Some b) is k solvent =
     let next : Next = after_end h b.object (scalars h.shapes b.object h.past) in

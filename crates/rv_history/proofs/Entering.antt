@@ -62,8 +62,8 @@ lists_let_nobody_in h list o l still = by_answer (is_some (recorded (out_list h 
 
 pub settle_unfit : (h : History) (a : ℕ) → Legal h → h.limits.queue ≡ 1 → fits h a Settle ≡ false
 settle_unfit h a l one =
-    ap (λ bodies. nat_lt a (actors h.shapes) && is_settling (or_settling (first_by a bodies) (mode_by (held h.shapes a h.past) (stance a h.past)))) (nothing_unsettled h l one)
-    ∙ ap (λ b. nat_lt a (actors h.shapes) && b) (never_settling (held h.shapes a h.past) (stance a h.past))
+    ap (λ bodies. nat_lt a (actors h.shapes) && is_settling (or_settling (first_by a bodies) (mode_by (held h.shapes a h.past) (stance h.shapes a h.past)))) (nothing_unsettled h l one)
+    ∙ ap (λ b. nat_lt a (actors h.shapes) && b) (never_settling (held h.shapes a h.past) (stance h.shapes a h.past))
     ∙ and_false (nat_lt a (actors h.shapes))
 
 -- Want of memory

@@ -76,8 +76,8 @@ record Judged (h : History) (a line : ℕ) : Type 0 where
 judged_as : (h : History) (a line : ℕ) → who h.shapes a ≡ Line line → mode h.shapes a h.past ≡ Modes.Idle → Judged h a line
 judged_as h a line is idle =
     let idles : idle_line (who h.shapes a) (mode h.shapes a h.past) ≡ true = λ i. idle_line (is i) (idle i) in
-    let fit = fires_at (who h.shapes a) (to_settle h.shapes a h.past) (mode_by (held h.shapes a h.past) (stance a h.past)) idles in
-    let none : held h.shapes a h.past ≡ [] = idle_none (who h.shapes a) (held h.shapes a h.past) (stance a h.past) fit in
+    let fit = fires_at (who h.shapes a) (to_settle h.shapes a h.past) (mode_by (held h.shapes a h.past) (stance h.shapes a h.past)) idles in
+    let none : held h.shapes a h.past ≡ [] = idle_none (who h.shapes a) (held h.shapes a h.past) (stance h.shapes a h.past) fit in
     record {
       none = none;
       calls_as = ap (λ bs. subject_of h a (slice_get bs 0)) none ∙ ap home is;

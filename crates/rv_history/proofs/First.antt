@@ -9,7 +9,7 @@ use Rattle.rv_shape.specs.declared.suspension.SuspensionOperation.TheVariants.{S
 use Rattle.rv_event.specs.declared.entry.Answer.{Answer}
 use Rattle.rv_event.specs.declared.entry.Answer.TheVariants as Answers
 use Rattle.rv_event.specs.declared.entry.Request.{Request}
-use Rattle.rv_event.specs.declared.entry.Request.TheVariants.{Call, DelayUntil, Clock, Fire, Tick, Halt, Archive}
+use Rattle.rv_event.specs.declared.entry.Request.TheVariants.{Call, DelayUntil, Clock, Fire, Tick, Halt, Archive, Restart}
 use Rattle.rv_event.specs.declared.entry.Rule.{Rule}
 use Rattle.rv_event.specs.declared.entry.Rule.TheVariants.{Grant}
 use Rattle.rv_event.specs.declared.entry.Recorded.{Recorded}
@@ -18,9 +18,10 @@ use Rattle.rv_history.specs.History.{History, version}
 use Rattle.rv_history.specs.Subject.{subject}
 use Rattle.rv_history.specs.Exclusion.{excluded, is_barred}
 use Rattle.rv_history.specs.Rules.{Aim, aim, aim_at, decided, first_at, is_grant}
-use Rattle.rv_history.specs.Due.{delayed, due_call, due_fire, goes_on, judged, let_in, out, performed, table, unless_refused}
+use Rattle.rv_history.specs.Due.{delayed, due_call, due_fire, goes_on, judged, let_in, out, performed, table, unless_refused, nothing_more}
 use Rattle.rv_history.specs.Refusal.{IsRefusal}
 use Rattle.rv_history.proofs.Answered.{off, answered, word_is}
+use Rattle.rv_history.specs.InUse.{in_use}
 
 -- the parts of a refusal
 parts : Recorded → Rule × ℕ × ℕ
@@ -95,7 +96,7 @@ call_first h a r o rule line number Nowhere at e = absurd (cc)
 call_first h a r o rule line number (OnProtected s) at e =
     judged_first h a r o (OnProtected s) (let_in h o s) rule line number at (let_in_calm h o s) e
 call_first h a r o rule line number (OnSuspension unit name wanted) at e =
-    judged_first h a r o (OnSuspension unit name wanted) (performed (state o h.past) wanted) rule line number at (performed_calm (state o h.past) wanted) e
+    judged_first h a r o (OnSuspension unit name wanted) (performed (state h.shapes o h.past) wanted) rule line number at (performed_calm (state h.shapes o h.past) wanted) e
 
 fire_first : (h : History) (a : ℕ) (rule : Rule) (line number : ℕ) (n : Option OperationNumber) → handler h.shapes (a - 1) ≡ n → recorded (due_fire h a n) ≡ Some (Refused rule line number) → IsRefusal h a Fire rule line number
 fire_first h a rule line number None is e = absurd (cc)
@@ -115,4 +116,9 @@ names_first h a r rule line number calls e = by_request r calls (answered h a r 
     by_request (Tick n) calls f = absurd (cc)
     by_request Halt calls f = absurd (cc)
     by_request (Archive n) calls f = absurd (cc)
+    by_request (Restart u) calls f = by_use (in_use h u) f
+      where
+        by_use : (used : Bool) → recorded (if used then Answers.Busy else nothing_more) ≡ Some (Refused rule line number) → IsRefusal h a (Restart u) rule line number
+        by_use true g = absurd (cc)
+        by_use false g = absurd (cc)
     by_request r calls f = absurd (off (sym calls))

@@ -29,7 +29,7 @@ use Rattle.rv_history.specs.Orderly.{is_on}
 use Rattle.rv_history.specs.HandOver.{Reaches, IsHandedOver, IsDropped, IsOnlyDropped, serves, served, settling_behind}
 use Rattle.rv_event.proofs.Matching.{by}
 use Rattle.rv_history.proofs.Answered.{off, and_false, answered, both}
-use Rattle.rv_history.proofs.Stances.{another, is_waiting, itself, mode_other, own_stance, same_number, some_is}
+use Rattle.rv_history.proofs.Stances.{another, is_waiting, itself, mode_other, own_stance, same_number, some_is, calm_stance, done_calm}
 use Rattle.rv_history.proofs.Waits.{Waits, AllWait}
 use Rattle.rv_history.proofs.Done.{done_serves}
 use Rattle.rv_history.proofs.Ending.{Names, names_at, head_waits, head_on}
@@ -218,15 +218,16 @@ settles h a r n line m k f other = record {
     holds : List Body
     holds = held h.shapes a ended
 
-    at_drop : stance a dropped ≡ Free
-    at_drop = stance_unnamed (Dropped n line) a a (stance_of (Asked a r (Words.Done (Dropped n line)))) (stance a h.past) (ap not other)
-        ∙ ap (λ b. if b then stance_of (Asked a r (Words.Done (Dropped n line))) else stance a h.past) (itself a) ∙ f.frees (Dropped n line)
+    at_drop : stance h.shapes a dropped ≡ Free
+    at_drop = calm_stance h.shapes a (Asked a r (Words.Done (Dropped n line))) h.past (done_calm h.shapes a a r (Dropped n line))
+        ∙ stance_unnamed (Dropped n line) a a (stance_of (Asked a r (Words.Done (Dropped n line)))) (stance h.shapes a h.past) (ap not other)
+        ∙ ap (λ b. if b then stance_of (Asked a r (Words.Done (Dropped n line))) else stance h.shapes a h.past) (itself a) ∙ f.frees (Dropped n line)
 
-    at_end : stance a ended ≡ Free
-    at_end = own_stance a r (Words.Done Nothing) h.past refl ∙ f.frees Nothing
+    at_end : stance h.shapes a ended ≡ Free
+    at_end = own_stance h.shapes a r (Words.Done Nothing) h.past refl ∙ f.frees Nothing
 
 -- all that a denial does
-dropped_by : (h : History) (a : ℕ) (r : Request) (n line : ℕ) → Legal h → out h a r ≡ Answers.Done (Dropped n line) → is_waiting (stance a h.past) ≡ false → Frees h a r n line →
+dropped_by : (h : History) (a : ℕ) (r : Request) (n line : ℕ) → Legal h → out h a r ≡ Answers.Done (Dropped n line) → is_waiting (stance h.shapes a h.past) ≡ false → Frees h a r n line →
     ((o : ℕ) → scalars h.shapes o (Asked a r (Words.Done (Dropped n line)) ∷ h.past) ≡ scalars h.shapes o (Asked a r (Words.Done Nothing) ∷ h.past)) →
     under_way h.shapes (Asked a r (Words.Done (Dropped n line)) ∷ h.past) ≡ under_way h.shapes (Asked a r (Words.Done Nothing) ∷ h.past) →
     IsOnlyDropped h (after h a r (Answers.Done (Dropped n line))) (after h a r (Answers.Done Nothing)) a n
@@ -249,7 +250,8 @@ dropped_by h a r n line l e calm f values ways =
       exclusion_stays = λ o away f. (λ i. list_any (conflicts h.shapes o f) (ways i) || t.others o away i);
       own_mode = t.own;
       modes_stay = λ j not_caller not_actor.
-          mode_other h.shapes h.past a r (Words.Done (Dropped n line)) j not_actor (ap not (another n j not_caller)) ∙ sym (mode_other h.shapes h.past a r (Words.Done Nothing) j not_actor refl);
+          mode_other h.shapes h.past a r (Words.Done (Dropped n line)) j not_actor (ap not (another n j not_caller)) (done_calm h.shapes j a r (Dropped n line))
+          ∙ sym (mode_other h.shapes h.past a r (Words.Done Nothing) j not_actor refl (done_calm h.shapes j a r Nothing));
     }
 
 pub only_dropped : (h : History) (a : ℕ) (r : Request) (n line : ℕ) → Legal h → out h a r ≡ Answers.Done (Dropped n line) →

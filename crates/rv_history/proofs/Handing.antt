@@ -37,8 +37,8 @@ use Rattle.rv_history.proofs.Loaded.{left_stays, protected_stays, way_stays}
 use Rattle.rv_history.proofs.Orderly.{handed_call, legal_orderly_at}
 use Rattle.rv_history.proofs.Resumes.{resume_due}
 use Rattle.rv_history.proofs.Settled.{entry_excludes, no_length, own_writes}
-use Rattle.rv_history.proofs.Silent.{apart_while, is_queued, neither}
-use Rattle.rv_history.proofs.Stances.{is_waiting, itself}
+use Rattle.rv_history.proofs.Silent.{apart_while, is_steady, neither}
+use Rattle.rv_history.proofs.Stances.{calm_stance, done_calm, is_waiting, itself}
 use Rattle.rv_history.proofs.Standing.{legal_standing, legal_waits, none_left}
 
 -- At the end or settle itself, over the shapes of later
@@ -113,9 +113,10 @@ then_is shapes past a Settle n t =
     record { starts = t.last; holds = one_holds shapes past a Settle n t (under_way shapes past) (omega arith); leaves = ap (λ o. scalars shapes o past) t.there }
 then_is shapes past a r n t = absurd (off t.serve)
 
-stance_then : (past : List Entry) (a : ℕ) (r : Request) (n : ℕ) → stance n (Asked a r (Done (HandedTo n)) ∷ past) ≡ HandedOver
-stance_then past a r n =
-    λ i. or_else (first_of (if itself n i then Some HandedOver else None) (if a == n then Some (stance_of (Asked a r (Done (HandedTo n)))) else None)) (stance n past)
+stance_then : (shapes : List Shape) (past : List Entry) (a : ℕ) (r : Request) (n : ℕ) → stance shapes n (Asked a r (Done (HandedTo n)) ∷ past) ≡ HandedOver
+stance_then shapes past a r n =
+    calm_stance shapes n (Asked a r (Done (HandedTo n))) past (done_calm shapes n a r (HandedTo n))
+    ∙ (λ i. or_else (first_of (if itself n i then Some HandedOver else None) (if a == n then Some (stance_of (Asked a r (Done (HandedTo n)))) else None)) (stance shapes n past))
 
 -- Later, while the caller asks nothing
 
@@ -131,7 +132,7 @@ unended shapes b (e ∷ later) past none =
         off (sym (sym (itself c) ∙ ap (λ m. c == m) same ∙ other))
     own_end e other ends = cc
 
-woken_with : (h : History) (n : ℕ) (call : Body) (vs : List ℤ) → Legal h → IsSolvent h → stance n h.past ≡ HandedOver → held h.shapes n h.past ≡ call ∷ [] → scalars h.shapes call.object h.past ≡ vs → out h n Resume ≡ Answers.Woken (Some vs)
+woken_with : (h : History) (n : ℕ) (call : Body) (vs : List ℤ) → Legal h → IsSolvent h → stance h.shapes n h.past ≡ HandedOver → held h.shapes n h.past ≡ call ∷ [] → scalars h.shapes call.object h.past ≡ vs → out h n Resume ≡ Answers.Woken (Some vs)
 woken_with h n call vs l solvent at holds values =
     resume_due h n HandedOver l solvent at refl
     ∙ (λ i. Answers.Woken (Some (scalars_held h (slice_get (holds i) 0))))
@@ -145,9 +146,9 @@ handed_wakes h later past a r n l solvent split silent =
     let before : History = record { limits = h.limits; past = past; shapes = w.old; lists = w.lists } in
     let t : Hands h.shapes past a r n = subst (λ (ss : List Shape). Hands ss past a r n) (sym w.whole) (hands_at before a r n w.legal.0 w.legal.1 w.more) in
     let at_first = then_is h.shapes past a r n t in
-    let first : stance n (e ∷ past) ≡ HandedOver = stance_then past a r n in
-    let apart = apart_while h.limits later (e ∷ past) h.shapes h.lists n whole (ap is_queued first) silent in
-    let at : stance n h.past ≡ HandedOver = ap (stance n) split ∙ stance_stays n later (e ∷ past) apart ∙ first in
+    let first : stance h.shapes n (e ∷ past) ≡ HandedOver = stance_then h.shapes past a r n in
+    let apart = apart_while h.limits later (e ∷ past) h.shapes h.lists n whole (ap is_steady first) silent in
+    let at : stance h.shapes n h.past ≡ HandedOver = ap (stance h.shapes n) split ∙ stance_stays h.shapes n later (e ∷ past) apart ∙ first in
     let holds : held h.shapes n h.past ≡ t.call ∷ [] = ap (held h.shapes n) split ∙ held_stays h.shapes n later (e ∷ past) apart ∙ at_first.holds in
     let quiet : list_any (is_own t.call.actor) later ≡ false = ap (λ j. list_any (is_own j) later) t.its ∙ silent in
     let values : scalars h.shapes t.call.object h.past ≡ served_with h.shapes past r t.body.object =
@@ -168,11 +169,11 @@ handed_wakes h later past a r n l solvent split silent =
 
 -- One that was dropped
 
-until_apart : (j : ℕ) (later past : List Entry) → list_all (is_apart j) later ≡ true → until_then j (later ++ past) ≡ until_then j past
-until_apart j [] past apart = refl
-until_apart j (e ∷ later) past apart =
-    let parts = all_parts (is_apart j) e later apart in
-    ap (λ s. if is_some s then later ++ past else until_then j (later ++ past)) (unsaid j e parts.0) ∙ until_apart j later past parts.1
+until_apart : (shapes : List Shape) (j : ℕ) (later past : List Entry) → list_all (is_apart shapes j) later ≡ true → until_then j (later ++ past) ≡ until_then j past
+until_apart shapes j [] past apart = refl
+until_apart shapes j (e ∷ later) past apart =
+    let parts = all_parts (is_apart shapes j) e later apart in
+    ap (λ s. if is_some s then later ++ past else until_then j (later ++ past)) (unsaid shapes j e parts.0) ∙ until_apart shapes j later past parts.1
 
 pub dropped_told : (h : History) (later past : List Entry) (a : ℕ) (r : Request) (n line : ℕ) → Legal h → IsSolvent h → h.past ≡ later ++ Asked a r (Done (Dropped n line)) ∷ past → list_any (is_own n) later ≡ false →
     out h n Resume ≡ Answers.Refused Rules.Grant line (changes past)
@@ -180,8 +181,9 @@ dropped_told h later past a r n line l solvent split silent =
     let e : Entry = Asked a r (Done (Dropped n line)) in
     let whole = legal_split h later (e ∷ past) l split in
     let told : said n e ≡ Some (DroppedBy line) = λ i. first_of (if itself n i then Some (DroppedBy line) else None) (if a == n then Some (stance_of e) else None) in
-    let first : stance n (e ∷ past) ≡ DroppedBy line = ap (λ s. or_else s (stance n past)) told in
-    let apart = apart_while h.limits later (e ∷ past) h.shapes h.lists n whole (ap is_queued first) silent in
-    let at : stance n h.past ≡ DroppedBy line = ap (stance n) split ∙ stance_stays n later (e ∷ past) apart ∙ first in
-    let then_was : until_then n h.past ≡ past = ap (until_then n) split ∙ until_apart n later (e ∷ past) apart ∙ ap (λ s. if is_some s then past else until_then n past) told in
+    let first : stance h.shapes n (e ∷ past) ≡ DroppedBy line =
+    calm_stance h.shapes n e past (done_calm h.shapes n a r (Dropped n line)) ∙ ap (λ s. or_else s (stance h.shapes n past)) told in
+    let apart = apart_while h.limits later (e ∷ past) h.shapes h.lists n whole (ap is_steady first) silent in
+    let at : stance h.shapes n h.past ≡ DroppedBy line = ap (stance h.shapes n) split ∙ stance_stays h.shapes n later (e ∷ past) apart ∙ first in
+    let then_was : until_then n h.past ≡ past = ap (until_then n) split ∙ until_apart h.shapes n later (e ∷ past) apart ∙ ap (λ s. if is_some s then past else until_then n past) told in
     resume_due h n (DroppedBy line) l solvent at refl ∙ ap (λ es. Answers.Refused Rules.Grant line (changes es)) then_was

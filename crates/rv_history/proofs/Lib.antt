@@ -1,6 +1,8 @@
 -- What recorded answers say, and lists of bodies
 pub mod Answered
 pub mod Stances
+pub mod Restarts
+pub mod Before
 pub mod Bodies
 pub mod Handled
 pub mod Sums
@@ -43,6 +45,8 @@ pub mod Pays
 pub mod Ends
 pub mod NeverFull
 pub mod Costs
+pub mod Resting
+pub mod Renewing
 -- Resumes, suspension and the clock
 pub mod Resumes
 pub mod Released

@@ -7,15 +7,15 @@ use Rattle.rv_access.specs.Words.{Words}
 use Rattle.rv_shape.specs.Shape.{Shape}
 use Rattle.rv_event.specs.Recorded.{recorded}
 use Rattle.rv_shape.specs.Catalogue.{OperationNumber, UnitObject, Site, Operator, Line, Nowhere, OnProtected, all_tasks, place, target, task_of, tasks_of, at_unit_object, starts_at, shares, handler, who}
-use Rattle.rv_event.specs.Past.{started, ended, closed, without, begun, fired, under_way, innermost, first_by, left_by, unsettled, writes, scalars, scalars_after}
+use Rattle.rv_event.specs.Past.{started, ended, closed, without, begun, fired, under_way, innermost, first_by, left_by, renews_object, unsettled, writes, scalars, scalars_after}
 use Rattle.rv_shape.proofs.Stay.{handler_stays, object_stays, target_stays}
 use Rattle.rv_event.specs.declared.entry.Entry.{Entry}
 use Rattle.rv_event.specs.declared.entry.Entry.TheVariants.{Asked, Load, ListChange}
 use Rattle.rv_event.specs.declared.entry.Body.{Body}
 use Rattle.rv_event.specs.declared.entry.Request.{Request}
-use Rattle.rv_event.specs.declared.entry.Request.TheVariants.{Call, Complete, Settle, Fire}
+use Rattle.rv_event.specs.declared.entry.Request.TheVariants.{Call, Complete, Settle, Fire, Restart}
 use Rattle.rv_event.specs.declared.entry.Recorded.{Recorded}
-use Rattle.rv_event.specs.declared.entry.Recorded.TheVariants.{Started, Done}
+use Rattle.rv_event.specs.declared.entry.Recorded.TheVariants.{Started, Done, Accepted}
 use Rattle.rv_history.specs.declared.limits.Limits.{Limits}
 use Rattle.rv_history.specs.History.{History}
 use Rattle.rv_history.specs.Rules.{aim_at, is_protected}
@@ -24,6 +24,7 @@ use Rattle.rv_history.specs.Legal.{IsLegal, Legal}
 use Rattle.rv_history.specs.Owed.{actors}
 use Rattle.rv_history.proofs.Answered.{off}
 use Rattle.rv_history.proofs.Exactly.{started_allowed, nowhere_else}
+use Rattle.rv_history.proofs.Restarts.{object_renewals_stay}
 
 -- a line that was fired has its handler
 start_stays : (h : History) (more : List Shape) (a : ℕ) (r : Request) (w : Recorded) → recorded (out h a r) ≡ Some w → started (h.shapes ++ more) h.past (Asked a r w) ≡ started h.shapes h.past (Asked a r w)
@@ -114,19 +115,23 @@ same_writes one two o (Some b) at = by_test (b.object == o) refl
         ap (λ p. not (shares (at_unit_object b.operation p))) there
     by_test false e = refl
 
-same_after : (one two : List Shape) (o : ℕ) (past : List Entry) (a : ℕ) (r : Request) (w : Recorded) → place one o ≡ place two o → under_way one past ≡ under_way two past → scalars one o past ≡ scalars two o past →
+same_after : (one two : List Shape) (o : ℕ) (past : List Entry) (a : ℕ) (r : Request) (w : Recorded) → place one o ≡ place two o → renews_object one o (Asked a r w) ≡ renews_object two o (Asked a r w) →
+    under_way one past ≡ under_way two past → scalars one o past ≡ scalars two o past →
     scalars_after one o past (Asked a r w) (scalars one o past) ≡ scalars_after two o past (Asked a r w) (scalars two o past)
-same_after one two o past a (Complete vs x) w at bodies before =
+same_after one two o past a (Complete vs x) w at renewals bodies before =
     let inner : innermost one a past ≡ innermost two a past = ap (λ bs. slice_get (filter (λ b. b.actor == a) bs) 0) bodies in
     let test : writes one o (innermost one a past) ≡ writes two o (innermost two a past) = same_writes one two o (innermost one a past) at ∙ ap (writes two o) inner in
     λ i. if test i then vs else before i
-same_after one two o past a r w at bodies before = before
+same_after one two o past a (Restart u) (Accepted v) at renewals bodies before = λ i. if renewals i then starts_at (at i) else before i
+same_after one two o past a (Restart u) w at renewals bodies before = before
+same_after one two o past a r w at renewals bodies before = before
 
 pub same_scalars : (c : Limits) (past : List Entry) (shapes one two : List Shape) (lists : List (List Words)) (o : ℕ) → IsLegal c past shapes lists →
     place (shapes ++ one) o ≡ place (shapes ++ two) o → scalars (shapes ++ one) o past ≡ scalars (shapes ++ two) o past
 same_scalars c [] shapes one two lists o l at = ap starts_at at
 same_scalars c (Asked a r w ∷ past) shapes one two lists o l at =
-    same_after (shapes ++ one) (shapes ++ two) o past a r w at (way_stays c past shapes one lists l.0 ∙ sym (way_stays c past shapes two lists l.0))
+    let h : History = record { limits = c; past = past; shapes = shapes; lists = lists } in
+    same_after (shapes ++ one) (shapes ++ two) o past a r w at (object_renewals_stay h one a r w o l.1 ∙ sym (object_renewals_stay h two a r w o l.1)) (way_stays c past shapes one lists l.0 ∙ sym (way_stays c past shapes two lists l.0))
     (same_scalars c past shapes one two lists o l.0 at)
 same_scalars c (Load ∷ past) shapes one two lists o l at =
     let first : shapes ++ one ≡ l.0 ++ (l.1 ∷ one) = ap (λ (ss : List Shape). ss ++ one) l.2 ∙ append_assoc l.0 (l.1 ∷ []) one in

@@ -2,6 +2,7 @@
 use Rattle.std.proofs.Common.{◌≡◌, ◌⊎◌, inl, inr, ℕ, List, [], ◌∷◌, Some, None, Option, Bool, true, false, ap, sym, ◌∙◌, refl}
 use Rattle.std.specs.Prelude.{length, ◌&&◌}
 use Rattle.rv_shape.specs.Catalogue.{Who, Line, Task, target, who}
+use Rattle.rv_shape.specs.Units.{is_loaded}
 use Rattle.rv_event.specs.Past.{mode, mode_by, or_settling, stance_of, to_settle, held, stance}
 use Rattle.rv_event.specs.declared.entry.Body.{Body}
 use Rattle.rv_event.specs.declared.entry.Entry.TheVariants.{Asked}
@@ -9,7 +10,7 @@ use Rattle.rv_event.specs.declared.entry.Mode.{Mode}
 use Rattle.rv_event.specs.declared.entry.Mode.TheVariants as Modes
 use Rattle.rv_event.specs.declared.entry.Recorded.{Recorded}
 use Rattle.rv_event.specs.declared.entry.Request.{Request}
-use Rattle.rv_event.specs.declared.entry.Request.TheVariants.{Call, Complete, Settle, Resume, DelayUntil, Clock, Fire, Quit, Tick, Halt, Archive}
+use Rattle.rv_event.specs.declared.entry.Request.TheVariants.{Call, Complete, Settle, Resume, DelayUntil, Clock, Fire, Quit, Tick, Halt, Archive, Restart}
 use Rattle.rv_event.specs.declared.entry.Stance.{Stance}
 use Rattle.rv_event.specs.declared.entry.Stance.TheVariants.{Free, InQueue, HandedOver, DroppedBy, WaitsOn, WaitsUntil, Gone}
 use Rattle.rv_history.specs.Fitting.{awaits, call_fits, fits_actor, idle_line, idle_task, in_body, is_archive, is_operator, is_settling, is_tick, is_time, may_call}
@@ -98,11 +99,12 @@ shut_fits h a Quit shut other f = absurd (unfit _ (quits_none (who h.shapes a) (
 shut_fits h a (Tick n) shut other f = absurd (other (both (is_operator (who h.shapes a)) (is_tick n) f).0)
 shut_fits h a Halt shut other f = absurd (other f)
 shut_fits h a (Archive n) shut other f = absurd (other (both (is_operator (who h.shapes a)) (is_archive h n) f).0)
+shut_fits h a (Restart u) shut other f = absurd (other (both (is_operator (who h.shapes a)) (is_loaded h.shapes u) f).0)
 
 -- What one asks that has an object to settle.
 
 settler_mode : (h : History) (a : ℕ) (b : Body) → to_settle h.shapes a h.past ≡ Some b → mode h.shapes a h.past ≡ Modes.Settling
-settler_mode h a b has = ap (λ o. or_settling o (mode_by (held h.shapes a h.past) (stance a h.past))) has
+settler_mode h a b has = ap (λ o. or_settling o (mode_by (held h.shapes a h.past) (stance h.shapes a h.past))) has
 
 -- it leaves it free
 pub settler_free : (h : History) (a : ℕ) (r : Request) (w : Recorded) (b : Body) → to_settle h.shapes a h.past ≡ Some b → Answered h a r w → stance_of (Asked a r w) ≡ Free

@@ -17,7 +17,7 @@ use Rattle.rv_event.specs.declared.entry.Exit.{Exit}
 use Rattle.rv_event.specs.declared.entry.Next.{Next}
 use Rattle.rv_event.specs.declared.entry.Next.TheVariants.{Nothing, HandedTo, Dropped}
 use Rattle.rv_event.specs.declared.entry.Request.{Request}
-use Rattle.rv_event.specs.declared.entry.Request.TheVariants.{Call, Complete, Settle, Resume, DelayUntil, Clock, Fire, Quit, Tick, Halt, Archive}
+use Rattle.rv_event.specs.declared.entry.Request.TheVariants.{Call, Complete, Settle, Resume, DelayUntil, Clock, Fire, Quit, Tick, Halt, Archive, Restart}
 use Rattle.rv_event.specs.declared.entry.Recorded.{Recorded}
 use Rattle.rv_event.specs.declared.entry.Recorded.TheVariants.{Started, Queued, Done}
 use Rattle.rv_event.proofs.Matching.{by}
@@ -115,8 +115,8 @@ fire_starts h a e k = by_handler (handler h.shapes (a - 1)) refl
         let there : n.object ≡ w.object = ap (λ (m : Aim). m.0) aimed in
         let at : target h.shapes n.object n.operation ≡ OnProtected w.site = ap (λ (m : Aim). m.1) aimed in
         let free : excluded h n.object (is_function w.site.operation.kind) ≡ false = ap (λ m. excluded h m (is_function w.site.operation.kind)) there ∙ w.free in
-        let idle = fires_at (who h.shapes a) (to_settle h.shapes a h.past) (mode_by (held h.shapes a h.past) (stance a h.past)) g.fits_in in
-        let none : held h.shapes a h.past ≡ [] = idle_none (who h.shapes a) (held h.shapes a h.past) (stance a h.past) idle in
+        let idle = fires_at (who h.shapes a) (to_settle h.shapes a h.past) (mode_by (held h.shapes a h.past) (stance h.shapes a h.past)) g.fits_in in
+        let none : held h.shapes a h.past ≡ [] = idle_none (who h.shapes a) (held h.shapes a h.past) (stance h.shapes a h.past) idle in
         let zero : length (held h.shapes a h.past) ≡ 0 = ap length none in
         bodies_start h.shapes (record { actor = a; object = n.object; operation = n.operation }) (under_way h.shapes h.past) w.site at (no_conflict h n.object (is_function w.site.operation.kind) free) (omega (arith, zero)) k
 
@@ -200,6 +200,7 @@ bodies_step h a Quit w e all calls apart k = k
 bodies_step h a (Tick n) w e all calls apart k = k
 bodies_step h a Halt w e all calls apart k = k
 bodies_step h a (Archive n) w e all calls apart k = k
+bodies_step h a (Restart u) w e all calls apart k = k
 
 -- Bodies that left their objects unsettled
 
@@ -290,6 +291,7 @@ apart_step h a Quit w e all calls apart k o = apart o
 apart_step h a (Tick n) w e all calls apart k o = apart o
 apart_step h a Halt w e all calls apart k o = apart o
 apart_step h a (Archive n) w e all calls apart k o = apart o
+apart_step h a (Restart u) w e all calls apart k o = apart o
 
 -- Calls
 

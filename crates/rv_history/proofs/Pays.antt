@@ -5,7 +5,7 @@ use Rattle.std.proofs.lemmas.Bool.Decides.{nat_tests}
 use Rattle.rv_shape.specs.Shape.{Shape}
 use Rattle.rv_event.specs.Recorded.{recorded}
 use Rattle.rv_shape.specs.Catalogue.{Who, Operator, Line, Task, Nobody, who, task_of, all_tasks}
-use Rattle.rv_event.specs.Past.{archived, held, innermost, to_settle, next_of, stance, stance_of, halted, mode, mode_by, clock, released, until_then}
+use Rattle.rv_event.specs.Past.{archived, held, innermost, renews_task, to_settle, next_of, stance, stance_of, halted, mode, mode_by, clock, released, until_then}
 use Rattle.rv_event.specs.declared.entry.Stance.{Stance}
 use Rattle.rv_event.specs.declared.entry.Stance.TheVariants.{Free, InQueue, HandedOver, DroppedBy, WaitsOn, WaitsUntil, Gone}
 use Rattle.rv_event.specs.declared.entry.Body.{Body}
@@ -49,11 +49,11 @@ unrecorded h a r x e = record { pays = λ w f. let none : None ≡ Some w = sym 
 pub paid_as : (h : History) (a : ℕ) (r : Request) (x : Answer) (w : Recorded) → recorded x ≡ Some w → IsSolvent (with_entry h a r w) → Pays h a r x
 paid_as h a r x w e solvent = record { pays = λ v f. subst (λ u. IsSolvent (with_entry h a r u)) (word_is w v (sym e ∙ f)) solvent }
 
-pub each_own : (n a : ℕ) (r : Request) (w : Recorded) (past : List Entry) → next_of (Asked a r w) ≡ Nothing → a < n →
-    each n (dues (Asked a r w ∷ past)) + dues_by (stance a past) (nat_lt a 11) ≡ each n (dues past) + dues_by (stance_of (Asked a r w)) (nat_lt a 11)
-each_own n a r w past e some =
-    each_change n a (dues (Asked a r w ∷ past)) (dues past) some (λ j h. ap (λ s. dues_by s (nat_lt j 11)) (other_stance a j r w past e h))
-    ∙ ap (λ s. each n (dues past) + dues_by s (nat_lt a 11)) (own_stance a r w past e)
+pub each_own : (shapes : List Shape) (n a : ℕ) (r : Request) (w : Recorded) (past : List Entry) → next_of (Asked a r w) ≡ Nothing → ((j : ℕ) → renews_task shapes j (Asked a r w) ≡ false) → a < n →
+    each n (dues shapes (Asked a r w ∷ past)) + dues_by (stance shapes a past) (nat_lt a 11) ≡ each n (dues shapes past) + dues_by (stance_of (Asked a r w)) (nat_lt a 11)
+each_own shapes n a r w past e calm some =
+    each_change n a (dues shapes (Asked a r w ∷ past)) (dues shapes past) some (λ j h. ap (λ s. dues_by s (nat_lt j 11)) (other_stance shapes a j r w past e h (calm j)))
+    ∙ ap (λ s. each n (dues shapes past) + dues_by s (nat_lt a 11)) (own_stance shapes a r w past e)
 
 -- one that waited, and goes on
 back : (s : Stance) (low : Bool) → 1 ≤ surcharge s → dues_by Free low + 1 ≤ dues_by s low
@@ -70,11 +70,11 @@ back (WaitsUntil time) true h = omega arith
 back (WaitsUntil time) false h = omega arith
 back Gone low h = absurd (omega (arith, h))
 
-resumed : (h : History) (a : ℕ) (x : Answer) (w : Recorded) → recorded x ≡ Some w → next_of (Asked a Resume w) ≡ Nothing → a < actors h.shapes → 1 ≤ surcharge (stance a h.past) → IsSolvent h → Pays h a Resume x
+resumed : (h : History) (a : ℕ) (x : Answer) (w : Recorded) → recorded x ≡ Some w → next_of (Asked a Resume w) ≡ Nothing → a < actors h.shapes → 1 ≤ surcharge (stance h.shapes a h.past) → IsSolvent h → Pays h a Resume x
 resumed h a x w is e some high solvent =
-    paid_as h a Resume x w is (omega (arith, solvent, each_own (actors h.shapes) a Resume w h.past e some, back (stance a h.past) (nat_lt a 11) high))
+    paid_as h a Resume x w is (omega (arith, solvent, each_own h.shapes (actors h.shapes) a Resume w h.past e (λ j. refl) some, back (stance h.shapes a h.past) (nat_lt a 11) high))
 
-waits_or_not : (h : History) (a : ℕ) (ready : Bool) → a < actors h.shapes → 1 ≤ surcharge (stance a h.past) → IsSolvent h → Pays h a Resume (or_waiting h ready)
+waits_or_not : (h : History) (a : ℕ) (ready : Bool) → a < actors h.shapes → 1 ≤ surcharge (stance h.shapes a h.past) → IsSolvent h → Pays h a Resume (or_waiting h ready)
 waits_or_not h a true some high solvent = resumed h a (Answers.Woken None) Woken refl refl some high solvent
 waits_or_not h a false some high solvent = by_halt (halted h.past)
   where
@@ -85,16 +85,16 @@ waits_or_not h a false some high solvent = by_halt (halted h.past)
 owes : (s t : Stance) → s ≡ t → 1 ≤ surcharge t → 1 ≤ surcharge s
 owes s t is some = subst (λ u. 1 ≤ surcharge u) (sym is) some
 
-pays_resume : (h : History) (a : ℕ) (s : Stance) → stance a h.past ≡ s → a < actors h.shapes → IsSolvent h → Pays h a Resume (due_resume h a s)
+pays_resume : (h : History) (a : ℕ) (s : Stance) → stance h.shapes a h.past ≡ s → a < actors h.shapes → IsSolvent h → Pays h a Resume (due_resume h a s)
 pays_resume h a Free is some solvent = unrecorded h a Resume Answers.Misuse refl
-pays_resume h a InQueue is some solvent = waits_or_not h a false some (owes (stance a h.past) InQueue is (omega arith)) solvent
+pays_resume h a InQueue is some solvent = waits_or_not h a false some (owes (stance h.shapes a h.past) InQueue is (omega arith)) solvent
 pays_resume h a HandedOver is some solvent =
-    resumed h a (Answers.Woken (Some (scalars_held h (innermost h.shapes a h.past)))) Woken refl refl some (owes (stance a h.past) HandedOver is (omega arith)) solvent
+    resumed h a (Answers.Woken (Some (scalars_held h (innermost h.shapes a h.past)))) Woken refl refl some (owes (stance h.shapes a h.past) HandedOver is (omega arith)) solvent
 pays_resume h a (DroppedBy line) is some solvent =
     let version : ℕ = changes (until_then a h.past) in
-    resumed h a (Answers.Refused Rules.Grant line version) (Refused Rules.Grant line version) refl refl some (owes (stance a h.past) (DroppedBy line) is (omega arith)) solvent
-pays_resume h a (WaitsOn object) is some solvent = waits_or_not h a (released a object h.past) some (owes (stance a h.past) (WaitsOn object) is (omega arith)) solvent
-pays_resume h a (WaitsUntil time) is some solvent = waits_or_not h a (int_le time (pos (clock h.past))) some (owes (stance a h.past) (WaitsUntil time) is (omega arith)) solvent
+    resumed h a (Answers.Refused Rules.Grant line version) (Refused Rules.Grant line version) refl refl some (owes (stance h.shapes a h.past) (DroppedBy line) is (omega arith)) solvent
+pays_resume h a (WaitsOn object) is some solvent = waits_or_not h a (released a object h.past) some (owes (stance h.shapes a h.past) (WaitsOn object) is (omega arith)) solvent
+pays_resume h a (WaitsUntil time) is some solvent = waits_or_not h a (int_le time (pos (clock h.past))) some (owes (stance h.shapes a h.past) (WaitsUntil time) is (omega arith)) solvent
 pays_resume h a Gone is some solvent = unrecorded h a Resume Answers.Misuse refl
 
 -- a task that quits
@@ -120,26 +120,27 @@ idle_high shapes a m e = by_tests (a == 0) (nat_lt a 11) (task_of (slice_get (al
 
 pays_quit : (h : History) (a : ℕ) → idle_task (who h.shapes a) (mode h.shapes a h.past) ≡ true → a < actors h.shapes → IsSolvent h → Pays h a Quit nothing_more
 pays_quit h a idle some solvent =
-    let rests = quits_at (who h.shapes a) (to_settle h.shapes a h.past) (mode_by (held h.shapes a h.past) (stance a h.past)) idle in
-    let free = idle_free (who h.shapes a) (held h.shapes a h.past) (stance a h.past) rests in
+    let rests = quits_at (who h.shapes a) (to_settle h.shapes a h.past) (mode_by (held h.shapes a h.past) (stance h.shapes a h.past)) idle in
+    let free = idle_free (who h.shapes a) (held h.shapes a h.past) (stance h.shapes a h.past) rests in
     let high = idle_high h.shapes a (mode h.shapes a h.past) idle in
-    let before : dues_by (stance a h.past) (nat_lt a 11) ≡ 1 = λ i. dues_by (free i) (high i) in
+    let before : dues_by (stance h.shapes a h.past) (nat_lt a 11) ≡ 1 = λ i. dues_by (free i) (high i) in
     let now : dues_by Gone (nat_lt a 11) ≡ 0 = λ i. dues_by Gone (high i) in
-    paid_as h a Quit nothing_more (Accepted (pos 0)) refl (omega (arith, solvent, before, now, each_own (actors h.shapes) a Quit (Accepted (pos 0)) h.past refl some))
+    paid_as h a Quit nothing_more (Accepted (pos 0)) refl (omega (arith, solvent, before, now, each_own h.shapes (actors h.shapes) a Quit (Accepted (pos 0)) h.past refl (λ j. refl) some))
 
 -- what the operator asks that leaves it free
-fewer_dues : (past : List Entry) (j : ℕ) (r : Request) (w : Recorded) → next_of (Asked 0 r w) ≡ Nothing → stance_of (Asked 0 r w) ≡ Free → dues (Asked 0 r w ∷ past) j ≤ dues past j
-fewer_dues past j r w e free = by_test (j == 0) refl
+fewer_dues : (shapes : List Shape) (past : List Entry) (j : ℕ) (r : Request) (w : Recorded) → next_of (Asked 0 r w) ≡ Nothing → renews_task shapes j (Asked 0 r w) ≡ false → stance_of (Asked 0 r w) ≡ Free →
+    dues shapes (Asked 0 r w ∷ past) j ≤ dues shapes past j
+fewer_dues shapes past j r w e calm free = by_test (j == 0) refl
   where
-    by_test : (t : Bool) → (j == 0) ≡ t → dues (Asked 0 r w ∷ past) j ≤ dues past j
+    by_test : (t : Bool) → (j == 0) ≡ t → dues shapes (Asked 0 r w ∷ past) j ≤ dues shapes past j
     by_test true is =
         let zero : j ≡ 0 = grind (arith, nat_tests) in
-        let P : ℕ → Type 0 = λ k. dues (Asked 0 r w ∷ past) k ≤ dues past k in
-        let now : dues (Asked 0 r w ∷ past) 0 ≡ 0 = ap (λ s. dues_by s true) (own_stance 0 r w past e ∙ free) in
+        let P : ℕ → Type 0 = λ k. dues shapes (Asked 0 r w ∷ past) k ≤ dues shapes past k in
+        let now : dues shapes (Asked 0 r w ∷ past) 0 ≡ 0 = ap (λ s. dues_by s true) (own_stance shapes 0 r w past e ∙ free) in
         subst P (sym zero) (omega (arith, now))
     by_test false is =
         let other : j ≢ 0 = grind (arith, nat_tests) in
-        let same : dues (Asked 0 r w ∷ past) j ≡ dues past j = ap (λ s. dues_by s (nat_lt j 11)) (other_stance 0 j r w past e other) in
+        let same : dues shapes (Asked 0 r w ∷ past) j ≡ dues shapes past j = ap (λ s. dues_by s (nat_lt j 11)) (other_stance shapes 0 j r w past e other calm) in
         omega (arith, same)
 
 -- a halt
@@ -148,7 +149,7 @@ pub pays_halt : (h : History) → halted h.past ≡ false → IsSolvent h → Pa
 pays_halt h going solvent =
     let owes : halt_due (halted h.past) ≡ 1 = ap halt_due going in
     paid_as h 0 Halt nothing_more (Accepted (pos 0)) refl
-    (omega (arith, solvent, owes, each_less (actors h.shapes) (dues (Asked 0 Halt (Accepted (pos 0)) ∷ h.past)) (dues h.past) (λ j. fewer_dues h.past j Halt (Accepted (pos 0)) refl refl)))
+    (omega (arith, solvent, owes, each_less (actors h.shapes) (dues h.shapes (Asked 0 Halt (Accepted (pos 0)) ∷ h.past)) (dues h.shapes h.past) (λ j. fewer_dues h.shapes h.past j Halt (Accepted (pos 0)) refl refl refl)))
 
 -- an archive: it gives up one more entry at least, whose place it takes
 pub pays_archive : (h : History) (n : ℕ) → is_archive h n ≡ true → IsSolvent h → Pays h 0 (Archive n) nothing_more
@@ -156,7 +157,7 @@ pays_archive h n fitting solvent =
     let parts = archive_parts h n fitting in
     let more : archived h.past + 1 ≤ n = omega (arith, parts.more) in
     paid_as h 0 (Archive n) nothing_more (Accepted (pos 0)) refl
-    (omega (arith, solvent, more, each_less (actors h.shapes) (dues (Asked 0 (Archive n) (Accepted (pos 0)) ∷ h.past)) (dues h.past) (λ j. fewer_dues h.past j (Archive n) (Accepted (pos 0)) refl refl)))
+    (omega (arith, solvent, more, each_less (actors h.shapes) (dues h.shapes (Asked 0 (Archive n) (Accepted (pos 0)) ∷ h.past)) (dues h.shapes h.past) (λ j. fewer_dues h.shapes h.past j (Archive n) (Accepted (pos 0)) refl refl refl)))
 
 -- the answer from its gate
 pub pays_gate : (h : History) (a : ℕ) (r : Request) (b c : Bool) (x : Answer) → (b ≡ true → c ≡ false → Pays h a r x) → Pays h a r (gate b c x)
@@ -183,7 +184,7 @@ fit_parts h a r f =
     (below a (actors h.shapes) parts.0, parts.1)
 
 pub resume_never_full : (h : History) (a : ℕ) → IsSolvent h → out h a Resume ≡ due h a Resume
-resume_never_full h a solvent = out_due h a Resume refl (λ f c. pays_resume h a (stance a h.past) refl (fit_parts h a Resume f).0 solvent)
+resume_never_full h a solvent = out_due h a Resume refl (λ f c. pays_resume h a (stance h.shapes a h.past) refl (fit_parts h a Resume f).0 solvent)
 
 pub quit_never_full : (h : History) (a : ℕ) → IsSolvent h → out h a Quit ≡ due h a Quit
 quit_never_full h a solvent = out_due h a Quit refl (λ f c. let t = fit_parts h a Quit f in pays_quit h a t.1 t.0 solvent)

@@ -28,16 +28,16 @@ pub to_test : (n m : ℕ) → n < m → nat_lt n m ≡ true
 to_test n m less = grind (arith, nat_tests)
 
 -- one that waits may resume
-pub resume_fits : (h : History) (a : ℕ) → Legal h → is_waiting (stance a h.past) ≡ true → fits h a Resume ≡ true
+pub resume_fits : (h : History) (a : ℕ) → Legal h → is_waiting (stance h.shapes a h.past) ≡ true → fits h a Resume ≡ true
 resume_fits h a l waiting =
-    let busy : stance a h.past ≡ Free → ⊥ = λ free. off (ap is_waiting (sym free) ∙ waiting) in
+    let busy : stance h.shapes a h.past ≡ Free → ⊥ = λ free. off (ap is_waiting (sym free) ∙ waiting) in
     let known : nat_lt a (actors h.shapes) ≡ true = to_test a (actors h.shapes) (known_actor h a l busy) in
     let settled : to_settle h.shapes a h.past ≡ None = none_left h.shapes h.past a (legal_standing h.limits h.past h.shapes h.lists l).left busy in
     let ready : awaits (mode h.shapes a h.past) ≡ true =
-    (λ i. awaits (or_settling (settled i) (mode_by (held h.shapes a h.past) (stance a h.past)))) ∙ awaits_at (held h.shapes a h.past) (stance a h.past) waiting in
+    (λ i. awaits (or_settling (settled i) (mode_by (held h.shapes a h.past) (stance h.shapes a h.past)))) ∙ awaits_at (held h.shapes a h.past) (stance h.shapes a h.past) waiting in
     λ i. known i && ready i
 
-pub resume_due : (h : History) (a : ℕ) (s : Stance) → Legal h → IsSolvent h → stance a h.past ≡ s → is_waiting s ≡ true → out h a Resume ≡ due_resume h a s
+pub resume_due : (h : History) (a : ℕ) (s : Stance) → Legal h → IsSolvent h → stance h.shapes a h.past ≡ s → is_waiting s ≡ true → out h a Resume ≡ due_resume h a s
 resume_due h a s l solvent at waiting =
     let fit : fits h a Resume ≡ true = resume_fits h a l (ap is_waiting at ∙ waiting) in
     resume_never_full h a solvent ∙ (λ i. gate (fit i) (and_false (halted h.past) i) (due_resume h a (at i)))
@@ -51,7 +51,7 @@ woken_ready h false e = by_halt (halted h.past) e
     by_halt false e = absurd (cc)
 
 -- one that is delayed
-pub delay_ends : (h : History) (a : ℕ) (time : ℤ) → Legal h → IsSolvent h → stance a h.past ≡ WaitsUntil time → (out h a Resume ≡ Answers.Woken None) ↔ (int_le time (pos (clock h.past)) ≡ true)
+pub delay_ends : (h : History) (a : ℕ) (time : ℤ) → Legal h → IsSolvent h → stance h.shapes a h.past ≡ WaitsUntil time → (out h a Resume ≡ Answers.Woken None) ↔ (int_le time (pos (clock h.past)) ≡ true)
 delay_ends h a time l solvent at =
     let answer = resume_due h a (WaitsUntil time) l solvent at refl in
     (λ e. woken_ready h _ (sym answer ∙ e), λ over. answer ∙ ap (or_waiting h) over)

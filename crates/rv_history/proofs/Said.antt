@@ -10,6 +10,7 @@ use Rattle.rv_shape.specs.Fits.{bad_component, bad_object, bad_operation, bad_ra
 use Rattle.rv_shape.specs.Kinds.{goes_in, goes_out, holds, is_entry, is_function}
 use Rattle.rv_shape.specs.Objects.{OperationShape}
 use Rattle.rv_shape.specs.Shape.{Shape}
+use Rattle.rv_shape.specs.Units.{is_loaded}
 use Rattle.rv_shape.specs.declared.kind.Component.{Component}
 use Rattle.rv_shape.specs.declared.kind.Kind.{Kind}
 use Rattle.rv_shape.specs.declared.kind.Kind.TheVariants.{Function, Procedure, Entry as EntryKind, Handler}
@@ -28,7 +29,7 @@ use Rattle.rv_event.specs.declared.entry.Exit.{Exit}
 use Rattle.rv_event.specs.declared.entry.Exit.TheVariants.{Return, Raise, Overrun, Stopped}
 use Rattle.rv_event.specs.declared.entry.Recorded.{Recorded}
 use Rattle.rv_event.specs.declared.entry.Request.{Request}
-use Rattle.rv_event.specs.declared.entry.Request.TheVariants.{Call, Complete, Settle, Resume, DelayUntil, Clock, Fire, Quit, Tick, Halt, Archive}
+use Rattle.rv_event.specs.declared.entry.Request.TheVariants.{Call, Complete, Settle, Resume, DelayUntil, Clock, Fire, Quit, Tick, Halt, Archive, Restart}
 use Rattle.rv_event.proofs.ReadingBack.{request_back}
 use Rattle.rv_history.specs.Due.{out}
 use Rattle.rv_history.specs.Fitting.{all_fit, call_fits, end_at, end_fits, exit_fits, fits_actor, in_body, is_archive, is_operator, is_tick, is_time, may_call, no_values, ranges_in, ranges_out, results}
@@ -240,6 +241,7 @@ is_said h a Quit l e = tt
 is_said h a (Tick n) l e = tick_short n (both (is_operator (who h.shapes a)) (is_tick n) e).1
 is_said h a Halt l e = tt
 is_said h a (Archive n) l e = short_number h n (archive_parts h n (both (is_operator (who h.shapes a)) (is_archive h n) e).1)
+is_said h a (Restart u) l e = (both (is_operator (who h.shapes a)) (is_loaded h.shapes u) e).1
 
 pub read_back : (h : History) (a : ℕ) (r : Request) (w : Recorded) → Legal h → recorded (out h a r) ≡ Some w → request_of h.shapes (words (request_text h.shapes r)) ≡ Some r
 read_back h a r w l e = request_back h.shapes (legal_found h l) r (is_said h a r l (answered h a r w e).fits_in)

@@ -16,7 +16,7 @@ use Rattle.rv_event.specs.declared.entry.Next.{Next}
 use Rattle.rv_event.specs.declared.entry.Recorded.{Recorded}
 use Rattle.rv_event.specs.declared.entry.Recorded.TheVariants.{Done}
 use Rattle.rv_event.specs.declared.entry.Request.{Request}
-use Rattle.rv_event.specs.declared.entry.Request.TheVariants.{Call, Complete, Settle, Resume, DelayUntil, Clock, Fire, Quit, Tick, Halt, Archive}
+use Rattle.rv_event.specs.declared.entry.Request.TheVariants.{Call, Complete, Settle, Resume, DelayUntil, Clock, Fire, Quit, Tick, Halt, Archive, Restart}
 use Rattle.rv_event.proofs.Matching.{by}
 use Rattle.rv_history.specs.declared.limits.Limits.{Limits}
 use Rattle.rv_history.specs.Due.{out}
@@ -41,9 +41,9 @@ EndedLast shapes past b = ended_last shapes b.actor past ≡ Some b
 
 -- an actor that ends a body has nothing to settle
 ender_calm : (h : History) (a : ℕ) (vs : List ℤ) (x : Exit) (w : Recorded) → recorded (out h a (Complete vs x)) ≡ Some w → to_settle h.shapes a h.past ≡ None
-ender_calm h a vs x w e = by_left (to_settle h.shapes a h.past) (both (in_body (or_settling (to_settle h.shapes a h.past) (mode_by (held h.shapes a h.past) (stance a h.past)))) (end_fits h.shapes vs x (innermost h.shapes a h.past)) (answered h a (Complete vs x) w e).fits_in).0
+ender_calm h a vs x w e = by_left (to_settle h.shapes a h.past) (both (in_body (or_settling (to_settle h.shapes a h.past) (mode_by (held h.shapes a h.past) (stance h.shapes a h.past)))) (end_fits h.shapes vs x (innermost h.shapes a h.past)) (answered h a (Complete vs x) w e).fits_in).0
   where
-    by_left : (q : Option Body) → in_body (or_settling q (mode_by (held h.shapes a h.past) (stance a h.past))) ≡ true → q ≡ None
+    by_left : (q : Option Body) → in_body (or_settling q (mode_by (held h.shapes a h.past) (stance h.shapes a h.past))) ≡ true → q ≡ None
     by_left None f = refl
     by_left (Some b) f = absurd (off f)
 
@@ -88,6 +88,7 @@ ended_step h a Quit w e k = k
 ended_step h a (Tick n) w e k = k
 ended_step h a Halt w e k = k
 ended_step h a (Archive n) w e k = k
+ended_step h a (Restart u) w e k = k
 
 -- Units that are loaded later change none of it.
 
@@ -109,6 +110,7 @@ ended_stays c (Asked b r w ∷ past) shapes more lists a l =
     by_request (Tick n) inner rest = rest
     by_request Halt inner rest = rest
     by_request (Archive n) inner rest = rest
+    by_request (Restart u) inner rest = rest
 ended_stays c (Load ∷ past) shapes more lists a l =
     ap (λ (ss : List Shape). ended_last (ss ++ more) a past) l.2
     ∙ ap (λ (ss : List Shape). ended_last ss a past) (append_assoc l.0 (l.1 ∷ []) more)
@@ -204,6 +206,7 @@ request_step h a Quit w o l e k rest = rest
 request_step h a (Tick n) w o l e k rest = rest
 request_step h a Halt w o l e k rest = rest
 request_step h a (Archive n) w o l e k rest = rest
+request_step h a (Restart u) w o l e k rest = rest
 
 record Said (shapes : List Shape) (past : List Entry) (o : ℕ) : Type 0 where
   ended : Each (EndedLast shapes past) (unsettled shapes past)

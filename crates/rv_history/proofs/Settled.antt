@@ -6,7 +6,8 @@ use Rattle.std.specs.List.{filter, list_any}
 use Rattle.rv_access.specs.Words.{Words}
 use Rattle.rv_shape.specs.Shape.{Shape}
 use Rattle.rv_event.specs.Recorded.{recorded}
-use Rattle.rv_shape.specs.Catalogue.{OperationNumber, place, target, shares, is_function, is_entry, handler}
+use Rattle.rv_shape.specs.Units.{is_unit, object_unit}
+use Rattle.rv_shape.specs.Catalogue.{OperationNumber, initial, place, target, shares, is_function, is_entry, handler}
 use Rattle.rv_event.specs.Past.{under_way, unsettled, is_unsettled, to_settle, left_by, waiting, queue, queued_by, next_of, named_in, joined, left, begun, handed, fired, without, innermost, writes, scalars, halted, halts}
 use Rattle.rv_shape.specs.declared.kind.Kind.{Kind}
 use Rattle.rv_shape.specs.declared.kind.Kind.TheVariants.{Function, Procedure, Entry as EntryKind, Handler}
@@ -17,9 +18,9 @@ use Rattle.rv_event.specs.declared.entry.Exit.{Exit}
 use Rattle.rv_event.specs.declared.entry.Next.{Next}
 use Rattle.rv_event.specs.declared.entry.Next.TheVariants.{Nothing, HandedTo, Dropped}
 use Rattle.rv_event.specs.declared.entry.Request.{Request}
-use Rattle.rv_event.specs.declared.entry.Request.TheVariants.{Call, Complete, Settle, Resume, DelayUntil, Clock, Fire, Quit, Tick, Halt, Archive}
+use Rattle.rv_event.specs.declared.entry.Request.TheVariants.{Call, Complete, Settle, Resume, DelayUntil, Clock, Fire, Quit, Tick, Halt, Archive, Restart}
 use Rattle.rv_event.specs.declared.entry.Recorded.{Recorded}
-use Rattle.rv_event.specs.declared.entry.Recorded.TheVariants.{Started, Queued, Done}
+use Rattle.rv_event.specs.declared.entry.Recorded.TheVariants.{Started, Queued, Done, Accepted}
 use Rattle.rv_event.proofs.Unnamed.{filter_append}
 use Rattle.rv_shape.proofs.Stay.{object_stays}
 use Rattle.rv_history.specs.declared.limits.Limits.{Limits}
@@ -33,6 +34,7 @@ use Rattle.rv_history.specs.Legal.{IsLegal, Legal}
 use Rattle.rv_history.specs.Orderly.{is_on, is_exclusive_on, IsOfEntry, Each, Orderly}
 use Rattle.rv_history.proofs.Answered.{off, and_false}
 use Rattle.rv_history.proofs.Loaded.{left_stays, way_stays, scalars_stay, protected_place}
+use Rattle.rv_history.proofs.Restarts.{renewed_object}
 use Rattle.rv_history.proofs.Stances.{itself, same_number}
 use Rattle.rv_history.proofs.Waits.{joins, Waits}
 use Rattle.rv_history.proofs.Bodies.{any_kept, count_left, each_filter, exclusive_more}
@@ -239,6 +241,22 @@ settle_step h a w o k s t was = subst (λ u. Settled h.shapes (Asked a Settle u 
         (λ e. begun_stays (is_on o) (left_by (Asked a Settle (Done next) ∷ h.past) next (to_settle h.shapes a h.past)) (without a (unsettled h.shapes h.past)) (any_kept (is_on o) a t.body (unsettled h.shapes h.past) t.first on ∙ e))
         refl refl was
 
+-- a restart: where the object has a queue, its barrier is closed on the initial components
+restart_step : (h : History) (a u : ℕ) (v : ℤ) (o : ℕ) → recorded (out h a (Restart u)) ≡ Some (Accepted v) → Settled h.shapes h.past o → Settled h.shapes (Asked a (Restart u) (Accepted v) ∷ h.past) o
+restart_step h a u v o e was = by_test (is_unit u (object_unit h.shapes o)) refl
+  where
+    past : List Entry
+    past = Asked a (Restart u) (Accepted v) ∷ h.past
+
+    by_shut : is_unit u (object_unit h.shapes o) ≡ true → (queue o h.past ≡ []) ⊎ (opens_on (barrier_at (place h.shapes o)) (initial h.shapes o) ≡ false) → Settled h.shapes past o
+    by_shut is (inl empty) = inr (inr (inr (inr empty)))
+    by_shut is (inr closed) = inr (inr (inr (inl (ap (λ b. opens_on (barrier_at (place h.shapes o)) (if b then initial h.shapes o else scalars h.shapes o h.past)) is ∙ closed))))
+
+    by_test : (b : Bool) → is_unit u (object_unit h.shapes o) ≡ b → Settled h.shapes past o
+    by_test true is = by_shut is (renewed_object h a (Restart u) (Accepted v) o e is).shut
+    by_test false is =
+        quiet h.shapes h.past (Asked a (Restart u) (Accepted v)) o (λ x. x) (λ x. x) (ap (λ b. if b then initial h.shapes o else scalars h.shapes o h.past) is) refl was
+
 settled_step : (h : History) (a : ℕ) (r : Request) (w : Recorded) (o : ℕ) → recorded (out h a r) ≡ Some w → Orderly h.limits h.shapes h.past → Standing h.shapes h.past → Settled h.shapes h.past o → Settled h.shapes (Asked a r w ∷ h.past) o
 settled_step h a (Call m p vs) Started o e k s was =
     quiet h.shapes h.past (Asked a (Call m p vs) Started) o (or_right (is_exclusive_on h.shapes o (record { actor = a; object = m; operation = p })) (exclusive_at h.shapes o h.past)) (λ x. x) refl refl was
@@ -255,6 +273,8 @@ settled_step h a Quit w o e k s was = quiet h.shapes h.past (Asked a Quit w) o (
 settled_step h a (Tick n) w o e k s was = quiet h.shapes h.past (Asked a (Tick n) w) o (λ x. x) (λ x. x) refl refl was
 settled_step h a Halt w o e k s was = quiet h.shapes h.past (Asked a Halt w) o (λ x. x) (λ x. x) refl refl was
 settled_step h a (Archive n) w o e k s was = quiet h.shapes h.past (Asked a (Archive n) w) o (λ x. x) (λ x. x) refl refl was
+settled_step h a (Restart u) (Accepted v) o e k s was = restart_step h a u v o e was
+settled_step h a (Restart u) w o e k s was = quiet h.shapes h.past (Asked a (Restart u) w) o (λ x. x) (λ x. x) refl refl was
 
 -- a load leaves the barrier as it was where somebody waits
 pub open_stays : (h : History) (more : List Shape) (o : ℕ) (c : Body) (cs : List Body) → Legal h → queue o h.past ≡ c ∷ cs → open_at (h.shapes ++ more) o h.past ≡ open_at h.shapes o h.past

@@ -13,7 +13,7 @@ use Rattle.rv_event.specs.declared.entry.Entry.TheVariants.{Asked, Load, ListCha
 use Rattle.rv_event.specs.declared.entry.Next.{Next}
 use Rattle.rv_event.specs.declared.entry.Next.TheVariants.{Nothing, HandedTo, Dropped}
 use Rattle.rv_event.specs.declared.entry.Request.{Request}
-use Rattle.rv_event.specs.declared.entry.Request.TheVariants.{Call, Complete, Settle, Resume, DelayUntil, Clock, Fire, Quit, Tick, Halt, Archive}
+use Rattle.rv_event.specs.declared.entry.Request.TheVariants.{Call, Complete, Settle, Resume, DelayUntil, Clock, Fire, Quit, Tick, Halt, Archive, Restart}
 use Rattle.rv_event.specs.declared.entry.Recorded.{Recorded}
 use Rattle.rv_event.specs.declared.entry.Recorded.TheVariants.{Done}
 use Rattle.rv_event.specs.declared.entry.Answer.TheVariants as Answers
@@ -87,7 +87,7 @@ has_to_settle h a b l is = by_queue (queue b.object h.past) refl (ready_is h a b
       record {
         left = is;
         only = λ r f. only_settles h a r b l is f;
-        settling = ap (λ o. or_settling o (mode_by (held h.shapes a h.past) (stance a h.past))) is;
+        settling = ap (λ o. or_settling o (mode_by (held h.shapes a h.past) (stance h.shapes a h.past))) is;
         free = (left_alone a b (under_way h.shapes h.past) (unsettled h.shapes h.past) is (legal_apart h l b.object)).0;
         wait = wait;
       },
@@ -99,7 +99,7 @@ settle_fits : (h : History) (a : ℕ) (b : Body) → Legal h → to_settle h.sha
 settle_fits h a b l is =
     let has = each_first (HasLeft h.shapes h.past) a b (unsettled h.shapes h.past) (legal_standing h.limits h.past h.shapes h.lists l).left is in
     let known : nat_lt a (actors h.shapes) ≡ true = to_test a (actors h.shapes) (subst (λ n. n < actors h.shapes) (first_actor a b (unsettled h.shapes h.past) is) has.known) in
-    let at = ap (λ o. is_settling (or_settling o (mode_by (held h.shapes a h.past) (stance a h.past)))) is in
+    let at = ap (λ o. is_settling (or_settling o (mode_by (held h.shapes a h.past) (stance h.shapes a h.past)))) is in
     λ i. known i && at i
 
 settle_reaches : (h : History) (a : ℕ) (b first : Body) (behind : List Body) → Legal h → halted h.past ≡ false → HasToSettle h a b first behind → Reaches h a Settle first
@@ -304,6 +304,7 @@ one_step h a Quit w l one e none = none
 one_step h a (Tick n) w l one e none = none
 one_step h a Halt w l one e none = none
 one_step h a (Archive n) w l one e none = none
+one_step h a (Restart u) w l one e none = none
 
 one_none : (c : Limits) (past : List Entry) (shapes : List Shape) (lists : List (List Words)) → c.queue ≡ 1 → IsLegal c past shapes lists → unsettled shapes past ≡ []
 one_none c [] shapes lists one l = refl

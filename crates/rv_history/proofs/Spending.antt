@@ -21,16 +21,22 @@ use Rattle.rv_history.specs.Owed.{has_room}
 use Rattle.rv_history.specs.Unbounded.{out_by_room, room_for}
 use Rattle.rv_history.proofs.Answered.{answered, off}
 use Rattle.rv_history.proofs.Growing.{front_is}
+use Rattle.rv_event.specs.Past.{restarts}
 
 -- No more than the entries
 
 pub few : (past : List Entry) (shapes : List Shape) (unit : ℕ) → spent shapes unit past ≤ length past
 few [] shapes unit = omega arith
-few (Asked a r w ∷ past) shapes unit = by_test (few past shapes unit) (is_unit unit (charged shapes past a r))
+few (Asked a r w ∷ past) shapes unit = by_restart (few past shapes unit) (is_unit unit (restarts (Asked a r w)))
   where
     by_test : spent shapes unit past ≤ length past → (t : Bool) → (if t then suc (spent shapes unit past) else spent shapes unit past) ≤ length (Asked a r w ∷ past)
     by_test before true = omega (arith, before)
     by_test before false = omega (arith, before)
+
+    by_restart : spent shapes unit past ≤ length past → (b : Bool) →
+        (if b then 0 else if is_unit unit (charged shapes past a r) then suc (spent shapes unit past) else spent shapes unit past) ≤ length (Asked a r w ∷ past)
+    by_restart before true = omega arith
+    by_restart before false = by_test before (is_unit unit (charged shapes past a r))
 few (Load ∷ past) shapes unit = omega (arith, few past (all_but_last shapes) unit)
 few (ListChange ∷ past) shapes unit = omega (arith, few past shapes unit)
 
@@ -56,7 +62,7 @@ below h unit most (Some other) allowed is free =
 within_allowance : (c : Limits) (past : List Entry) (shapes : List Shape) (lists : List (List Words)) (unit most : ℕ) → c.allowance ≡ Some most → IsLegal c past shapes lists → spent shapes unit past ≤ most
 within_allowance c [] shapes lists unit most allowed l = omega arith
 within_allowance c (Asked a r w ∷ past) shapes lists unit most allowed l =
-    by_test (within_allowance c past shapes lists unit most allowed l.0) (is_unit unit (charged shapes past a r)) refl
+    by_restart (within_allowance c past shapes lists unit most allowed l.0) (is_unit unit (restarts (Asked a r w)))
   where
     by_test : spent shapes unit past ≤ most → (t : Bool) → is_unit unit (charged shapes past a r) ≡ t → (if t then suc (spent shapes unit past) else spent shapes unit past) ≤ most
     by_test before true is =
@@ -64,6 +70,11 @@ within_allowance c (Asked a r w ∷ past) shapes lists unit most allowed l =
         let under : spent shapes unit past < most = below h unit most (charged shapes past a r) allowed is (answered h a r w l.1).allowed in
         omega (arith, under)
     by_test before false is = before
+
+    by_restart : spent shapes unit past ≤ most → (b : Bool) →
+        (if b then 0 else if is_unit unit (charged shapes past a r) then suc (spent shapes unit past) else spent shapes unit past) ≤ most
+    by_restart before true = omega arith
+    by_restart before false = by_test before (is_unit unit (charged shapes past a r)) refl
 within_allowance c (Load ∷ past) shapes lists unit most allowed l =
     let front : all_but_last shapes ≡ l.0 = ap all_but_last l.2 ∙ front_is l.0 l.1 in
     subst (λ (ss : List Shape). spent ss unit past ≤ most) (sym front) (within_allowance c past l.0 lists unit most allowed l.3)

@@ -5,7 +5,8 @@ use Rattle.std.specs.List.{filter}
 use Rattle.std.proofs.lemmas.Bool.Decides.{nat_tests}
 use Rattle.rv_shape.specs.Shape.{Shape}
 use Rattle.rv_shape.specs.Catalogue.{OperationNumber, first_of, handler}
-use Rattle.rv_event.specs.Past.{if_named, next_of, named_in, or_else, stance, stance_of, if_of, queued_by, last_queued, under_way, held, begun, fired, without, innermost, left_by, leaves_some, mode, mode_by, or_settling, queue, to_settle, unsettled}
+use Rattle.rv_shape.specs.Units.{task_unit}
+use Rattle.rv_event.specs.Past.{if_named, is_restarted, next_of, named_in, or_else, renews_task, restarts, said, stance, stance_of, if_of, queued_by, last_queued, under_way, held, begun, fired, without, innermost, left_by, leaves_some, mode, mode_by, or_settling, queue, to_settle, unsettled}
 use Rattle.rv_event.specs.declared.entry.Stance.{Stance}
 use Rattle.rv_event.specs.declared.entry.Stance.TheVariants.{Free, InQueue, HandedOver, DroppedBy, WaitsOn, WaitsUntil, Gone}
 use Rattle.rv_event.proofs.Matching.{by, filter_others}
@@ -15,7 +16,7 @@ use Rattle.rv_event.specs.declared.entry.Entry.TheVariants.{Asked}
 use Rattle.rv_event.specs.declared.entry.Next.{Next}
 use Rattle.rv_event.specs.declared.entry.Next.TheVariants.{Nothing, HandedTo, Dropped}
 use Rattle.rv_event.specs.declared.entry.Request.{Request}
-use Rattle.rv_event.specs.declared.entry.Request.TheVariants.{Call, Complete, Settle, Resume, DelayUntil, Clock, Fire, Quit, Tick, Halt, Archive}
+use Rattle.rv_event.specs.declared.entry.Request.TheVariants.{Call, Complete, Settle, Resume, DelayUntil, Clock, Fire, Quit, Tick, Halt, Archive, Restart}
 use Rattle.rv_event.specs.declared.entry.Recorded.{Recorded}
 use Rattle.rv_event.specs.declared.entry.Recorded.TheVariants.{Started, Queued, Done, Suspended, Delayed, Accepted}
 use Rattle.rv_history.proofs.Answered.{off}
@@ -40,14 +41,40 @@ own_stances P free queued on until gone a (DelayUntil t) Delayed = until t
 own_stances P free queued on until gone a Quit (Accepted v) = gone
 own_stances P free queued on until gone a r w = free
 
--- an entry that names nobody speaks of its own actor alone
-pub own_stance : (a : ℕ) (r : Request) (w : Recorded) (past : List Entry) → next_of (Asked a r w) ≡ Nothing → stance a (Asked a r w ∷ past) ≡ stance_of (Asked a r w)
-own_stance a r w past e =
-    λ i. or_else (first_of (if_named a (e i)) (if itself a i then Some (stance_of (Asked a r w)) else None)) (stance a past)
+-- an entry that restarts a unit leaves its own actor free
+pub frees : (shapes : List Shape) (j a : ℕ) (r : Request) (w : Recorded) → renews_task shapes j (Asked a r w) ≡ true → stance_of (Asked a r w) ≡ Free
+frees shapes j a (Restart u) w e = refl
+frees shapes j a r w e = absurd (off e)
 
-pub other_stance : (a j : ℕ) (r : Request) (w : Recorded) (past : List Entry) → next_of (Asked a r w) ≡ Nothing → j ≢ a → stance j (Asked a r w ∷ past) ≡ stance j past
-other_stance a j r w past e h =
-    λ i. or_else (first_of (if_named j (e i)) (if another a j h i then Some (stance_of (Asked a r w)) else None)) (stance j past)
+-- an answer to an end or a settle restarts nothing
+done_restarts : (a : ℕ) (r : Request) (next : Next) → restarts (Asked a r (Done next)) ≡ None
+done_restarts a (Restart u) next = refl
+done_restarts a r next = refl
+
+pub done_calm : (shapes : List Shape) (j a : ℕ) (r : Request) (next : Next) → renews_task shapes j (Asked a r (Done next)) ≡ false
+done_calm shapes j a r next = ap (λ o. is_restarted o (task_unit shapes j)) (done_restarts a r next)
+
+-- what an actor is at after an entry that doesn't restart its unit is as the entry says
+pub calm_stance : (shapes : List Shape) (j : ℕ) (e : Entry) (past : List Entry) → renews_task shapes j e ≡ false → stance shapes j (e ∷ past) ≡ or_else (said j e) (stance shapes j past)
+calm_stance shapes j e past calm = ap (λ b. if b then Free else or_else (said j e) (stance shapes j past)) calm
+
+-- after one that does it waits for nothing
+pub renewed_stance : (shapes : List Shape) (j : ℕ) (e : Entry) (past : List Entry) → renews_task shapes j e ≡ true → stance shapes j (e ∷ past) ≡ Free
+renewed_stance shapes j e past renews = ap (λ b. if b then Free else or_else (said j e) (stance shapes j past)) renews
+
+-- an entry that names nobody speaks of its own actor alone
+pub own_stance : (shapes : List Shape) (a : ℕ) (r : Request) (w : Recorded) (past : List Entry) → next_of (Asked a r w) ≡ Nothing → stance shapes a (Asked a r w ∷ past) ≡ stance_of (Asked a r w)
+own_stance shapes a r w past e = by_test (renews_task shapes a (Asked a r w)) refl
+  where
+    by_test : (b : Bool) → renews_task shapes a (Asked a r w) ≡ b → (if b then Free else or_else (said a (Asked a r w)) (stance shapes a past)) ≡ stance_of (Asked a r w)
+    by_test true renews = sym (frees shapes a a r w renews)
+    by_test false calm = λ i. or_else (first_of (if_named a (e i)) (if itself a i then Some (stance_of (Asked a r w)) else None)) (stance shapes a past)
+
+pub other_stance : (shapes : List Shape) (a j : ℕ) (r : Request) (w : Recorded) (past : List Entry) → next_of (Asked a r w) ≡ Nothing → j ≢ a → renews_task shapes j (Asked a r w) ≡ false →
+    stance shapes j (Asked a r w ∷ past) ≡ stance shapes j past
+other_stance shapes a j r w past e h calm =
+    calm_stance shapes j (Asked a r w) past calm
+    ∙ (λ i. or_else (first_of (if_named j (e i)) (if another a j h i then Some (stance_of (Asked a r w)) else None)) (stance shapes j past))
 
 -- one more entry, of another actor, that doesn't name it
 abbrev pub is_other : Option ℕ → ℕ → Bool
@@ -135,6 +162,7 @@ held_other shapes past a Quit w j h e = refl
 held_other shapes past a (Tick n) w j h e = refl
 held_other shapes past a Halt w j h e = refl
 held_other shapes past a (Archive n) w j h e = refl
+held_other shapes past a (Restart u) w j h e = refl
 
 -- the first body of an actor is its own
 pub first_actor : (a : ℕ) (c : Body) (bs : List Body) → slice_get (filter (by a) bs) 0 ≡ Some c → c.actor ≡ a
@@ -172,11 +200,13 @@ left_other shapes past a r w j h = refl
 pub to_settle_other : (shapes : List Shape) (past : List Entry) (a : ℕ) (r : Request) (w : Recorded) (j : ℕ) → j ≢ a → to_settle shapes j (Asked a r w ∷ past) ≡ to_settle shapes j past
 to_settle_other shapes past a r w j h = ap (λ bs. slice_get bs 0) (left_other shapes past a r w j h)
 
--- an entry of another actor that doesn't name it leaves its mode as it was
-pub mode_other : (shapes : List Shape) (past : List Entry) (a : ℕ) (r : Request) (w : Recorded) (j : ℕ) → j ≢ a → is_other (named_in (next_of (Asked a r w))) j ≡ true → mode shapes j (Asked a r w ∷ past) ≡ mode shapes j past
-mode_other shapes past a r w j h e =
+-- an entry of another actor that doesn't name it, nor restarts its unit, leaves its mode as it was
+pub mode_other : (shapes : List Shape) (past : List Entry) (a : ℕ) (r : Request) (w : Recorded) (j : ℕ) → j ≢ a → is_other (named_in (next_of (Asked a r w))) j ≡ true → renews_task shapes j (Asked a r w) ≡ false → mode shapes j (Asked a r w ∷ past) ≡ mode shapes j past
+mode_other shapes past a r w j h e calm =
+    let at : stance shapes j (Asked a r w ∷ past) ≡ stance shapes j past =
+    calm_stance shapes j (Asked a r w) past calm ∙ unnamed_stance (next_of (Asked a r w)) j a (stance_of (Asked a r w)) (stance shapes j past) e h in
     λ i. or_settling (to_settle_other shapes past a r w j h i)
-    (mode_by (held_other shapes past a r w j h e i) (unnamed_stance (next_of (Asked a r w)) j a (stance_of (Asked a r w)) (stance j past) e h i))
+    (mode_by (held_other shapes past a r w j h e i) (at i))
 
 -- one that waits
 abbrev pub is_waiting : Stance → Bool

@@ -7,7 +7,7 @@ use Rattle.rv_access.specs.Words.{Words}
 use Rattle.rv_shape.specs.Shape.{Shape}
 use Rattle.rv_shape.specs.Catalogue.{first_of}
 use Rattle.rv_event.specs.Recorded.{recorded}
-use Rattle.rv_event.specs.Past.{held, if_named, innermost, joined, left, left_by, mode, mode_by, named_in, next_of, or_else, queue, queued_by, stance, stance_of, to_settle, under_way, unsettled, waiting, without}
+use Rattle.rv_event.specs.Past.{held, if_named, innermost, joined, left, left_by, mode, mode_by, named_in, next_of, or_else, queue, queued_by, renews_task, stance, stance_of, to_settle, under_way, unsettled, waiting, without}
 use Rattle.rv_event.specs.declared.entry.Body.{Body}
 use Rattle.rv_event.specs.declared.entry.Entry.{Entry}
 use Rattle.rv_event.specs.declared.entry.Entry.TheVariants.{Asked, Load, ListChange}
@@ -15,11 +15,11 @@ use Rattle.rv_event.specs.declared.entry.Exit.{Exit}
 use Rattle.rv_event.specs.declared.entry.Next.{Next}
 use Rattle.rv_event.specs.declared.entry.Next.TheVariants.{Nothing, HandedTo, Dropped}
 use Rattle.rv_event.specs.declared.entry.Request.{Request}
-use Rattle.rv_event.specs.declared.entry.Request.TheVariants.{Call, Complete, Settle, Resume, DelayUntil, Clock, Fire, Quit, Tick, Halt, Archive}
+use Rattle.rv_event.specs.declared.entry.Request.TheVariants.{Call, Complete, Settle, Resume, DelayUntil, Clock, Fire, Quit, Tick, Halt, Archive, Restart}
 use Rattle.rv_event.specs.declared.entry.Recorded.{Recorded}
 use Rattle.rv_event.specs.declared.entry.Recorded.TheVariants.{Started, Done}
 use Rattle.rv_event.specs.declared.entry.Stance.{Stance}
-use Rattle.rv_event.specs.declared.entry.Stance.TheVariants.{Free, InQueue, HandedOver, DroppedBy}
+use Rattle.rv_event.specs.declared.entry.Stance.TheVariants.{Free, Gone, InQueue, HandedOver, DroppedBy}
 use Rattle.rv_event.proofs.Matching.{by}
 use Rattle.rv_event.proofs.Unnamed.{filter_append}
 use Rattle.rv_history.specs.declared.limits.Limits.{Limits}
@@ -34,12 +34,13 @@ use Rattle.rv_history.proofs.Bodies.{count_filter, count_left, each_begun, each_
 use Rattle.rv_history.proofs.Ending.{head_waits, names_at}
 use Rattle.rv_history.proofs.Loaded.{left_stays, way_stays}
 use Rattle.rv_history.proofs.Modes.{ends_at, free_in, settler_free}
-use Rattle.rv_history.proofs.Stances.{below, first_actor, is_other, is_waiting, itself, left_is, queued_actor, same_number}
-use Rattle.rv_history.proofs.Waits.{Waits, AllWait, low_stays, more_tasks, more_wait, new_wait, others_stay, silent}
+use Rattle.rv_history.proofs.Restarts.{stance_loaded, unrenewed}
+use Rattle.rv_history.proofs.Stances.{below, calm_stance, first_actor, is_other, is_waiting, itself, left_is, queued_actor, renewed_stance, same_number}
+use Rattle.rv_history.proofs.Waits.{Calm, Waits, AllWait, low_stays, more_tasks, more_wait, new_wait, others_stay, silent}
 
 -- What holds of a body that left its object unsettled.
 pub record HasLeft (shapes : List Shape) (past : List Entry) (body : Body) : Type 0 where
-  pub at : stance body.actor past ≡ Free
+  pub at : stance shapes body.actor past ≡ Free
   pub known : body.actor < actors shapes
 
 pub record Standing (shapes : List Shape) (past : List Entry) : Type 0 where
@@ -48,36 +49,36 @@ pub record Standing (shapes : List Shape) (past : List Entry) : Type 0 where
   pub left : Each (HasLeft shapes past) (unsettled shapes past)
 
 -- one that isn't free has nothing to settle
-pub none_left : (shapes : List Shape) (past : List Entry) (a : ℕ) → Each (HasLeft shapes past) (unsettled shapes past) → (stance a past ≡ Free → ⊥) → to_settle shapes a past ≡ None
+pub none_left : (shapes : List Shape) (past : List Entry) (a : ℕ) → Each (HasLeft shapes past) (unsettled shapes past) → (stance shapes a past ≡ Free → ⊥) → to_settle shapes a past ≡ None
 none_left shapes past a k busy = by_left (to_settle shapes a past) refl
   where
     by_left : (o : Option Body) → to_settle shapes a past ≡ o → to_settle shapes a past ≡ None
     by_left None is = is
     by_left (Some b) is =
-        let free : stance b.actor past ≡ Free = (each_first (HasLeft shapes past) a b (unsettled shapes past) k is).at in
+        let free : stance shapes b.actor past ≡ Free = (each_first (HasLeft shapes past) a b (unsettled shapes past) k is).at in
         let its : b.actor ≡ a = first_actor a b (unsettled shapes past) is in
-        absurd (busy (ap (λ n. stance n past) (sym its) ∙ free))
+        absurd (busy (ap (λ n. stance shapes n past) (sym its) ∙ free))
 
 -- one that has an object to settle is free
-pub settler_at : (h : History) (a : ℕ) (b : Body) → Standing h.shapes h.past → to_settle h.shapes a h.past ≡ Some b → stance a h.past ≡ Free
+pub settler_at : (h : History) (a : ℕ) (b : Body) → Standing h.shapes h.past → to_settle h.shapes a h.past ≡ Some b → stance h.shapes a h.past ≡ Free
 settler_at h a b k is =
-    ap (λ n. stance n h.past) (sym (first_actor a b (unsettled h.shapes h.past) is)) ∙ (each_first (HasLeft h.shapes h.past) a b (unsettled h.shapes h.past) k.left is).at
+    ap (λ n. stance h.shapes n h.past) (sym (first_actor a b (unsettled h.shapes h.past) is)) ∙ (each_first (HasLeft h.shapes h.past) a b (unsettled h.shapes h.past) k.left is).at
 
 -- whom an entry names is queued
-pub named_waits : (h : History) (a : ℕ) (r : Request) (next : Next) (n : ℕ) → AllWait h.shapes h.past (waiting h.past) → recorded (out h a r) ≡ Some (Done next) → named_in next ≡ Some n → stance n h.past ≡ InQueue
+pub named_waits : (h : History) (a : ℕ) (r : Request) (next : Next) (n : ℕ) → AllWait h.shapes h.past (waiting h.past) → recorded (out h a r) ≡ Some (Done next) → named_in next ≡ Some n → stance h.shapes n h.past ≡ InQueue
 named_waits h a r next n all e f =
     let q = (names_at h a r next n e f).served_by in
     let v = head_waits h.shapes h.past _ q.call q.rest all q.queued in
-    ap (λ m. stance m h.past) (sym q.is_its) ∙ v.at
+    ap (λ m. stance h.shapes m h.past) (sym q.is_its) ∙ v.at
 
 -- so it names nobody else
-pub names_other : (h : History) (a : ℕ) (r : Request) (w : Recorded) (j : ℕ) → AllWait h.shapes h.past (waiting h.past) → recorded (out h a r) ≡ Some w → is_waiting (stance j h.past) ≡ false → is_other (named_in (next_of (Asked a r w))) j ≡ true
+pub names_other : (h : History) (a : ℕ) (r : Request) (w : Recorded) (j : ℕ) → AllWait h.shapes h.past (waiting h.past) → recorded (out h a r) ≡ Some w → is_waiting (stance h.shapes j h.past) ≡ false → is_other (named_in (next_of (Asked a r w))) j ≡ true
 names_other h a r (Done next) j all e calm = by_name (named_in next) refl
   where
     by_test : (n : ℕ) (t : Bool) → named_in next ≡ Some n → (n == j) ≡ t → not t ≡ true
     by_test n false is same = refl
     by_test n true is same =
-        let queued : stance j h.past ≡ InQueue = ap (λ m. stance m h.past) (sym (same_number n j same)) ∙ named_waits h a r next n all e is in
+        let queued : stance h.shapes j h.past ≡ InQueue = ap (λ m. stance h.shapes m h.past) (sym (same_number n j same)) ∙ named_waits h a r next n all e is in
         absurd (off (sym calm ∙ ap is_waiting queued))
 
     by_name : (o : Option ℕ) → named_in next ≡ o → is_other o j ≡ true
@@ -104,13 +105,18 @@ stance_unnamed next j a s t e = ap (λ o. or_else (first_of o (if a == j then So
     by_test false = refl
 
 -- one that was free is so after an entry, its own too where that leaves it free
-free_then : (h : History) (a : ℕ) (r : Request) (w : Recorded) (j : ℕ) → AllWait h.shapes h.past (waiting h.past) → recorded (out h a r) ≡ Some w → stance j h.past ≡ Free → ((a == j) ≡ true → stance_of (Asked a r w) ≡ Free) → stance j (Asked a r w ∷ h.past) ≡ Free
-free_then h a r w j all e free own =
-    stance_unnamed (next_of (Asked a r w)) j a (stance_of (Asked a r w)) (stance j h.past) (names_other h a r w j all e (ap is_waiting free)) ∙ by_test (a == j) refl
+free_then : (h : History) (a : ℕ) (r : Request) (w : Recorded) (j : ℕ) → AllWait h.shapes h.past (waiting h.past) → recorded (out h a r) ≡ Some w → stance h.shapes j h.past ≡ Free → ((a == j) ≡ true → stance_of (Asked a r w) ≡ Free) → stance h.shapes j (Asked a r w ∷ h.past) ≡ Free
+free_then h a r w j all e free own = by_renewal (renews_task h.shapes j (Asked a r w)) refl
   where
-    by_test : (b : Bool) → (a == j) ≡ b → (if b then stance_of (Asked a r w) else stance j h.past) ≡ Free
+    by_test : (b : Bool) → (a == j) ≡ b → (if b then stance_of (Asked a r w) else stance h.shapes j h.past) ≡ Free
     by_test true is = own is
     by_test false is = free
+
+    by_renewal : (b : Bool) → renews_task h.shapes j (Asked a r w) ≡ b → stance h.shapes j (Asked a r w ∷ h.past) ≡ Free
+    by_renewal true renews = renewed_stance h.shapes j (Asked a r w) h.past renews
+    by_renewal false calm =
+        calm_stance h.shapes j (Asked a r w) h.past calm
+        ∙ stance_unnamed (next_of (Asked a r w)) j a (stance_of (Asked a r w)) (stance h.shapes j h.past) (names_other h a r w j all e (ap is_waiting free)) ∙ by_test (a == j) refl
 
 -- The bodies that left their objects unsettled
 
@@ -140,17 +146,17 @@ still_left h a r w k e = by_left (to_settle h.shapes a h.past) refl
         (λ c was other. stays c was (λ own. absurd (off (sym (turned c.actor a false other) ∙ own)))) k.left (each_other a (unsettled h.shapes h.past) is)
 
 -- the actor of an end is free
-pub ender_free : (h : History) (a : ℕ) (vs : List ℤ) (x : Exit) (w : Recorded) → Answered h a (Complete vs x) w → stance a h.past ≡ Free
+pub ender_free : (h : History) (a : ℕ) (vs : List ℤ) (x : Exit) (w : Recorded) → Answered h a (Complete vs x) w → stance h.shapes a h.past ≡ Free
 ender_free h a vs x w g =
     let ends = (both (in_body (mode h.shapes a h.past)) (end_fits h.shapes vs x (innermost h.shapes a h.past)) g.fits_in).0 in
-    free_in (held h.shapes a h.past) (stance a h.past) (ends_at (to_settle h.shapes a h.past) (mode_by (held h.shapes a h.past) (stance a h.past)) ends)
+    free_in (held h.shapes a h.past) (stance h.shapes a h.past) (ends_at (to_settle h.shapes a h.past) (mode_by (held h.shapes a h.past) (stance h.shapes a h.past)) ends)
 
 end_leaves : (h : History) (a : ℕ) (vs : List ℤ) (x : Exit) (w : Recorded) (b : Body) → Standing h.shapes h.past → recorded (out h a (Complete vs x)) ≡ Some w → innermost h.shapes a h.past ≡ Some b →
     HasLeft h.shapes (Asked a (Complete vs x) w ∷ h.past) b
 end_leaves h a vs x w b k e is =
     let g = answered h a (Complete vs x) w e in
     let its : b.actor ≡ a = first_actor a b (under_way h.shapes h.past) is in
-    let free : stance b.actor h.past ≡ Free = ap (λ n. stance n h.past) its ∙ ender_free h a vs x w g in
+    let free : stance h.shapes b.actor h.past ≡ Free = ap (λ n. stance h.shapes n h.past) its ∙ ender_free h a vs x w g in
     record {
       at = free_then h a (Complete vs x) w b.actor k.wait e free (λ own. refl);
       known = subst (λ n. n < actors h.shapes) (sym its) (below a (actors h.shapes) g.known);
@@ -178,14 +184,22 @@ left_step h a Quit w k e = still_left h a Quit w k e
 left_step h a (Tick n) w k e = still_left h a (Tick n) w k e
 left_step h a Halt w k e = still_left h a Halt w k e
 left_step h a (Archive n) w k e = still_left h a (Archive n) w k e
+left_step h a (Restart u) w k e = still_left h a (Restart u) w k e
 
 -- The calls that wait
 
 -- who waits asks nothing
 pub waiter_silent : (h : History) (a : ℕ) (r : Request) (w : Recorded) (b : Body) → Each (HasLeft h.shapes h.past) (unsettled h.shapes h.past) → recorded (out h a r) ≡ Some w → Waits h.shapes h.past b → b.actor ≢ a
 waiter_silent h a r w b left e v is =
-    let at : stance a h.past ≡ InQueue = ap (λ n. stance n h.past) (sym is) ∙ v.at in
+    let at : stance h.shapes a h.past ≡ InQueue = ap (λ n. stance h.shapes n h.past) (sym is) ∙ v.at in
     silent h a r w at (ap (λ n. nat_lt n 11) (sym is) ∙ v.task) (none_left h.shapes h.past a left (λ free. off (ap is_waiting (sym free ∙ at)))) e
+
+-- nor does its unit begin anew
+pub waiter_calm : (h : History) (a : ℕ) (r : Request) (w : Recorded) (b : Body) → Each (HasLeft h.shapes h.past) (unsettled h.shapes h.past) → recorded (out h a r) ≡ Some w → Waits h.shapes h.past b → Calm h.shapes h.past a r w b
+waiter_calm h a r w b left e v = record {
+  other = waiter_silent h a r w b left e v;
+  unrenewed = unrenewed h a r w b.actor e (λ gone. let both_are : InQueue ≡ Gone = sym v.at ∙ gone in absurd (cc));
+}
 
 none_by : (shapes : List Shape) (past : List Entry) (a : ℕ) (calls : List Body) → ((b : Body) → Waits shapes past b → b.actor ≢ a) → AllWait shapes past calls → length (filter (by a) calls) ≡ 0
 none_by shapes past a [] apart all = refl
@@ -234,7 +248,7 @@ legal_standing c (Asked a r w ∷ past) shapes lists l =
     let k : Standing shapes past = legal_standing c past shapes lists l.0 in
     record {
       wait = new_wait h a r w (queued_by (Asked a r w)) refl l.1 _
-          (others_stay shapes past a r w (waiting past) (named_in (next_of (Asked a r w))) refl (λ b v. waiter_silent h a r w b k.left l.1 v) k.wait);
+          (others_stay shapes past a r w (waiting past) (named_in (next_of (Asked a r w))) refl (λ b v. waiter_calm h a r w b k.left l.1 v) k.wait);
       once = once_step h a r w k l.1;
       left = left_step h a r w k l.1;
     }
@@ -243,10 +257,10 @@ legal_standing c (Load ∷ past) shapes lists l =
     let k : Standing l.0 past = legal_standing c past l.0 lists l.3 in
     let ways : under_way more past ≡ under_way l.0 past = way_stays c past l.0 (l.1 ∷ []) lists l.3 in
     let left : Each (HasLeft more (Load ∷ past)) (unsettled l.0 past) =
-    each_map (HasLeft l.0 past) (HasLeft more (Load ∷ past)) (unsettled l.0 past) (λ b v. record { at = v.at; known = omega (arith, v.known, more_tasks l.0 l.1) }) k.left in
+    each_map (HasLeft l.0 past) (HasLeft more (Load ∷ past)) (unsettled l.0 past) (λ b v. record { at = stance_loaded c past l.0 (l.1 ∷ []) lists b.actor l.3 ∙ v.at; known = omega (arith, v.known, more_tasks l.0 l.1) }) k.left in
     let now : Standing more (Load ∷ past) = record {
       wait = more_wait l.0 more past Load (waiting past)
-          (λ b v. record { at = v.at; task = v.task; known = omega (arith, v.known, more_tasks l.0 l.1); last = v.last; none = ap (λ bs. filter (λ c. c.actor == b.actor) bs) ways ∙ v.none; low = low_stays l.0 (l.1 ∷ []) b v.known v.low }) k.wait;
+          (λ b v. record { at = stance_loaded c past l.0 (l.1 ∷ []) lists b.actor l.3 ∙ v.at; task = v.task; known = omega (arith, v.known, more_tasks l.0 l.1); last = v.last; none = ap (λ bs. filter (λ c. c.actor == b.actor) bs) ways ∙ v.none; low = low_stays l.0 (l.1 ∷ []) b v.known v.low }) k.wait;
       once = k.once;
       left = subst (Each (HasLeft more (Load ∷ past))) (sym (left_stays c past l.0 (l.1 ∷ []) lists l.3)) left;
     } in

@@ -12,12 +12,12 @@ use Rattle.rv_event.specs.declared.entry.Body.{Body}
 use Rattle.rv_event.specs.declared.entry.Recorded.{Recorded}
 use Rattle.rv_event.specs.declared.entry.Recorded.TheVariants as Words
 use Rattle.rv_event.specs.declared.entry.Request.{Request}
-use Rattle.rv_event.specs.declared.entry.Request.TheVariants.{Call, Complete, Settle, Resume, DelayUntil, Clock, Fire}
+use Rattle.rv_event.specs.declared.entry.Request.TheVariants.{Call, Complete, Settle, Resume, DelayUntil, Clock, Fire, Restart}
 use Rattle.rv_event.specs.declared.entry.Rule.{Rule}
 use Rattle.rv_event.specs.declared.entry.Rule.TheVariants as Rules
 use Rattle.rv_event.specs.declared.entry.Stance.{Stance}
 use Rattle.rv_event.specs.declared.entry.Stance.TheVariants.{InQueue, HandedOver, DroppedBy, WaitsOn, WaitsUntil}
-use Rattle.rv_history.specs.Due.{delayed, due, due_call, due_end, due_fire, due_resume, due_settle, end_of, enough, gate, goes_on, judged, let_in, or_waiting, out, performed, scalars_held, table, within}
+use Rattle.rv_history.specs.Due.{delayed, due, due_call, due_end, due_fire, due_resume, due_settle, end_of, enough, gate, goes_on, judged, let_in, or_waiting, out, performed, scalars_held, table, within, nothing_more}
 use Rattle.rv_history.specs.Exclusion.{excluded, full_queue, is_barred, is_open}
 use Rattle.rv_history.specs.Fitting.{fits}
 use Rattle.rv_history.specs.HandOver.{serves}
@@ -27,6 +27,7 @@ use Rattle.rv_history.specs.Subject.{subject}
 use Rattle.rv_history.proofs.Answered.{off, and_none, answered, both, word_is}
 use Rattle.rv_history.proofs.Handled.{handler_enters, handler_is}
 use Rattle.rv_history.proofs.Violations.{each_refused, is_found, none_found, not_taken, waiter_rule}
+use Rattle.rv_history.specs.InUse.{in_use}
 
 -- Answers to calls
 
@@ -151,7 +152,7 @@ pub record SuspensionTells (h : History) (a : ℕ) (r : Request) : Type 0 where
 
 -- a resume is refused where its actor was dropped
 abbrev pub RefusalTells : History → ℕ → Request → ℕ → ℕ → Type 0
-RefusalTells h a Resume line number = (stance a h.past ≡ DroppedBy line) × (number ≡ changes (until_then a h.past))
+RefusalTells h a Resume line number = (stance h.shapes a h.past ≡ DroppedBy line) × (number ≡ changes (until_then a h.past))
 RefusalTells h a r line number = goes_on r ≡ false
 
 -- at a wait that starts no body (9.6, D.10)
@@ -162,8 +163,8 @@ is_pause s = false
 
 -- scalars are given where an object was handed over, and none where a pause is over
 abbrev pub WakeTells : History → ℕ → Option (List ℤ) → Type 0
-WakeTells h a None = is_pause (stance a h.past) ≡ true
-WakeTells h a (Some values) = (stance a h.past ≡ HandedOver) × (values ≡ scalars_held h (innermost h.shapes a h.past))
+WakeTells h a None = is_pause (stance h.shapes a h.past) ≡ true
+WakeTells h a (Some values) = (stance h.shapes a h.past ≡ HandedOver) × (values ≡ scalars_held h (innermost h.shapes a h.past))
 
 abbrev pub is_delay : Request → Bool
 is_delay (DelayUntil time) = true
@@ -211,8 +212,8 @@ protected_tells h a r o s at outward calls =
 
 suspension_tells : (h : History) (a o p : ℕ) (vs : List ℤ) (unit name : List ℕ) (wanted : SuspensionOperation) → target h.shapes o p ≡ OnSuspension unit name wanted → Tells h a (Call o p vs) (due_call h a (Call o p vs) o (OnSuspension unit name wanted))
 suspension_tells h a o p vs unit name wanted at =
-    each_refused (Tells h a r) (version h) (decided h (subject h a) t) (first_at h a r o t) (performed (state o h.past) wanted) (λ rule k is. refl)
-    (λ none. each_performed (Tells h a r) (state o h.past) wanted (refl, inl refl) (refl, inr (inl refl)) (waits (none_found (λ rule. breaks h rule a r o t) none Rules.Waiter)))
+    each_refused (Tells h a r) (version h) (decided h (subject h a) t) (first_at h a r o t) (performed (state h.shapes o h.past) wanted) (λ rule k is. refl)
+    (λ none. each_performed (Tells h a r) (state h.shapes o h.past) wanted (refl, inl refl) (refl, inr (inl refl)) (waits (none_found (λ rule. breaks h rule a r o t) none Rules.Waiter)))
   where
     r : Request
     r = Call o p vs
@@ -257,7 +258,7 @@ settle_tells : (h : History) (a : ℕ) (b : Option Body) → Tells h a Settle (d
 settle_tells h a None = tt
 settle_tells h a (Some b) = refl
 
-resume_tells : (h : History) (a : ℕ) (s : Stance) → stance a h.past ≡ s → Tells h a Resume (due_resume h a s)
+resume_tells : (h : History) (a : ℕ) (s : Stance) → stance h.shapes a h.past ≡ s → Tells h a Resume (due_resume h a s)
 resume_tells h a InQueue at = each_halted (Tells h a Resume) h refl refl
 resume_tells h a HandedOver at = (refl, (at, refl))
 resume_tells h a (DroppedBy line) at = (at, refl)
@@ -277,10 +278,15 @@ pub table_tells : (h : History) (a : ℕ) (r : Request) → Tells h a r (table h
 table_tells h a (Call o p vs) = call_tells h a o p vs (target h.shapes o p) refl
 table_tells h a (Complete vs x) = end_tells h a vs (Complete vs x) refl (innermost h.shapes a h.past)
 table_tells h a Settle = settle_tells h a (to_settle h.shapes a h.past)
-table_tells h a Resume = resume_tells h a (stance a h.past) refl
+table_tells h a Resume = resume_tells h a (stance h.shapes a h.past) refl
 table_tells h a (DelayUntil time) = delay_tells h a time (int_le time (pos (clock h.past)))
 table_tells h a Clock = (refl, inr (inr refl))
 table_tells h a Fire = fire_tells h a (handler h.shapes (a - 1)) refl
+table_tells h a (Restart u) = by_use (in_use h u)
+  where
+    by_use : (used : Bool) → Tells h a (Restart u) (if used then Answers.Busy else nothing_more)
+    by_use true = refl
+    by_use false = (refl, inl refl)
 table_tells h a r = (refl, inl refl)
 
 -- What is due

@@ -4,7 +4,7 @@ use Rattle.std.specs.Prelude.{ℤ, ◌==◌, ◌||◌, if◌then◌else◌}
 use Rattle.std.specs.List.{filter, list_any}
 use Rattle.rv_access.specs.Words.{Words}
 use Rattle.rv_shape.specs.Shape.{Shape}
-use Rattle.rv_shape.specs.Catalogue.{place, is_function}
+use Rattle.rv_shape.specs.Catalogue.{place, is_function, initial}
 use Rattle.rv_event.specs.Recorded.{recorded}
 use Rattle.rv_event.specs.Past.{begun, halted, halts, innermost, is_unsettled, joined, left, left_by, named_in, next_of, queue, queued_by, scalars, to_settle, under_way, unsettled, waiting, without}
 use Rattle.rv_event.specs.declared.entry.Body.{Body}
@@ -14,9 +14,9 @@ use Rattle.rv_event.specs.declared.entry.Exit.{Exit}
 use Rattle.rv_event.specs.declared.entry.Next.{Next}
 use Rattle.rv_event.specs.declared.entry.Next.TheVariants.{Nothing, HandedTo, Dropped}
 use Rattle.rv_event.specs.declared.entry.Request.{Request}
-use Rattle.rv_event.specs.declared.entry.Request.TheVariants.{Call, Complete, Settle, Resume, DelayUntil, Clock, Fire, Quit, Tick, Halt, Archive}
+use Rattle.rv_event.specs.declared.entry.Request.TheVariants.{Call, Complete, Settle, Resume, DelayUntil, Clock, Fire, Quit, Tick, Halt, Archive, Restart}
 use Rattle.rv_event.specs.declared.entry.Recorded.{Recorded}
-use Rattle.rv_event.specs.declared.entry.Recorded.TheVariants.{Queued, Done}
+use Rattle.rv_event.specs.declared.entry.Recorded.TheVariants.{Queued, Done, Accepted}
 use Rattle.rv_event.proofs.Unnamed.{filter_append}
 use Rattle.rv_history.specs.declared.limits.Limits.{Limits}
 use Rattle.rv_history.specs.Due.{out}
@@ -40,6 +40,8 @@ use Rattle.rv_history.proofs.Settled.{begun_stays, open_at, open_stays, or_right
 use Rattle.rv_history.proofs.Standing.{legal_standing}
 use Rattle.rv_history.proofs.Stances.{itself, left_is, same_number, some_is}
 use Rattle.rv_history.proofs.Waits.{joins}
+use Rattle.rv_shape.specs.Units.{is_unit, object_unit}
+use Rattle.rv_history.proofs.Restarts.{left_unrenewed}
 
 -- The queue of an unsettled object that an entry doesn't serve
 
@@ -226,6 +228,16 @@ calm_ready h a r w o l e none same values was = by_test (is_unsettled h.shapes o
     by_test false settled = inl (ap (list_any (is_on o)) same ∙ settled)
     by_test true still = ready_stays h a r w o l e still away values was
 
+-- a restart: an unsettled object is in use
+restart_ready : (h : History) (a u : ℕ) (v : ℤ) (o : ℕ) → Legal h → recorded (out h a (Restart u)) ≡ Some (Accepted v) → IsReady h.shapes h.past o → IsReady h.shapes (Asked a (Restart u) (Accepted v) ∷ h.past) o
+restart_ready h a u v o l e was = by_test (is_unsettled h.shapes o h.past) refl
+  where
+    by_test : (t : Bool) → is_unsettled h.shapes o h.past ≡ t → IsReady h.shapes (Asked a (Restart u) (Accepted v) ∷ h.past) o
+    by_test false settled = inl settled
+    by_test true left =
+        let kept : is_unit u (object_unit h.shapes o) ≡ false = left_unrenewed h a (Restart u) (Accepted v) o e left in
+        calm_ready h a (Restart u) (Accepted v) o l e refl refl (ap (λ b. if b then initial h.shapes o else scalars h.shapes o h.past) kept) was
+
 any_more : (o a : ℕ) (bs : List Body) → list_any (is_on o) (without a bs) ≡ true → list_any (is_on o) bs ≡ true
 any_more o a bs e = by_test (list_any (is_on o) bs) refl
   where
@@ -268,6 +280,8 @@ ready_step h a Quit w o l e was = calm_ready h a Quit w o l e refl refl refl was
 ready_step h a (Tick n) w o l e was = calm_ready h a (Tick n) w o l e refl refl refl was
 ready_step h a Halt w o l e was = calm_ready h a Halt w o l e refl refl refl was
 ready_step h a (Archive n) w o l e was = calm_ready h a (Archive n) w o l e refl refl refl was
+ready_step h a (Restart u) (Accepted v) o l e was = restart_ready h a u v o l e was
+ready_step h a (Restart u) w o l e was = calm_ready h a (Restart u) w o l e refl refl refl was
 
 -- a load
 ready_load : (h : History) (more : List Shape) (o : ℕ) → Legal h → IsReady h.shapes h.past o → IsReady (h.shapes ++ more) (Load ∷ h.past) o

@@ -7,7 +7,7 @@ use Rattle.rv_shape.specs.Shape.{Shape}
 use Rattle.rv_event.specs.Recorded.{recorded}
 use Rattle.rv_prio.specs.Priority.{greatest}
 use Rattle.rv_shape.specs.Catalogue.{UnitTask, Who, Operator, Line, Task, Nobody, Site, ceiling, who, task_of, all_tasks, tasks_of, first_of, OnProtected, target, is_entry, is_function}
-use Rattle.rv_event.specs.Past.{held, to_settle, next_of, named_in, stance, halted, mode, mode_by, or_settling, last_queued, queued_by, joined, left}
+use Rattle.rv_event.specs.Past.{held, renews_task, to_settle, next_of, named_in, stance, halted, mode, mode_by, or_settling, last_queued, queued_by, joined, left}
 use Rattle.rv_event.specs.declared.entry.Stance.{Stance}
 use Rattle.rv_event.specs.declared.entry.Stance.TheVariants.{Free, InQueue, HandedOver, DroppedBy, WaitsOn, WaitsUntil, Gone}
 use Rattle.rv_event.specs.declared.entry.Body.{Body}
@@ -31,7 +31,7 @@ use Rattle.rv_history.proofs.Exactly.{not_halted}
 use Rattle.rv_history.proofs.Loaded.{protected_stays, who_stays}
 use Rattle.rv_history.proofs.Tells.{word_tells}
 use Rattle.rv_history.proofs.Modes.{SettlesOrResumes, calls_at, is_shut, shut_fits, unfit}
-use Rattle.rv_history.proofs.Stances.{itself, below, own_stance, is_other, unnamed_stance, other_queued, queued_actor, some_is, held_other}
+use Rattle.rv_history.proofs.Stances.{itself, below, calm_stance, own_stance, is_other, unnamed_stance, other_queued, queued_actor, some_is, held_other}
 
 -- One that is queued gets no recorded answer.
 
@@ -49,7 +49,7 @@ waits_on : (h : History) (b : Bool) (w : Recorded) → recorded (if b then Answe
 waits_on h true w e = cc
 waits_on h false w e = cc
 
-pub silent : (h : History) (a : ℕ) (r : Request) (w : Recorded) → stance a h.past ≡ InQueue → nat_lt a 11 ≡ false → to_settle h.shapes a h.past ≡ None → recorded (out h a r) ≡ Some w → ⊥
+pub silent : (h : History) (a : ℕ) (r : Request) (w : Recorded) → stance h.shapes a h.past ≡ InQueue → nat_lt a 11 ≡ false → to_settle h.shapes a h.past ≡ None → recorded (out h a r) ≡ Some w → ⊥
 silent h a r w at task settled e = by_case (shut_fits h a r (ap is_shut queued) (unfit _ (no_operator h.shapes a task)) g.fits_in)
   where
     g : Answered h a r w
@@ -124,7 +124,7 @@ joins h a o p vs e =
     let calm : holds_any h a ≡ false = sym (and_true (holds_any h a)) ∙ ap (λ b. holds_any h a && b) (sym kind.0) ∙ t.passed.calm in
     let none : held h.shapes a h.past ≡ [] = nothing_held (held h.shapes a h.past) calm in
     let fit = (both (may_call (who h.shapes a) (mode h.shapes a h.past)) (call_fits (length (held h.shapes a h.past)) vs (target h.shapes o p)) g.fits_in).0 in
-    let calls = calls_at (who h.shapes a) (to_settle h.shapes a h.past) (mode_by (held h.shapes a h.past) (stance a h.past)) fit in
+    let calls = calls_at (who h.shapes a) (to_settle h.shapes a h.past) (mode_by (held h.shapes a h.past) (stance h.shapes a h.past)) fit in
     record {
       site = t.site;
       at = ap (λ (m : Aim). m.1) t.aimed;
@@ -133,7 +133,7 @@ joins h a o p vs e =
       shut = not_open (is_open h o) (ap (λ m. not (is_open h m)) same ∙ kind.1);
       short = ap (full_queue h) same ∙ t.passed.short;
       going = not_halted (halted h.past) false refl g.unshut;
-      task = task_high h.shapes a (caller (who h.shapes a) (stance a h.past) (ap (λ bs. may_call (who h.shapes a) (mode_by bs (stance a h.past))) (sym none) ∙ calls));
+      task = task_high h.shapes a (caller (who h.shapes a) (stance h.shapes a h.past) (ap (λ bs. may_call (who h.shapes a) (mode_by bs (stance h.shapes a h.past))) (sym none) ∙ calls));
       known = below a (actors h.shapes) g.known;
       none = none;
       low = sym (ap (λ (bs : List Body). nat_lt t.site.object.ceiling (greatest (base_of (who h.shapes a)) (map (λ body. ceiling h.shapes body.object) bs))) none) ∙ t.passed.low;
@@ -147,7 +147,7 @@ pub record Low (shapes : List Shape) (call : Body) : Type 0 where
 
 -- What holds of a call in a queue: its actor is a task at that call, which holds nothing, and may call what it calls.
 pub record Waits (shapes : List Shape) (past : List Entry) (call : Body) : Type 0 where
-  pub at : stance call.actor past ≡ InQueue
+  pub at : stance shapes call.actor past ≡ InQueue
   pub task : nat_lt call.actor 11 ≡ false
   pub known : call.actor < actors shapes
   pub last : last_queued call.actor past ≡ Some call
@@ -162,9 +162,9 @@ append_wait : (shapes : List Shape) (past : List Entry) (calls : List Body) (cal
 append_wait shapes past [] call all one = (one, tt)
 append_wait shapes past (c ∷ calls) call all one = (all.0, append_wait shapes past calls call all.1 one)
 
-one_stays : (shapes : List Shape) (past : List Entry) (a : ℕ) (r : Request) (w : Recorded) (c : Body) → c.actor ≢ a → is_other (named_in (next_of (Asked a r w))) c.actor ≡ true → Waits shapes past c → Waits shapes (Asked a r w ∷ past) c
-one_stays shapes past a r w c h e v = record {
-  at = unnamed_stance (next_of (Asked a r w)) c.actor a _ (stance c.actor past) e h ∙ v.at;
+one_stays : (shapes : List Shape) (past : List Entry) (a : ℕ) (r : Request) (w : Recorded) (c : Body) → c.actor ≢ a → is_other (named_in (next_of (Asked a r w))) c.actor ≡ true → renews_task shapes c.actor (Asked a r w) ≡ false → Waits shapes past c → Waits shapes (Asked a r w ∷ past) c
+one_stays shapes past a r w c h e calm v = record {
+  at = calm_stance shapes c.actor (Asked a r w) past calm ∙ unnamed_stance (next_of (Asked a r w)) c.actor a _ (stance shapes c.actor past) e h ∙ v.at;
   task = v.task;
   known = v.known;
   last = other_queued (queued_by (Asked a r w)) a c.actor past (queued_actor a r w) h ∙ v.last;
@@ -172,14 +172,20 @@ one_stays shapes past a r w c h e v = record {
   low = v.low;
 }
 
+-- who waits asks nothing by an entry, nor does its unit begin anew
+pub record Calm (shapes : List Shape) (past : List Entry) (a : ℕ) (r : Request) (w : Recorded) (c : Body) : Type 0 where
+  pub other : c.actor ≢ a
+  pub unrenewed : renews_task shapes c.actor (Asked a r w) ≡ false
+
 none_named : (shapes : List Shape) (past : List Entry) (a : ℕ) (r : Request) (w : Recorded) (calls : List Body) → named_in (next_of (Asked a r w)) ≡ None →
-    ((c : Body) → Waits shapes past c → c.actor ≢ a) → AllWait shapes past calls → AllWait shapes (Asked a r w ∷ past) calls
+    ((c : Body) → Waits shapes past c → Calm shapes past a r w c) → AllWait shapes past calls → AllWait shapes (Asked a r w ∷ past) calls
 none_named shapes past a r w [] is apart all = tt
 none_named shapes past a r w (c ∷ cs) is apart all =
-    (one_stays shapes past a r w c (apart c all.0) (ap (λ n. is_other n c.actor) is) all.0, none_named shapes past a r w cs is apart all.1)
+    let k = apart c all.0 in
+    (one_stays shapes past a r w c k.other (ap (λ n. is_other n c.actor) is) k.unrenewed all.0, none_named shapes past a r w cs is apart all.1)
 
 one_named : (shapes : List Shape) (past : List Entry) (a : ℕ) (r : Request) (w : Recorded) (n : ℕ) (calls : List Body) → named_in (next_of (Asked a r w)) ≡ Some n →
-    ((c : Body) → Waits shapes past c → c.actor ≢ a) → AllWait shapes past calls → AllWait shapes (Asked a r w ∷ past) (filter (λ c. not (c.actor == n)) calls)
+    ((c : Body) → Waits shapes past c → Calm shapes past a r w c) → AllWait shapes past calls → AllWait shapes (Asked a r w ∷ past) (filter (λ c. not (c.actor == n)) calls)
 one_named shapes past a r w n [] is apart all = tt
 one_named shapes past a r w n (c ∷ cs) is apart all = by_test (c.actor == n) refl (one_named shapes past a r w n cs is apart all.1)
   where
@@ -187,10 +193,11 @@ one_named shapes past a r w n (c ∷ cs) is apart all = by_test (c.actor == n) r
     by_test true e rest = rest
     by_test false e rest =
         let turned : (n == c.actor) ≡ false = grind (arith, nat_tests) in
-        (one_stays shapes past a r w c (apart c all.0) (ap (λ m. is_other m c.actor) is ∙ ap not turned) all.0, rest)
+        let k = apart c all.0 in
+        (one_stays shapes past a r w c k.other (ap (λ m. is_other m c.actor) is ∙ ap not turned) k.unrenewed all.0, rest)
 
 pub others_stay : (shapes : List Shape) (past : List Entry) (a : ℕ) (r : Request) (w : Recorded) (calls : List Body) (n : Option ℕ) → named_in (next_of (Asked a r w)) ≡ n →
-    ((c : Body) → Waits shapes past c → c.actor ≢ a) → AllWait shapes past calls → AllWait shapes (Asked a r w ∷ past) (left n calls)
+    ((c : Body) → Waits shapes past c → Calm shapes past a r w c) → AllWait shapes past calls → AllWait shapes (Asked a r w ∷ past) (left n calls)
 others_stay shapes past a r w calls None is apart all = none_named shapes past a r w calls is apart all
 others_stay shapes past a r w calls (Some n) is apart all = one_named shapes past a r w n calls is apart all
 
@@ -203,7 +210,7 @@ new_wait h a (Call o p vs) Queued (Some b) is due calls all =
     let self : Body = record { actor = a; object = o; operation = p } in
     let same : self ≡ b = some_is self b is in
     append_wait h.shapes (Asked a (Call o p vs) Queued ∷ h.past) calls b all (subst (λ c. Waits h.shapes (Asked a (Call o p vs) Queued ∷ h.past) c) same (record {
-      at = own_stance a (Call o p vs) Queued h.past refl;
+      at = own_stance h.shapes a (Call o p vs) Queued h.past refl;
       task = j.task;
       known = j.known;
       last = λ i. first_of (if itself a i then Some self else None) (last_queued a h.past);

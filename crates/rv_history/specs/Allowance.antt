@@ -1,32 +1,18 @@
--- What units spend (own): the recorded entries of requests that don't pay for themselves, each charged to a unit.
-use Rattle.std.specs.Prelude.{ℕ, suc, ◌-◌, ◌==◌, nat_le, not, Bool, true, false, if◌then◌else◌, List, [], ◌∷◌, Option, Some, None}
-use Rattle.std.specs.Option.{option_map}
-use Rattle.rv_shape.specs.Catalogue.{OperationNumber, handler, place}
-use Rattle.rv_shape.specs.Names.{unit_number}
-use Rattle.rv_shape.specs.Readers.{actor_task}
+-- What units spend (own): the recorded entries of requests that don't pay for themselves, each charged to a unit. A restart of
+-- the unit begins the count anew.
+use Rattle.std.specs.Prelude.{ℕ, suc, ◌-◌, nat_le, not, Bool, true, false, if◌then◌else◌, List, [], ◌∷◌, Option, Some, None}
+use Rattle.rv_shape.specs.Catalogue.{OperationNumber, handler}
 use Rattle.rv_shape.specs.Shape.{Shape}
-use Rattle.rv_event.specs.Past.{innermost}
+pub use Rattle.rv_shape.specs.Units.{is_unit, object_unit, task_unit}
+use Rattle.rv_event.specs.Past.{innermost, restarts}
 use Rattle.rv_event.specs.declared.entry.Body.{Body}
 use Rattle.rv_event.specs.declared.entry.Entry.{Entry}
 use Rattle.rv_event.specs.declared.entry.Entry.TheVariants.{Asked, Load, ListChange}
 use Rattle.rv_event.specs.declared.entry.Request.{Request}
 use Rattle.rv_event.specs.declared.entry.Request.TheVariants.{Call, Complete, Settle, Resume, DelayUntil, Clock, Fire, Quit}
-use Rattle.rv_event.specs.declared.entry.Request.TheVariants.{Tick, Halt, Archive}
+use Rattle.rv_event.specs.declared.entry.Request.TheVariants.{Tick, Halt, Archive, Restart}
 use Rattle.rv_history.specs.History.{History}
 use Rattle.rv_history.specs.Journal.{all_but_last}
-
--- the number of the unit of this name, from 1
-abbrev pub number_of : List Shape → Option (List ℕ) → Option ℕ
-number_of shapes None = None
-number_of shapes (Some unit) = unit_number shapes unit
-
--- the unit of the task that an actor is
-abbrev pub task_unit : List Shape → ℕ → Option ℕ
-task_unit shapes actor = number_of shapes (option_map (λ at. at.unit) (actor_task shapes actor))
-
--- the unit of an object
-abbrev pub object_unit : List Shape → ℕ → Option ℕ
-object_unit shapes object = number_of shapes (option_map (λ at. at.unit) (place shapes object))
 
 -- the unit of a line's handler, if it has one (C.3.1)
 abbrev pub handler_unit : List Shape → Option OperationNumber → Option ℕ
@@ -52,17 +38,16 @@ charged shapes past actor Quit = None
 charged shapes past actor (Tick n) = None
 charged shapes past actor Halt = None
 charged shapes past actor (Archive number) = None
+charged shapes past actor (Restart unit) = None
 
--- it is this unit
-abbrev pub is_unit : ℕ → Option ℕ → Bool
-is_unit number None = false
-is_unit number (Some other) = other == number
-
--- how many of these entries are charged to the unit of a number, each by the units that were loaded before it
+-- how many of these entries are charged to the unit of a number since it was restarted last, each by the units that were
+-- loaded before it
 abbrev pub spent : List Shape → ℕ → List Entry → ℕ
 spent shapes number [] = 0
 spent shapes number (Asked actor request word ∷ past) =
-    if is_unit number (charged shapes past actor request) then suc (spent shapes number past) else spent shapes number past
+    if is_unit number (restarts (Asked actor request word)) then 0
+    else if is_unit number (charged shapes past actor request) then suc (spent shapes number past)
+    else spent shapes number past
 spent shapes number (Load ∷ past) = spent (all_but_last shapes) number past
 spent shapes number (ListChange ∷ past) = spent shapes number past
 

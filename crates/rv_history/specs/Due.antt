@@ -15,7 +15,7 @@ use Rattle.rv_shape.specs.declared.suspension.SuspensionOperation.TheVariants.{S
 use Rattle.rv_event.specs.declared.entry.Entry.TheVariants.{Asked}
 use Rattle.rv_event.specs.declared.entry.Request.{Request}
 use Rattle.rv_event.specs.declared.entry.Request.TheVariants.{Call, Complete, Settle, Resume, DelayUntil, Clock, Fire, Quit}
-use Rattle.rv_event.specs.declared.entry.Request.TheVariants.{Tick, Halt, Archive}
+use Rattle.rv_event.specs.declared.entry.Request.TheVariants.{Tick, Halt, Archive, Restart}
 use Rattle.rv_event.specs.declared.entry.Rule.{Rule}
 use Rattle.rv_event.specs.declared.entry.Rule.TheVariants as Rules
 use Rattle.rv_event.specs.declared.entry.Next.{Next}
@@ -32,6 +32,7 @@ use Rattle.rv_history.specs.Rules.{decided, granted, first_at, is_grant}
 use Rattle.rv_history.specs.Allowance.{may_spend}
 use Rattle.rv_history.specs.Owed.{has_room, is_paid}
 use Rattle.rv_history.specs.Fitting.{fits}
+use Rattle.rv_history.specs.InUse.{in_use}
 
 -- refused by a rule, if there is one, with the line that decides the call, or 0 for another rule than the grant, and the
 -- version of the list; else this answer (own)
@@ -74,7 +75,7 @@ due_call h actor request object Nowhere = Misuse
 due_call h actor request object (OnProtected site) =
     judged h actor request object (OnProtected site) (let_in h object site)
 due_call h actor request object (OnSuspension unit name wanted) =
-    judged h actor request object (OnSuspension unit name wanted) (performed (state object h.past) wanted)
+    judged h actor request object (OnSuspension unit name wanted) (performed (state h.shapes object h.past) wanted)
 
 -- the answer to a fired line, which calls its handler, if it has one
 abbrev pub due_fire : History → ℕ → Option OperationNumber → Answer
@@ -146,7 +147,7 @@ table h actor (Call object operation values) =
     due_call h actor (Call object operation values) object (target h.shapes object operation)
 table h actor (Complete values exit) = due_end h values (innermost h.shapes actor h.past)
 table h actor Settle = due_settle h (to_settle h.shapes actor h.past)
-table h actor Resume = due_resume h actor (stance actor h.past)
+table h actor Resume = due_resume h actor (stance h.shapes actor h.past)
 table h actor (DelayUntil time) =
     judged h actor (DelayUntil time) 0 Nowhere (delayed (int_le time (pos (clock h.past))))
 table h actor Clock = Accepted (pos (clock h.past))
@@ -155,6 +156,7 @@ table h actor Quit = nothing_more
 table h actor (Tick n) = nothing_more
 table h actor Halt = nothing_more
 table h actor (Archive number) = nothing_more
+table h actor (Restart unit) = if in_use h unit then Busy else nothing_more
 
 -- answered on a halted host too: an end, a settle, a resume and a quit, which pay for themselves
 abbrev pub goes_on : Request → Bool

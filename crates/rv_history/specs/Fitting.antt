@@ -6,6 +6,7 @@ use Rattle.rv_shape.specs.Shape.{Shape}
 use Rattle.rv_shape.specs.Kinds.{holds}
 use Rattle.rv_shape.specs.Catalogue.{Who, Operator, Line, Task, who, Target, Nowhere, OnProtected, OnSuspension}
 use Rattle.rv_shape.specs.Catalogue.{target, is_function, goes_in, goes_out}
+use Rattle.rv_shape.specs.Units.{is_loaded}
 use Rattle.rv_event.specs.Past.{archived, held, innermost, mode}
 use Rattle.rv_shape.specs.declared.kind.Range.{Range}
 use Rattle.rv_shape.specs.declared.kind.Parameter.{Parameter}
@@ -14,7 +15,7 @@ use Rattle.rv_shape.specs.declared.kind.Kind.TheVariants.{Function, Procedure, E
 use Rattle.rv_event.specs.declared.entry.Body.{Body}
 use Rattle.rv_event.specs.declared.entry.Request.{Request}
 use Rattle.rv_event.specs.declared.entry.Request.TheVariants.{Call, Complete, Settle, Resume, DelayUntil, Clock, Fire, Quit}
-use Rattle.rv_event.specs.declared.entry.Request.TheVariants.{Tick, Halt, Archive}
+use Rattle.rv_event.specs.declared.entry.Request.TheVariants.{Tick, Halt, Archive, Restart}
 use Rattle.rv_event.specs.declared.entry.Exit.{Exit}
 use Rattle.rv_event.specs.declared.entry.Exit.TheVariants.{Return}
 use Rattle.rv_event.specs.declared.entry.Mode.{Mode}
@@ -154,6 +155,7 @@ fits_actor h actor Quit = idle_task (who h.shapes actor) (mode h.shapes actor h.
 fits_actor h actor (Tick n) = is_operator (who h.shapes actor) && is_tick n
 fits_actor h actor Halt = is_operator (who h.shapes actor)
 fits_actor h actor (Archive number) = is_operator (who h.shapes actor) && is_archive h number
+fits_actor h actor (Restart unit) = is_operator (who h.shapes actor) && is_loaded h.shapes unit
 
 -- the actor is one that there is, and the request fits it
 abbrev pub fits : History → ℕ → Request → Bool

@@ -6,6 +6,7 @@ pub mod Rules
 pub mod Owed
 pub mod Allowance
 pub mod Fitting
+pub mod InUse
 pub mod Due
 pub mod Unbounded
 pub mod Legal

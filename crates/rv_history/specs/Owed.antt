@@ -9,7 +9,7 @@ use Rattle.rv_event.specs.declared.entry.Stance.TheVariants.{WaitsUntil, Gone}
 use Rattle.rv_event.specs.declared.entry.Entry.{Entry}
 use Rattle.rv_event.specs.declared.entry.Request.{Request}
 use Rattle.rv_event.specs.declared.entry.Request.TheVariants.{Call, Complete, Settle, Resume, DelayUntil, Clock, Fire, Quit}
-use Rattle.rv_event.specs.declared.entry.Request.TheVariants.{Tick, Halt, Archive}
+use Rattle.rv_event.specs.declared.entry.Request.TheVariants.{Tick, Halt, Archive, Restart}
 use Rattle.rv_history.specs.History.{History}
 
 -- 2 for a queued call; 2 for a handed one, of which its open start is one; 1 for an actor that is dropped, suspended
@@ -29,8 +29,9 @@ unfinished Gone = 0
 unfinished stance = 1
 
 -- what an actor owes beside its open starts: the tasks are those from 11 on
-abbrev pub dues : List Entry → ℕ → ℕ
-dues past actor = surcharge (stance actor past) + (if nat_lt actor first_task then 0 else unfinished (stance actor past))
+abbrev pub dues : List Shape → List Entry → ℕ → ℕ
+dues shapes past actor =
+    surcharge (stance shapes actor past) + (if nat_lt actor first_task then 0 else unfinished (stance shapes actor past))
 
 -- the sum over all numbers below n
 abbrev pub each : ℕ → (ℕ → ℕ) → ℕ
@@ -49,7 +50,7 @@ halt_due false = 1
 -- all that is owed: open starts, unsettled objects, what actors owe beside them, and the halt
 abbrev pub owed : List Shape → List Entry → ℕ
 owed shapes past =
-    length (under_way shapes past) + length (unsettled shapes past) + each (actors shapes) (dues past)
+    length (under_way shapes past) + length (unsettled shapes past) + each (actors shapes) (dues shapes past)
     + halt_due (halted past)
 
 -- the room for the entries, with what is then owed; that of the first entries that were given up is free again
@@ -77,3 +78,4 @@ is_paid Quit = true
 is_paid (Tick n) = false
 is_paid Halt = true
 is_paid (Archive number) = true
+is_paid (Restart unit) = false

@@ -1,34 +1,22 @@
--- The numbers of the units that requests are charged to.
-use Rattle.std.proofs.Common.{◌≡◌, ◌∙◌, ℕ, zero, suc, ◌+◌, ◌-◌, ◌<◌, ◌≤◌, List, [], ◌∷◌, length, map, Option, Some, None, Bool, true, false, arith, ap, sym, refl}
+-- The numbers of the units that requests are charged to, and whether they may be spent.
+use Rattle.std.proofs.Common.{◌≡◌, ◌∙◌, ℕ, zero, suc, ◌-◌, ◌<◌, ◌≤◌, List, [], ◌∷◌, length, Option, Some, None, Bool, true, false, arith, ap, sym}
 use Rattle.std.specs.Prelude.{nat_le, nat_lt, not, if◌then◌else◌, slice_get, IfSome}
 use Rattle.std.specs.Option.{option_map, unwrap_or}
 use Rattle.std.proofs.lemmas.Bool.Decides.{nat_tests}
-use Rattle.std.proofs.lemmas.Option.{slice_get-map}
 use Rattle.rv_event.specs.declared.entry.Request.{Request}
-use Rattle.rv_history.specs.Allowance.{charged, is_spent, may_spend, number_of, object_unit, spent, task_unit, uses_up}
+use Rattle.rv_history.specs.Allowance.{charged, is_spent, may_spend, spent, uses_up}
 use Rattle.rv_history.specs.History.{History}
 use Rattle.rv_history.proofs.Spending.{free_of_any}
 use Rattle.rv_shape.specs.Catalogue.{UnitObject, UnitTask, numbered, place}
-use Rattle.rv_shape.specs.Found.{AreDistinct}
-use Rattle.rv_shape.specs.Names.{unit_name, unit_number}
+use Rattle.rv_shape.specs.Names.{unit_name}
 use Rattle.rv_shape.specs.Readers.{actor_task, unit_named}
 use Rattle.rv_shape.specs.Shape.{Shape}
-use Rattle.rv_shape.proofs.FoundByName.{first_number}
 
 named_next : (shapes : List Shape) (n : ℕ) → numbered shapes (suc n) ≡ slice_get shapes n
 named_next shapes n =
     let some : nat_lt (suc n) 1 ≡ false = grind (arith, nat_tests) in
     let before : suc n - 1 ≡ n = omega arith in
     λ i. if some i then None else slice_get shapes (before i)
-
--- a unit of a number is found by its name
-numbered_so : (shapes : List Shape) (n : ℕ) (name : List ℕ) → AreDistinct shapes → unit_named shapes n ≡ Some name → Some n ≡ unit_number shapes name
-numbered_so shapes zero name d e = absurd (cc)
-numbered_so shapes (suc n) name d e =
-    let at : slice_get (map unit_name shapes) n ≡ Some name =
-    slice_get-map unit_name shapes n ∙ ap (option_map unit_name) (sym (named_next shapes n)) ∙ e in
-    let next : 1 + n ≡ suc n = omega arith in
-    ap (λ (m : ℕ). Some m) (sym next) ∙ sym (first_number (map unit_name shapes) 1 n name d.units at)
 
 within : (shapes : List Shape) (n : ℕ) (name : List ℕ) → option_map unit_name (slice_get shapes n) ≡ Some name → n < length shapes
 within [] n name e = absurd (cc)
@@ -44,13 +32,6 @@ few_so shapes (suc n) name few e =
 injected : (x y : Option (List ℕ)) → (let a : Option (Option (List ℕ)) = Some x in a ≡ Some y) → x ≡ y
 injected x y e = ap (λ (o : Option (Option (List ℕ))). unwrap_or o x) e
 
-charged_so : {X : Type 0} (shapes : List Shape) (unit : X → List ℕ) (at : Option X) (n : Option ℕ) → AreDistinct shapes
-    → option_map (unit_named shapes) n ≡ option_map (λ x. Some (unit x)) at → n ≡ number_of shapes (option_map unit at)
-charged_so shapes unit None None d e = refl
-charged_so shapes unit None (Some n) d e = absurd (cc)
-charged_so shapes unit (Some x) None d e = absurd (cc)
-charged_so shapes unit (Some x) (Some n) d e = numbered_so shapes n (unit x) d (injected (unit_named shapes n) (Some (unit x)) e)
-
 placed_so : {X : Type 0} (shapes : List Shape) (unit : X → List ℕ) (at : Option X) (n : Option ℕ) → length shapes ≤ 64
     → option_map (unit_named shapes) n ≡ option_map (λ x. Some (unit x)) at → IfSome n (λ m. m < 65)
 placed_so shapes unit None None few e = tt
@@ -58,17 +39,9 @@ placed_so shapes unit (Some x) None few e = tt
 placed_so shapes unit None (Some n) few e = absurd (cc)
 placed_so shapes unit (Some x) (Some n) few e = few_so shapes n (unit x) few (injected (unit_named shapes n) (Some (unit x)) e)
 
-pub task_charged : (shapes : List Shape) (actor : ℕ) (n : Option ℕ) → AreDistinct shapes
-    → option_map (unit_named shapes) n ≡ option_map (λ (t : UnitTask). Some t.unit) (actor_task shapes actor) → n ≡ task_unit shapes actor
-task_charged shapes actor n d e = charged_so shapes (λ (t : UnitTask). t.unit) (actor_task shapes actor) n d e
-
 pub task_placed : (shapes : List Shape) (actor : ℕ) (n : Option ℕ) → length shapes ≤ 64
     → option_map (unit_named shapes) n ≡ option_map (λ (t : UnitTask). Some t.unit) (actor_task shapes actor) → IfSome n (λ m. m < 65)
 task_placed shapes actor n few e = placed_so shapes (λ (t : UnitTask). t.unit) (actor_task shapes actor) n few e
-
-pub object_charged : (shapes : List Shape) (object : ℕ) (n : Option ℕ) → AreDistinct shapes
-    → option_map (unit_named shapes) n ≡ option_map (λ (o : UnitObject). Some o.unit) (place shapes object) → n ≡ object_unit shapes object
-object_charged shapes object n d e = charged_so shapes (λ (o : UnitObject). o.unit) (place shapes object) n d e
 
 pub object_placed : (shapes : List Shape) (object : ℕ) (n : Option ℕ) → length shapes ≤ 64
     → option_map (unit_named shapes) n ≡ option_map (λ (o : UnitObject). Some o.unit) (place shapes object) → IfSome n (λ m. m < 65)

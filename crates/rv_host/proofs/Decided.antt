@@ -4,7 +4,7 @@ use Rattle.std.specs.Prelude.{ℤ}
 use Rattle.rv_event.specs.declared.entry.Entry.TheVariants.{Asked}
 use Rattle.rv_event.specs.declared.entry.Recorded.{Recorded}
 use Rattle.rv_event.specs.declared.entry.Request.{Request}
-use Rattle.rv_event.specs.declared.entry.Request.TheVariants.{Call, Complete, Settle, Resume, DelayUntil, Clock, Fire, Quit, Tick, Halt, Archive}
+use Rattle.rv_event.specs.declared.entry.Request.TheVariants.{Call, Complete, Settle, Resume, DelayUntil, Clock, Fire, Quit, Tick, Halt, Archive, Restart}
 use Rattle.rv_history.specs.History.{History}
 use Rattle.rv_host.specs.Decisions.{answer_with, or_none, scalars_for}
 use Rattle.rv_host.specs.declared.decision.Decision.{Decision}
@@ -23,6 +23,7 @@ scalars_stay h actor Quit word = refl
 scalars_stay h actor (Tick ticks) word = refl
 scalars_stay h actor Halt word = refl
 scalars_stay h actor (Archive number) word = refl
+scalars_stay h actor (Restart unit) word = refl
 
 -- an answer with no scalars is that with the empty ones
 pub same_answer : (given : Option (List ℤ)) (decision : Decision) → answer_with (Some (or_none given)) decision ≡ answer_with given decision

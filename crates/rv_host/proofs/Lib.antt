@@ -14,3 +14,4 @@ pub mod Paid
 pub mod Paging
 pub mod Tabled
 pub mod Charging
+pub mod Used

@@ -6,3 +6,4 @@ pub mod Decisions
 pub mod Pages
 pub mod Going
 pub mod Forgetting
+pub mod InUse

@@ -22,5 +22,5 @@ pub record IsSeen (seen : Seen) : Type 0 where
   pub lasting : length seen.journal.now.past < 10 ^ 12
   pub timely : clock seen.journal.now.past < 2 ^ 63
   pub is_present : IsPresent seen.catalogue.now seen.journal.now.past seen.present.now
-  pub is_waiting : IsWaiting seen.journal.now.past seen.waiting.now
+  pub is_waiting : IsWaiting seen.catalogue.now seen.journal.now.past seen.waiting.now
   pub tabled : IsTable (last_list seen.lists.now) seen.catalogue.now seen.table.now

@@ -13,23 +13,23 @@ use rv_event::entry::Request;
 use rv_shape::catalogue::Catalogue;
 
 // The unit of the task that an actor is.
-#[tactic(auto, using(crate::proofs::Charging::task_charged, crate::proofs::Charging::task_placed))]
+#[tactic(auto, using(crate::proofs::Charging::task_placed))]
 fn task_unit(catalogue: &Catalogue, actor: usize) -> Option<usize>
     ensures unit { result ≡ allowance.task_unit catalogue.now actor }
     ensures placed { IfSome result (λ unit. unit < most_places) }
 {
-    // The names of the units differ.
+    // There are so few units.
     let _ = catalogue.shapes();
     catalogue.unit_of_task(actor)
 }
 
 // The unit of an object.
-#[tactic(auto, using(crate::proofs::Charging::object_charged, crate::proofs::Charging::object_placed))]
+#[tactic(auto, using(crate::proofs::Charging::object_placed))]
 fn object_unit(catalogue: &Catalogue, object: usize) -> Option<usize>
     ensures unit { result ≡ allowance.object_unit catalogue.now object }
     ensures placed { IfSome result (λ unit. unit < most_places) }
 {
-    // The names of the units differ.
+    // There are so few units.
     let _ = catalogue.shapes();
     catalogue.unit_of_object(object)
 }
@@ -69,6 +69,7 @@ pub fn charged(seen: &Seen, actor: usize, request: &Request) -> Option<usize>
         }
         Request::Fire => handler_unit(seen.catalogue, actor.saturating_sub(1)),
         Request::Complete(_, _) | Request::Settle | Request::Resume | Request::Quit => None,
-        Request::Tick(_) | Request::Halt | Request::Archive(_) => None,
+        Request::Tick(_) | Request::Halt => None,
+        Request::Archive(_) | Request::Restart(_) => None,
     }
 }

@@ -2,6 +2,7 @@
 
 pub mod calls;
 pub mod ends;
+pub mod restarts;
 pub mod waits;
 
 ghost use Rattle.std.specs.Prelude.{◌≡◌, ◌-◌, true};
@@ -14,6 +15,7 @@ ghost use Rattle.rv_shape.specs.Catalogue as catalogues;
 use crate::decision::Decision;
 use crate::due::calls::{due_call, due_fire};
 use crate::due::ends::{due_end, due_settle};
+use crate::due::restarts::due_restart;
 use crate::due::waits::{delay_facts, is_halted, resume_facts, time};
 use crate::rules::exclusion::scalars_of;
 use crate::rules::fitting::{innermost, is_fitting, to_settle};
@@ -40,6 +42,7 @@ fn decide_fitting(seen: &Seen, actor: usize, request: &Request) -> Decision
         Request::Tick(_) => Decision::Accepted(0),
         Request::Halt => Decision::Accepted(0),
         Request::Archive(_) => Decision::Accepted(0),
+        Request::Restart(unit) => due_restart(seen, *unit),
     }
 }
 
@@ -53,7 +56,8 @@ fn goes_on(request: &Request) -> bool
         Request::Resume => true,
         Request::Quit => true,
         Request::Call(_, _, _) | Request::DelayUntil(_) | Request::Clock => false,
-        Request::Fire | Request::Tick(_) | Request::Halt | Request::Archive(_) => false,
+        Request::Fire | Request::Tick(_) | Request::Halt => false,
+        Request::Archive(_) | Request::Restart(_) => false,
     }
 }
 

@@ -5,7 +5,7 @@ use Rattle.rv_event.specs.declared.entry.Answer.{Answer}
 use Rattle.rv_event.specs.declared.entry.Answer.TheVariants.{OutOfMemory}
 use Rattle.rv_event.specs.declared.entry.Request.{Request}
 use Rattle.rv_go.specs.Goes.{asks}
-use Rattle.rv_go.specs.Texts.{TextsView, texts_view, hears}
+use Rattle.rv_go.specs.Texts.{TextsView, texts_view, behind}
 use Rattle.rv_history.specs.Due.{out}
 use Rattle.rv_history.specs.History.{History}
 use Rattle.rv_history.specs.Legal.{after}
@@ -21,7 +21,7 @@ same_before actor None old mid new answer h t (same, is) = (both_same old mid ne
 same_before actor (Some request) old mid new answer h t (inl a) = inl (record {
   due = a.due ∙ ap (λ (x : History). out x actor request) h;
   history = a.history ∙ ap (λ (x : History). after x actor request answer) h;
-  texts = a.texts ∙ ap (λ (x : TextsView). hears x actor true request answer) t;
+  texts = a.texts ∙ (λ i. behind (h i).shapes (t i) actor true request answer);
 })
 same_before actor (Some request) old mid new answer h t (inr (same, is)) = inr (both_same old mid new h t same, is)
 

@@ -7,10 +7,10 @@ use Rattle.rv_event.specs.Recorded.{recorded}
 use Rattle.rv_event.specs.declared.entry.Answer.{Answer}
 use Rattle.rv_event.specs.declared.entry.Answer.TheVariants.{Misuse, OutOfMemory}
 use Rattle.rv_event.specs.declared.entry.Request.{Request}
-use Rattle.rv_event.specs.declared.entry.Request.TheVariants.{Fire}
+use Rattle.rv_event.specs.declared.entry.Request.TheVariants.{Fire, Restart}
 use Rattle.rv_exec.specs.Bodies.{operation_of}
 use Rattle.rv_go.specs.Goes.{asks}
-use Rattle.rv_go.specs.Texts.{TextsView, texts_view, with_bodies, hears}
+use Rattle.rv_go.specs.Texts.{TextsView, texts_view, with_bodies, behind}
 use Rattle.rv_history.specs.Due.{out}
 use Rattle.rv_history.specs.Legal.{after, out_load, after_load}
 use Rattle.rv_kept.specs.declared.kept.Kept.{Kept}
@@ -35,11 +35,12 @@ pub record Loads (shape : Shape) (bodies : UnitBodies) (old new : Kept) (answer 
   pub history : new.host ≡ after_load old.host shape answer
   pub texts : texts_view new.texts ≡ brought (is_some (recorded answer)) bodies (texts_view old.texts)
 
--- a request of an actor is answered as is due, and the actor's text hears the answer; goes says whether the text asked
+-- a request of an actor is answered as is due, and the actor's text hears the answer; goes says whether the text asked. Where a unit
+-- is restarted the texts of its tasks begin anew.
 pub record Answered (actor : ℕ) (goes : Bool) (request : Request) (old new : Kept) (answer : Answer) : Type 0 where
   pub due : answer ≡ out old.host actor request
   pub history : new.host ≡ after old.host actor request answer
-  pub texts : texts_view new.texts ≡ hears (texts_view old.texts) actor goes request answer
+  pub texts : texts_view new.texts ≡ behind old.host.shapes (texts_view old.texts) actor goes request answer
 
 -- the same, unless memory is wanting
 abbrev pub Asks : ℕ → Bool → Request → Kept → Kept → Answer → Type 0
@@ -67,6 +68,10 @@ pub record Stepped (actor : ℕ) (request : Request) (old new : Kept) (answer : 
   pub due : answer ≡ out old.host actor request
   pub history : new.host ≡ after old.host actor request answer
   pub texts : texts_view new.texts ≡ texts_view old.texts
+
+-- a unit is restarted by the operator, or memory is wanting
+abbrev pub Restarts : ℕ → Kept → Kept → Answer → Type 0
+Restarts unit old new answer = Asks 0 false (Restart unit) old new answer
 
 -- the interrupt of a line, by whose answer the text of its handler begins, if it has one (C.3)
 abbrev pub FiresBy : Bool → ℕ → Kept → Kept → Answer → Type 0

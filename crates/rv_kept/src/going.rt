@@ -4,7 +4,7 @@ ghost use Rattle.std.specs.Prelude.{◌≡◌, ◌+◌};
 ghost use Rattle.rv_event.specs.declared.entry.Request.TheVariants.{Fire};
 ghost use Rattle.rv_go.specs.Goes.{asks};
 ghost use Rattle.rv_go.specs.Texts.{texts_view};
-ghost use Rattle.rv_kept.specs.Keeping.{Asks, AsksNext, Fires, Goes, has_text};
+ghost use Rattle.rv_kept.specs.Keeping.{Asks, AsksNext, Fires, Goes, Restarts, has_text};
 
 use crate::kept::Kept;
 use rv_event::entry::{Answer, Request};
@@ -16,7 +16,11 @@ impl Kept {
         ensures { Asks actor goes request.now self.old self.new result }
     {
         let answer = self.host.due(actor, request);
-        let Ok(()) = self.texts.hear(alloc, actor, goes, request, &answer) else {
+        let catalogue = self.host.catalogue();
+        let Ok(()) = self
+            .texts
+            .hear(alloc, catalogue, actor, goes, request, &answer)
+        else {
             return Answer::OutOfMemory;
         };
         self.host.step(actor, *request)
@@ -42,6 +46,14 @@ impl Kept {
             return Answer::OutOfMemory;
         };
         self.ask_next(alloc, actor, request)
+    }
+
+    /// Restarts a unit, by its number, from 1: the operator asks it. Where it is accepted the texts of the unit's tasks begin anew.
+    /// OutOfMemory where memory is refused; then nothing is changed.
+    pub fn restart(&mut self, alloc: Global, unit: usize) -> Answer
+        ensures { Restarts unit self.old self.new result }
+    {
+        self.ask(alloc, 0, false, &Request::Restart(unit))
     }
 
     // Whether the handler of a line has a text.

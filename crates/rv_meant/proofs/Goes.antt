@@ -136,10 +136,10 @@ may_break h a o p vs unit name wanted Rules.Queue e = absurd (cc e)
 
 -- a call goes on by each answer that its operation may get
 operation_goes : (c : Callee) (h : History) (a o p : ℕ) (unit name : List ℕ) (wanted : SuspensionOperation) → ((rule : Rule) (line : ℕ) → MayBreak wanted rule → goes c (Answers.Refused rule line (version h)) ≡ true)
-    → goes c (performed (state o h.past) wanted) ≡ true → goes c (due_call h a (Call o p []) o (OnSuspension unit name wanted)) ≡ true
+    → goes c (performed (state h.shapes o h.past) wanted) ≡ true → goes c (due_call h a (Call o p []) o (OnSuspension unit name wanted)) ≡ true
 operation_goes c h a o p unit name wanted refused goes_by =
     let q : Request = Call o p [] in let called : Target = OnSuspension unit name wanted in
-    each_refused (λ r. goes c r ≡ true) (version h) (decided h (subject h a) called) (first_at h a q o called) (performed (state o h.past) wanted)
+    each_refused (λ r. goes c r ≡ true) (version h) (decided h (subject h a) called) (first_at h a q o called) (performed (state h.shapes o h.past) wanted)
     (λ rule line found. refused rule line (may_break h a o p [] unit name wanted rule (is_found (λ rule. breaks h rule a q o called) rules rule found)))
     (λ none. goes_by)
 
@@ -187,7 +187,7 @@ current_refused o rule line number e = absurd e
 current_goes : (h : History) (a o : ℕ) (unit : List ℕ) (object : Object) → suspends object ≡ true → goes (callee.CurrentState o) (due_call h a (Call o 3 []) o (at_object 3 unit object)) ≡ true
 current_goes h a o unit (Protected object) e = absurd (cc e)
 current_goes h a o unit (Suspension object) e =
-    operation_goes (callee.CurrentState o) h a o 3 unit object.name operation.CurrentState (λ rule line may. current_refused o rule line (version h) may) (state_goes o (state o h.past))
+    operation_goes (callee.CurrentState o) h a o 3 unit object.name operation.CurrentState (λ rule line may. current_refused o rule line (version h) may) (state_goes o (state h.shapes o h.past))
 
 suspend_refused : (o : ℕ) (rule : Rule) (line number : ℕ) → MayBreak operation.SuspendUntilTrue rule → goes (callee.SuspendUntilTrue o) (Answers.Refused rule line number) ≡ true
 suspend_refused o Rules.Grant line number e = refl
@@ -198,7 +198,7 @@ suspend_refused o rule line number e = absurd e
 suspend_goes : (h : History) (a o : ℕ) (unit : List ℕ) (object : Object) → suspends object ≡ true → goes (callee.SuspendUntilTrue o) (due_call h a (Call o 4 []) o (at_object 4 unit object)) ≡ true
 suspend_goes h a o unit (Protected object) e = absurd (cc e)
 suspend_goes h a o unit (Suspension object) e =
-    operation_goes (callee.SuspendUntilTrue o) h a o 4 unit object.name operation.SuspendUntilTrue (λ rule line may. suspend_refused o rule line (version h) may) (suspended_goes o (state o h.past))
+    operation_goes (callee.SuspendUntilTrue o) h a o 4 unit object.name operation.SuspendUntilTrue (λ rule line may. suspend_refused o rule line (version h) may) (suspended_goes o (state h.shapes o h.past))
 
 -- a delay violates the rule of blocking, or none
 delay_refused : (h : History) (a : ℕ) (time : ℤ) (rule : Rule) (line : ℕ) → breaks h rule a (DelayUntil time) 0 Nowhere ≡ true → goes callee.DelayUntil (Answers.Refused rule line (version h)) ≡ true
@@ -262,4 +262,4 @@ resume_wakes h a c s e = absurd (cc e)
 pub resumes_go_on : ResumesGoOn
 resumes_go_on h a c e f g =
     last_of (stands (out h a Resume)) (is_final (out h a Resume)) (is_stopped (resumed c (out h a Resume)))
-    (out_goes (wakes c) refl refl refl h a Resume (resume_wakes h a c (stance a h.past) e)) f g
+    (out_goes (wakes c) refl refl refl h a Resume (resume_wakes h a c (stance h.shapes a h.past) e)) f g

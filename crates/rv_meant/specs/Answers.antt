@@ -47,5 +47,5 @@ CallsGoOn =
 -- and each to the resume of an actor that waits by such a request
 abbrev pub ResumesGoOn : Type 0
 ResumesGoOn =
-    (h : History) (actor : ℕ) (c : Callee) → waits_by c (stance actor h.past) ≡ true
+    (h : History) (actor : ℕ) (c : Callee) → waits_by c (stance h.shapes actor h.past) ≡ true
     → GoesOn (out h actor Resume) (is_stopped (resumed c (out h actor Resume)))

@@ -18,4 +18,4 @@ handed_one stance = 0
 abbrev pub AsksCountTheHeld : Type 0
 AsksCountTheHeld =
     (h : History) (actor : ℕ) → Legal h → 0 < actor
-    → length (held h.shapes actor h.past) ≡ held_behind 0 (asks_of actor h) + handed_one (stance actor h.past)
+    → length (held h.shapes actor h.past) ≡ held_behind 0 (asks_of actor h) + handed_one (stance h.shapes actor h.past)

@@ -7,10 +7,11 @@ use Rattle.rv_event.specs.Past.{archived, held, innermost, mode}
 use Rattle.rv_event.specs.declared.entry.Mode.{Mode}
 use Rattle.rv_event.specs.declared.entry.Mode.TheVariants as Modes
 use Rattle.rv_event.specs.declared.entry.Request.{Request}
-use Rattle.rv_event.specs.declared.entry.Request.TheVariants.{Call, Complete, Settle, Resume, DelayUntil, Clock, Fire, Quit, Tick, Halt, Archive}
+use Rattle.rv_event.specs.declared.entry.Request.TheVariants.{Call, Complete, Settle, Resume, DelayUntil, Clock, Fire, Quit, Tick, Halt, Archive, Restart}
 use Rattle.rv_history.specs.Fitting.{awaits, call_fits, end_fits, fits_actor, idle_line, idle_task, in_body, is_archive, is_operator, is_settling, is_time, may_call, most_entries}
 use Rattle.rv_history.specs.History.{History}
 use Rattle.rv_shape.specs.Catalogue.{Who, Operator, Line, Task, Nobody, target, who}
+use Rattle.rv_shape.specs.Units.{is_loaded}
 use Rattle.rv_misfit.specs.Misfits.{finishes, fires, has_bodies, may_ask}
 
 -- who is in bodies at no time is idle
@@ -64,3 +65,4 @@ never_asked h a Quit aside e = no_finishes (who h.shapes a) (mode h.shapes a h.p
 never_asked h a (Tick n) aside e = e
 never_asked h a Halt aside e = e
 never_asked h a (Archive n) aside e = no_archive h a n (and_cases (is_operator (who h.shapes a)) (nat_le 1 n) e)
+never_asked h a (Restart u) aside e = and_left (is_operator (who h.shapes a)) (is_loaded h.shapes u) e

@@ -1,29 +1,17 @@
 -- On a legal history the operator is idle: it holds nothing, has nothing to settle, and waits for nothing.
-use Rattle.std.proofs.Common.{◌≡◌, ℕ, Bool, true, false, List, [], ◌∷◌, None, refl, ap, sym, ◌∙◌, cond}
-use Rattle.std.specs.Prelude.{length, ◌==◌, slice_get}
+use Rattle.std.proofs.Common.{◌≡◌, List, [], ◌∷◌, None, refl, ap, ◌∙◌, cond}
+use Rattle.std.specs.Prelude.{◌==◌, slice_get}
 use Rattle.std.specs.List.{filter}
-use Rattle.std.proofs.lemmas.Bool.{and_parts, false≢true}
-use Rattle.rv_access.specs.Words.{Words}
-use Rattle.rv_event.specs.Past.{held, mode, mode_by, names, or_else, or_settling, stance, stance_of, to_settle, under_way, unsettled}
+use Rattle.rv_event.specs.Past.{held, mode, mode_by, or_settling, stance, to_settle, under_way, unsettled}
 use Rattle.rv_event.specs.declared.entry.Body.{Body}
 use Rattle.rv_event.specs.declared.entry.Entry.{Entry}
-use Rattle.rv_event.specs.declared.entry.Entry.TheVariants.{Asked, Load, ListChange}
 use Rattle.rv_event.specs.declared.entry.Mode.TheVariants as Modes
-use Rattle.rv_event.specs.declared.entry.Recorded.{Recorded}
-use Rattle.rv_event.specs.declared.entry.Request.{Request}
-use Rattle.rv_event.specs.declared.entry.Request.TheVariants.{Call, Complete, Settle, Resume, DelayUntil, Clock, Fire, Quit, Tick, Halt, Archive}
 use Rattle.rv_event.specs.declared.entry.Stance.TheVariants.{Free}
-use Rattle.rv_history.specs.Fitting.{call_fits, fits_actor, idle_task, is_time, may_call}
 use Rattle.rv_history.specs.History.{History}
-use Rattle.rv_history.specs.Legal.{IsLegal, Legal}
+use Rattle.rv_history.specs.Legal.{Legal}
 use Rattle.rv_history.specs.Orderly.{Each}
-use Rattle.rv_history.specs.declared.limits.Limits.{Limits}
-use Rattle.rv_history.proofs.Answered.{answered}
 use Rattle.rv_history.proofs.Callers.{IsManned, Manned, legal_manned}
-use Rattle.rv_history.proofs.Frame.{apart_of, own_said, unsaid}
-use Rattle.rv_history.proofs.Silent.{is_queued, unnamed}
-use Rattle.rv_history.proofs.Stances.{same_number}
-use Rattle.rv_shape.specs.Catalogue.{Operator, target, who}
+use Rattle.rv_history.proofs.Resting.{legal_free}
 use Rattle.rv_shape.specs.Shape.{Shape}
 
 none_of : (bodies : List Body) → Each IsManned bodies → filter (λ body. body.actor == 0) bodies ≡ []
@@ -31,47 +19,11 @@ none_of [] others = refl
 none_of (body ∷ bodies) others =
     ap (λ t. cond t (body ∷ filter (λ b. b.actor == 0) bodies) (filter (λ b. b.actor == 0) bodies)) others.0 ∙ none_of bodies others.1
 
-idle_where : (shapes : List Shape) (past : List Entry) → Manned shapes past → stance 0 past ≡ Free → mode shapes 0 past ≡ Modes.Idle
+idle_where : (shapes : List Shape) (past : List Entry) → Manned shapes past → stance shapes 0 past ≡ Free → mode shapes 0 past ≡ Modes.Idle
 idle_where shapes past manned free =
     let nothing : held shapes 0 past ≡ [] = none_of (under_way shapes past) manned.bodies in
     let settled : to_settle shapes 0 past ≡ None = ap (λ bodies. slice_get bodies 0) (none_of (unsettled shapes past) manned.left) in
     λ i. or_settling (settled i) (mode_by (nothing i) (free i))
-
--- what fits the operator leaves it waiting for nothing
-own_free : (h : History) (a : ℕ) (r : Request) (w : Recorded) → who h.shapes a ≡ Operator → fits_actor h a r ≡ true → stance_of (Asked a r w) ≡ Free
-own_free h a (Call o p vs) w is f =
-    absurd (false≢true (sym (ap (λ q. may_call q (mode h.shapes a h.past)) is)
-    ∙ (and_parts (may_call (who h.shapes a) (mode h.shapes a h.past)) (call_fits (length (held h.shapes a h.past)) vs (target h.shapes o p)) f).0))
-own_free h a (DelayUntil t) w is f =
-    absurd (false≢true (sym (ap (λ q. may_call q (mode h.shapes a h.past)) is) ∙ (and_parts (may_call (who h.shapes a) (mode h.shapes a h.past)) (is_time t) f).0))
-own_free h a Quit w is f = absurd (false≢true (sym (ap (λ q. idle_task q (mode h.shapes a h.past)) is) ∙ f))
-own_free h a (Complete vs x) w is f = refl
-own_free h a Settle w is f = refl
-own_free h a Resume w is f = refl
-own_free h a Clock w is f = refl
-own_free h a Fire w is f = refl
-own_free h a (Tick n) w is f = refl
-own_free h a Halt w is f = refl
-own_free h a (Archive n) w is f = refl
-
-legal_free : (c : Limits) (past : List Entry) (shapes : List Shape) (lists : List (List Words)) → IsLegal c past shapes lists → stance 0 past ≡ Free
-legal_free c [] shapes lists l = refl
-legal_free c (Asked a r w ∷ past) shapes lists l = by_test (a == 0) (legal_free c past shapes lists l.0) refl
-  where
-    h : History
-    h = record { limits = c; past = past; shapes = shapes; lists = lists }
-
-    unsaid_of : stance 0 past ≡ Free → names 0 (Asked a r w) ≡ false
-    unsaid_of before = unnamed h a r w 0 l.0 l.1 (ap is_queued before)
-
-    by_test : (b : Bool) → stance 0 past ≡ Free → (a == 0) ≡ b → stance 0 (Asked a r w ∷ past) ≡ Free
-    by_test true before own =
-        let is : who shapes a ≡ Operator = ap (who shapes) (same_number a 0 own) in
-        let left : stance_of (Asked a r w) ≡ Free = own_free h a r w is (answered h a r w l.1).fits_in in
-        ap (λ s. or_else s (stance 0 past)) (own_said 0 (Asked a r w) (unsaid_of before) own) ∙ left
-    by_test false before other = ap (λ s. or_else s (stance 0 past)) (unsaid 0 (Asked a r w) (apart_of 0 (Asked a r w) other (unsaid_of before))) ∙ before
-legal_free c (Load ∷ past) shapes lists l = legal_free c past l.0 lists l.3
-legal_free c (ListChange ∷ past) shapes lists l = legal_free c past shapes l.0 l.3
 
 pub legal_idle : (h : History) → Legal h → mode h.shapes 0 h.past ≡ Modes.Idle
 legal_idle h l = idle_where h.shapes h.past (legal_manned h.limits h.past h.shapes h.lists l) (legal_free h.limits h.past h.shapes h.lists l)

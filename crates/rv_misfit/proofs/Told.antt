@@ -1,5 +1,5 @@
 -- Where it is told that a request of a step never fits, it fits its actor on no history over these units.
-use Rattle.std.proofs.Common.{◌≡◌, ℕ, ◌+◌, Bool, true, false, List, [], ◌∷◌, ℤ, Some, refl, ap, sym, ◌∙◌}
+use Rattle.std.proofs.Common.{◌≡◌, ℕ, ◌+◌, Bool, true, false, List, [], ◌∷◌, ℤ, Some, None, refl, ap, sym, ◌∙◌}
 use Rattle.std.specs.Prelude.{length, nat_lt, not, ◌-◌, ◌&&◌, if◌then◌else◌}
 use Rattle.std.proofs.lemmas.Bool.{and_left, and_right, false≢true}
 use Rattle.rv_event.specs.Past.{halted, held, mode}
@@ -9,24 +9,25 @@ use Rattle.rv_event.specs.declared.entry.Request.{Request}
 use Rattle.rv_event.specs.declared.entry.Request.TheVariants as Requests
 use Rattle.rv_history.specs.Due.{gate, goes_on, out, table, within, enough}
 use Rattle.rv_event.specs.Recorded.{recorded}
-use Rattle.rv_history.specs.Fitting.{all_fit, call_fits, fits, fits_actor, held_limit, may_call, no_values, ranges_in}
+use Rattle.rv_history.specs.Fitting.{all_fit, call_fits, fits, fits_actor, held_limit, is_operator, may_call, no_values, ranges_in}
 use Rattle.rv_history.specs.History.{History}
 use Rattle.rv_history.specs.Legal.{Legal}
 use Rattle.rv_history.specs.Owed.{actors}
 use Rattle.rv_shape.specs.Catalogue as shapes
 use Rattle.rv_shape.specs.Catalogue.{Target, Nowhere, OnProtected, OnSuspension, UnitTask, Who, target, who}
+use Rattle.rv_shape.specs.Names.{unit_number}
 use Rattle.rv_shape.specs.Shape.{Shape}
 use Rattle.rv_step.specs.Lookup.{actor_of, callee_of, full_name, request_of}
 use Rattle.rv_step.specs.Names.{DottedWord}
 use Rattle.rv_step.specs.StepText.{StepWords}
 use Rattle.rv_step.specs.declared.step.Asked.{Asked}
-use Rattle.rv_step.specs.declared.step.Asked.TheVariants.{Call, Plain, Go, Change as Changes}
+use Rattle.rv_step.specs.declared.step.Asked.TheVariants.{Call, Restart, Plain, Go, Change as Changes}
 use Rattle.rv_step.specs.declared.step.Asker.{Asker}
 use Rattle.rv_step.specs.declared.step.Asker.TheVariants.{Operator, Line, Task}
 use Rattle.rv_misfit.specs.Asked.{IsAsked, IsNumbered}
 use Rattle.rv_misfit.specs.Misfits.{asked_misfit, has_bodies, may_ask, misfit_of, named_misfit, ranges_at, reason, sort_of}
 use Rattle.rv_misfit.specs.declared.misfit.Misfit.{Misfit}
-use Rattle.rv_misfit.specs.declared.misfit.Misfit.TheVariants.{NotOperator}
+use Rattle.rv_misfit.specs.declared.misfit.Misfit.TheVariants.{NotOperator, OperatorAlone}
 use Rattle.rv_misfit.proofs.Asking.{IsAside, never_asked}
 use Rattle.rv_misfit.proofs.Named.{line_there, task_there}
 use Rattle.rv_misfit.proofs.Operator.{legal_idle}
@@ -90,6 +91,17 @@ no_call w ss o p vs r none e =
     let found = bind (callee_of ss o p) (λ f. Some (Requests.Call f.0 f.1 vs)) r e in
     ap (may_ask w) (sym (same (Requests.Call found.0.0 found.0.1 vs) r found.2)) ∙ none
 
+-- who is in bodies at some time isn't the operator
+no_operator : (w : Who) → has_bodies w ≡ true → is_operator w ≡ false
+no_operator Operator e = absurd (false≢true e)
+no_operator (Line line) e = refl
+no_operator (Task task) e = refl
+no_operator Nobody e = refl
+
+told_alone : (b : Bool) (misfit : Misfit) → (if b then Some OperatorAlone else None) ≡ Some misfit → b ≡ true
+told_alone true misfit e = refl
+told_alone false misfit e = never misfit e
+
 by_asked : (h : History) (lines actor : ℕ) (asker : Asker) (asked : Asked) (r : Request) (misfit : Misfit) → IsAside h actor → IsLike asker (who h.shapes actor) → request_of h.shapes asked ≡ Some r
     → asked_misfit h.shapes lines asker asked ≡ Some misfit → fits_actor h actor r ≡ false
 by_asked h lines actor asker (Call o p vs) r misfit apart like is e = by_test (has_bodies (sort_of asker)) refl e
@@ -97,6 +109,11 @@ by_asked h lines actor asker (Call o p vs) r misfit apart like is e = by_test (h
     by_test : (b : Bool) → has_bodies (sort_of asker) ≡ b → (if b then named_misfit h.shapes (request_of h.shapes (Call o p vs)) else Some NotOperator) ≡ Some misfit → fits_actor h actor r ≡ false
     by_test true bodies f = values_unfit h actor r misfit (ap (named_misfit h.shapes) (sym is) ∙ f)
     by_test false bodies f = never_asked h actor r apart (asks_alike asker (who h.shapes actor) r like ∙ no_call (sort_of asker) h.shapes o p vs r bodies is)
+by_asked h lines actor asker (Restart u) r misfit apart like is e =
+    let found = bind (unit_number h.shapes u) (λ number. Some (Requests.Restart number)) r is in
+    let bodies : has_bodies (sort_of asker) ≡ true = told_alone (has_bodies (sort_of asker)) misfit e in
+    let none : may_ask (sort_of asker) (Requests.Restart found.0) ≡ false = no_operator (sort_of asker) bodies in
+    never_asked h actor r apart (asks_alike asker (who h.shapes actor) r like ∙ ap (may_ask (sort_of asker)) (sym (same (Requests.Restart found.0) r found.2)) ∙ none)
 by_asked h lines actor asker (Plain q) r misfit apart like is e =
     let none : may_ask (sort_of asker) q ≡ false = told (may_ask (sort_of asker) q) (reason (sort_of asker) q) misfit e in
     never_asked h actor r apart (asks_alike asker (who h.shapes actor) r like ∙ ap (may_ask (sort_of asker)) (sym (same q r is)) ∙ none)

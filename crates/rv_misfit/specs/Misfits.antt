@@ -8,7 +8,7 @@ use Rattle.rv_access.specs.declared.change.Change.TheVariants.{Whole, Append, Re
 use Rattle.rv_event.specs.declared.entry.Mode.TheVariants.{Idle, InBody}
 use Rattle.rv_event.specs.declared.entry.Request.{Request}
 use Rattle.rv_event.specs.declared.entry.Request.TheVariants as Requests
-use Rattle.rv_event.specs.declared.entry.Request.TheVariants.{Archive, DelayUntil, Fire, Quit, Tick, Halt}
+use Rattle.rv_event.specs.declared.entry.Request.TheVariants.{Archive, DelayUntil, Fire, Quit, Restart, Tick, Halt}
 use Rattle.rv_history.specs.Fitting.{all_fit, idle_line, idle_task, is_operator, is_tick, is_time, may_call, ranges_in}
 use Rattle.rv_history.specs.Legal.{line_limit}
 use Rattle.rv_shape.specs.Catalogue as shapes
@@ -19,7 +19,7 @@ use Rattle.rv_shape.specs.declared.kind.Range.{Range}
 use Rattle.rv_step.specs.Lookup.{request_of}
 use Rattle.rv_step.specs.StepText.{StepWords}
 use Rattle.rv_step.specs.declared.step.Asked.{Asked}
-use Rattle.rv_step.specs.declared.step.Asked.TheVariants.{Call, Plain, Go, Change as Changes}
+use Rattle.rv_step.specs.declared.step.Asked.TheVariants.{Call, Restart as Restarts, Plain, Go, Change as Changes}
 use Rattle.rv_step.specs.declared.step.Asker.{Asker}
 use Rattle.rv_step.specs.declared.step.Asker.TheVariants.{Operator, Line, Task}
 use Rattle.rv_misfit.specs.declared.misfit.Called.{Called}
@@ -81,6 +81,7 @@ may_ask who Quit = finishes who
 may_ask who (Tick ticks) = is_operator who && is_tick ticks
 may_ask who Halt = is_operator who
 may_ask who (Archive number) = is_operator who && nat_le 1 number
+may_ask who (Restart unit) = is_operator who
 may_ask who request = has_bodies who
 
 -- why the operator, or a task or a line, never asks this
@@ -118,10 +119,11 @@ change_misfit lines (Replace number line) = line_misfit lines number
 
 -- Steps
 
--- the operator calls nothing; nothing is said of names that aren't loaded, of a `go`, and of a line that is none
+-- the operator calls nothing, and it alone restarts units; nothing is said of names that aren't loaded, of a `go`, and of a line that is none
 abbrev pub asked_misfit : List Shape → ℕ → Asker → Asked → Option Misfit
 asked_misfit shapes lines asker (Call object operation values) =
     if has_bodies (sort_of asker) then named_misfit shapes (request_of shapes (Call object operation values)) else Some NotOperator
+asked_misfit shapes lines asker (Restarts unit) = if has_bodies (sort_of asker) then Some OperatorAlone else None
 asked_misfit shapes lines asker (Plain request) = request_misfit asker request
 asked_misfit shapes lines asker (Changes (Ok change) number) = change_misfit lines change
 asked_misfit shapes lines asker (Changes (Err fault) number) = None

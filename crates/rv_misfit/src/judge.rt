@@ -65,9 +65,10 @@ fn asked_misfit(
     match asked {
         Asked::Call(_, _, _) if has_bodies(asker) => named_misfit(alloc, catalogue, asked),
         Asked::Call(_, _, _) => Ok(Some(Misfit::NotOperator)),
+        Asked::Restart(_) if has_bodies(asker) => Ok(Some(Misfit::OperatorAlone)),
         Asked::Plain(request) => Ok(request_misfit(asker, request)),
         Asked::Change(Ok(change), _) => Ok(change_misfit(lines, change)),
-        Asked::Change(Err(_), _) | Asked::Go(_) => Ok(None),
+        Asked::Restart(_) | Asked::Change(Err(_), _) | Asked::Go(_) => Ok(None),
     }
 }
 

@@ -16,7 +16,7 @@ pub enum Misfit {
     Count(Called, usize, usize),
     /// This value of the call, the first that is so, is outside the range in which the operation takes it (6.2).
     Outside(Called, i64, Range),
-    /// A task or a line asks for ticks, a halt or an archive, which the operator alone asks for.
+    /// A task or a line asks for ticks, a halt, an archive or a restart, which the operator alone asks for.
     OperatorAlone,
     /// A task fires, which lines alone do (C.3).
     LinesAlone,

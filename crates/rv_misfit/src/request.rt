@@ -77,7 +77,7 @@ fn may_ask(asker: &Asker, request: &Request) -> bool
         Request::Fire => is_line(asker),
         Request::Quit => is_task(asker),
         Request::Tick(ticks) => is_operator(asker) && is_tick(*ticks),
-        Request::Halt => is_operator(asker),
+        Request::Halt | Request::Restart(_) => is_operator(asker),
         Request::Archive(number) => is_operator(asker) && 1 <= *number,
         _ => has_bodies(asker),
     }

@@ -124,7 +124,7 @@ pub fn misfit_text(
         Misfit::LinesAlone => "misuse: lines alone fire",
         Misfit::TasksAlone => "misuse: tasks alone finish",
         Misfit::NotOperator => {
-            "misuse: the operator asks for ticks, a halt, archives and changes of the list alone"
+            "misuse: the operator asks for ticks, a halt, archives, restarts and changes of the list alone"
         }
         Misfit::Ticks(_) => "misuse: the ticks of one step are 1 .. 1,000,000",
         Misfit::NoEntry => "misuse: an archive gives up entries up to one of number 1 or more",

@@ -90,6 +90,13 @@ impl Object {
         }
     }
 
+    /// Its components have other values, as at first; who is in it stays so.
+    pub fn renew(&mut self, scalars: Scalars)
+        ensures { self.new ≡ record self.old { scalars = scalars } }
+    {
+        self.scalars = scalars;
+    }
+
     /// Keeps everybody out until its queue has been served on. Nobody may be in a protected action on it.
     pub fn unsettle(&mut self)
         requires { self.old.actions ≡ [] }

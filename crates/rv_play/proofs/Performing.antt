@@ -114,6 +114,7 @@ pub one_step : (a b : Known) (p q : Playing) (result : Ended) (line : ℕ) (aske
     → Carries a b p q (Steps line (record { asker = asker; asked = asked }) ∷ []) result → Carries a b p q (asked_acts line asker asked) result
 one_step a b p q result line asker (Asks.Go count) other carries = absurd (other count refl)
 one_step a b p q result line asker (Asks.Call object operation values) other carries = carries
+one_step a b p q result line asker (Asks.Restart unit) other carries = carries
 one_step a b p q result line asker (Asks.Plain request) other carries = carries
 one_step a b p q result line asker (Asks.Change change number) other carries = carries
 

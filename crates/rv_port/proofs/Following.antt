@@ -1,6 +1,6 @@
 -- A text that ran on a port is followed.
 use Rattle.std.proofs.Common.{◌≡◌, ◌⊎◌, inl, inr, ⊎_elim, ℕ, List, [], ◌∷◌, ◌++◌, Bool, true, false, refl, sym, ap, ◌∙◌, subst, append_assoc, append-nil, Option, Some, None}
-use Rattle.std.specs.Prelude.{is_some, ◌&&◌, not}
+use Rattle.std.specs.Prelude.{is_some, ◌&&◌, not, if◌then◌else◌}
 use Rattle.rv_event.specs.Recorded.{recorded}
 use Rattle.rv_event.specs.Past.{halted}
 use Rattle.rv_event.specs.declared.entry.Answer.{Answer}
@@ -8,7 +8,7 @@ use Rattle.rv_event.specs.declared.entry.Answer.TheVariants as Answers
 use Rattle.rv_event.specs.declared.entry.Exit.{Exit}
 use Rattle.rv_event.specs.declared.entry.Recorded.{Recorded}
 use Rattle.rv_event.specs.declared.entry.Request.{Request}
-use Rattle.rv_event.specs.declared.entry.Request.TheVariants.{Call, Complete, Settle, Resume, DelayUntil, Clock, Fire, Quit, Tick, Halt, Archive}
+use Rattle.rv_event.specs.declared.entry.Request.TheVariants.{Call, Complete, Settle, Resume, DelayUntil, Clock, Fire, Quit, Tick, Halt, Archive, Restart}
 use Rattle.rv_exec.specs.Asking.{Along}
 use Rattle.rv_exec.specs.Bodies.{task_of}
 use Rattle.rv_exec.specs.Stops.{is_final, stops_bodies}
@@ -17,6 +17,7 @@ use Rattle.rv_exec.proofs.Finals.{final_none}
 use Rattle.rv_history.specs.declared.limits.Limits.{Limits}
 use Rattle.rv_history.specs.Due.{out, due, gate, within, enough, goes_on, nothing_more}
 use Rattle.rv_history.specs.Fitting.{fits}
+use Rattle.rv_history.specs.InUse.{in_use}
 use Rattle.rv_history.specs.History.{History}
 use Rattle.rv_history.specs.Legal.{Legal}
 use Rattle.rv_turn.specs.Histories.{mine, StartsWith}
@@ -29,8 +30,7 @@ use Rattle.rv_behind.specs.declared.event.Event.TheVariants.{Asks}
 use Rattle.rv_accounts.specs.Seen.{asked_at, but_settles, OwnAreDue}
 use Rattle.rv_meant.specs.Settles.{NeverSettles}
 use Rattle.rv_accounts.specs.Followed.{IsAccounted, TextFollowed}
-use Rattle.rv_accounts.proofs.Staying.{not_mine}
-use Rattle.rv_accounts.proofs.Growing.{others_stay}
+use Rattle.rv_accounts.proofs.FollowedLater.{due_since, longer}
 use Rattle.rv_port.specs.Actors.{HasHandler}
 use Rattle.rv_port.specs.Held.{Owns}
 use Rattle.rv_port.specs.Traces.{Passing, Trace, limits_in, told, noted, noted_if, asks_on, IsAnswered, EachAnswered, Tells, Steps, Went}
@@ -75,6 +75,13 @@ plain_settles true true false = refl
 plain_settles true false shut = refl
 plain_settles false fit shut = refl
 
+restart_settles : (h : History) (u : ℕ) (room fit shut used : Bool) → settles (within room (gate fit shut (if used then Answers.Busy else nothing_more))) ≡ true
+restart_settles h u true true true used = refl
+restart_settles h u true true false true = refl
+restart_settles h u true true false false = refl
+restart_settles h u true false shut used = refl
+restart_settles h u false fit shut used = refl
+
 due_settles : (h : History) (a : ℕ) (q : Request) → HasHandler h.shapes a → settles (out h a q) ≡ true
 due_settles h a (Call o p vs) has = first_settles (Call o p vs) (out h a (Call o p vs)) (first_gets h a (Call o p vs) has tt)
 due_settles h a (DelayUntil time) has = first_settles (DelayUntil time) (out h a (DelayUntil time)) (first_gets h a (DelayUntil time) has tt)
@@ -86,6 +93,7 @@ due_settles h a Resume has = resume_settles (out h a Resume) (resume_gets h a)
 due_settles h a Quit has = plain_settles (enough h a Quit (recorded (due h a Quit))) (fits h a Quit) (halted h.past && not (goes_on Quit))
 due_settles h a (Tick n) has = plain_settles (enough h a (Tick n) (recorded (due h a (Tick n)))) (fits h a (Tick n)) (halted h.past && not (goes_on (Tick n)))
 due_settles h a Halt has = plain_settles (enough h a Halt (recorded (due h a Halt))) (fits h a Halt) (halted h.past && not (goes_on Halt))
+due_settles h a (Restart u) has = restart_settles h u (enough h a (Restart u) (recorded (due h a (Restart u)))) (fits h a (Restart u)) (halted h.past && not (goes_on (Restart u))) (in_use h u)
 due_settles h a (Archive n) has = plain_settles (enough h a (Archive n) (recorded (due h a (Archive n)))) (fits h a (Archive n)) (halted h.past && not (goes_on (Archive n)))
 
 -- what a body is told has an entry, or stops it
@@ -125,7 +133,7 @@ none_recorded a ((q, r) ∷ xs) e = by_word (recorded r) refl (none_recorded a x
   by_word None is f n = ap (λ (k : Option Recorded). recorded_if (is_some k) (q, r) (recorded_of xs)) is ∙ f n
   by_word (Some word) is f n = absurd (cc n)
 
-module _ (v w : Passing) (trace : Trace) (log : List Event) (k : IsLentBy v log) (has : HasHandler (catalogue_of v.seen) v.actor) (went : Went v trace w) (owned : Owns w) (none : v.base ++ v.own ≡ []) where
+module _ (v w : Passing) (trace : Trace) (log : List Event) (k : IsLentBy v log) (has : HasHandler (catalogue_of v.seen) v.actor) (went : Went v trace w) (owned : Owns w) where
   abbrev a : ℕ
   a = v.actor
 
@@ -135,14 +143,15 @@ module _ (v w : Passing) (trace : Trace) (log : List Event) (k : IsLentBy v log)
   abbrev own : List Event
   own = but_settles (v.base ++ v.own)
 
-  nothing : asked_at limits a v.seen ≡ []
-  nothing = others_stay limits a [] v.seen (v.seen, refl) (k.owns ∙ none)
+  -- what it had asked before
+  abbrev first : Trace
+  first = asked_at limits a v.seen
 
   each : EachAnswered limits a v.seen w.seen w.left own (trace ++ [])
   each = subst (λ (l : Trace). EachAnswered limits a v.seen w.seen w.left own l) (sym (append-nil trace)) went.each
 
-  pub entries : asked_at limits a w.seen ≡ recorded_of trace
-  entries = so_far limits a v.seen w.seen w.left own v.seen w.seen trace [] went.asks each went.later (ap but_settles k.owns) (starts_self w.seen) (all_kept v w trace owned went) ∙ ap (λ (l : Trace). l ++ recorded_of trace) nothing
+  pub entries : asked_at limits a w.seen ≡ first ++ recorded_of trace
+  entries = so_far limits a v.seen w.seen w.left own v.seen w.seen trace [] went.asks each went.later (ap but_settles k.owns) (starts_self w.seen) (all_kept v w trace owned went)
 
   module _ (done : Trace) (q : Request) (r : Answer) (behind : Trace) (split : trace ≡ done ++ (q, r) ∷ behind) where
     here : EachAnswered limits a v.seen w.seen w.left own (done ++ (q, r) ∷ behind)
@@ -151,7 +160,7 @@ module _ (v w : Passing) (trace : Trace) (log : List Event) (k : IsLentBy v log)
     calm : asks_on r ≡ false
     calm = steps_calm v w done q r behind (subst (λ (l : Trace). Steps v l w) split went.steps)
 
-    stopped : (y : IsAnswered limits a v.seen (own ++ noted a done) w.seen q r) → stops_bodies (out (history_at limits y.at) a q) ≡ true → is_final r ≡ true → IsAccounted limits a w.left log w.seen done q r behind
+    stopped : (y : IsAnswered limits a v.seen (own ++ noted a done) w.seen q r) → stops_bodies (out (history_at limits y.at) a q) ≡ true → is_final r ≡ true → IsAccounted limits a w.left first log w.seen done q r behind
     stopped y stops final =
         let to_at : StartsWith w.seen y.at = subst (λ (o : Option Recorded). StartsWith w.seen (entered y.at a q o)) (final_none r final) y.to in
         inr (inl (
@@ -161,35 +170,36 @@ module _ (v w : Passing) (trace : Trace) (log : List Event) (k : IsLentBy v log)
             later = starts_both log v.seen y.at k.from y.from;
             seen_then = to_at;
             legal = y.legal;
-            had_asked = so_far limits a v.seen w.seen w.left own v.seen y.at done ((q, r) ∷ behind) (never_first done ((q, r) ∷ behind) (subst (λ (l : Trace). NeverSettles l) split went.asks)) here went.later (ap but_settles k.owns) to_at y.own_is ∙ ap (λ (l : Trace). l ++ recorded_of done) nothing;
+            had_asked = so_far limits a v.seen w.seen w.left own v.seen y.at done ((q, r) ∷ behind) (never_first done ((q, r) ∷ behind) (subst (λ (l : Trace). NeverSettles l) split went.asks)) here went.later (ap but_settles k.owns) to_at y.own_is;
             due = stops;
           },
         ))
 
-    answered : IsAnswered limits a v.seen (own ++ noted a done) w.seen q r → IsAccounted limits a w.left log w.seen done q r behind
+    answered : IsAnswered limits a v.seen (own ++ noted a done) w.seen q r → IsAccounted limits a w.left first log w.seen done q r behind
     answered y =
         let d : Answer = out (history_at limits y.at) a q in
         ⊎_elim (λ is. inl is) (λ s. stopped y s.0 s.1) (kind_of d r y.due_is (due_settles (history_at limits y.at) a q (handler_later v.seen y.at a y.from has)) calm)
 
-    pub accounted : IsAccounted limits a w.left log w.seen done q r behind
+    pub accounted : IsAccounted limits a w.left first log w.seen done q r behind
     accounted = ⊎_elim (λ y. answered y) (λ y. inr (inr (y.0, y.1, none_recorded a behind y.2))) (each_at limits a v.seen w.seen w.left own done q r behind here)
 
-  -- each event of the actor came with the text, or is a settle behind an end of it
-  pub own_due : OwnAreDue limits a w.seen
-  own_due before after q word e =
+  -- each event of the actor behind those came with the text, or is a settle behind an end of it
+  pub own_due : OwnAreDue limits a v.seen w.seen
+  own_due before after q word from e =
       let one : List Event = Asks a q word ∷ [] in
-      ⊎_elim (λ same. absurd (not_mine a q word before after (sym (ap (λ (l : List Event). mine by a l) e) ∙ (ap (λ (l : List Event). mine by a l) same ∙ (k.owns ∙ none)))))
+      ⊎_elim (λ same. absurd (longer v.seen before after (Asks a q word) from (sym same ∙ e)))
       (λ l. legal_front limits (before ++ one) after (subst (λ (z : List Event). Legal (history_at limits z)) (e ∙ sym (append_assoc before one after)) l))
       (steps_see v trace w went.steps).1
 
--- Of the bodies that a port was lent, which had done nothing, that of its task ran, with so many requests of its own: it is followed.
+-- Of the bodies that a port was lent that of its task ran, with so many requests of its own: it is followed.
 pub texts_follow :
     (v w : Passing) (trace : Trace) (log since : List Event) (budget : ℕ) (exit : Exit)
-    → IsLentBy v log → StartsWith log since → HasHandler (catalogue_of v.seen) v.actor → Went v trace w → Owns w → v.base ++ v.own ≡ []
+    → IsLentBy v log → StartsWith log since → HasHandler (catalogue_of v.seen) v.actor → Went v trace w → Owns w
+    → asked_at (limits_in v.about) v.actor v.seen ≡ asked_at (limits_in v.about) v.actor since → StartsWith v.seen since → mine by v.actor v.seen ≡ mine by v.actor since
     → is_some (task_of (bodies_at log) v.actor) ≡ true
     → Along (task_run (bodies_at log) v.actor budget) trace exit
     → TextFollowed (limits_in v.about) v.actor budget w.left since w.seen
-texts_follow v w trace log since budget exit k begins has went owned none task run = record {
+texts_follow v w trace log since budget exit k begins has went owned first begun same task run = record {
   began = log;
   later = begins;
   from = starts_both log v.seen w.seen k.from went.later;
@@ -198,7 +208,9 @@ texts_follow v w trace log since budget exit k begins has went owned none task r
   trace = trace;
   exit = exit;
   along = run;
-  entries = entries v w trace log k has went owned none;
-  due = own_due v w trace log k has went owned none;
-  each = λ before request answer behind split. accounted v w trace log k has went owned none before request answer behind split;
+  entries = entries v w trace log k has went owned ∙ ap (λ (l : Trace). l ++ recorded_of trace) first;
+  due = due_since (limits_in v.about) v.actor since v.seen w.seen begun same went.later (own_due v w trace log k has went owned);
+  each = λ before request answer behind split.
+      subst (λ (l : Trace). IsAccounted (limits_in v.about) v.actor w.left l log w.seen before request answer behind) first
+      (accounted v w trace log k has went owned before request answer behind split);
 }

@@ -143,4 +143,4 @@ due_resume_gets h a (WaitsUntil time) = waiting_gets h (int_le time (pos (clock 
 due_resume_gets h a s = refl
 
 pub resume_gets : (h : History) (a : ℕ) → of_resume (out h a Resume) ≡ true
-resume_gets h a = out_all (λ r. of_resume r ≡ true) h a Resume refl refl (λ e. refl) (due_resume_gets h a (stance a h.past))
+resume_gets h a = out_all (λ r. of_resume r ≡ true) h a Resume refl refl (λ e. refl) (due_resume_gets h a (stance h.shapes a h.past))

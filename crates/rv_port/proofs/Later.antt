@@ -3,7 +3,9 @@ use Rattle.std.proofs.Common.{◌≡◌, ℕ, ◌≤◌, Bool, true, false, eqb,
 use Rattle.std.specs.Prelude.{is_some, ℤ, int_le, pos}
 use Rattle.std.proofs.lemmas.List.{reverse-append}
 use Rattle.rv_access.specs.Words.{Words}
-use Rattle.rv_event.specs.Past.{clock, halted, next_of, released, said, stance, stance_of, until_then}
+use Rattle.rv_shape.specs.Shape.{Shape}
+use Rattle.rv_history.proofs.Stances.{calm_stance, renewed_stance}
+use Rattle.rv_event.specs.Past.{clock, halted, next_of, released, renews_task, said, stance, stance_of, until_then}
 use Rattle.rv_event.specs.Recorded.{recorded}
 use Rattle.rv_event.specs.declared.entry.Answer.TheVariants as Answers
 use Rattle.rv_event.specs.declared.entry.Rule.{Rule}
@@ -81,18 +83,23 @@ one_more : (a : ℕ) (e : Event) (es : List Event) → HandOverIn a es → HandO
 one_more a e es t = record { newer = e ∷ t.newer; older = t.older; of = t.of; request = t.request; split = ap (λ (l : List Event). e ∷ l) t.split }
 
 -- one that was handed the object, and hadn't been before these events
-pub handed_in : (a : ℕ) (es olds : List Event) → is_handed (stance a (marks olds)) ≡ false → is_handed (stance a (marks (es ++ olds))) ≡ true → HandOverIn a es
-handed_in a [] olds n h = absurd (cc (n, h))
-handed_in a (Loads s u ∷ es) olds n h = one_more a (Loads s u) es (handed_in a es olds n h)
-handed_in a (Lists l ∷ es) olds n h = one_more a (Lists l) es (handed_in a es olds n h)
-handed_in a (Asks b r w ∷ es) olds n h =
-    unless_named a (next_of (Asked b r w)) (eqb b a) (stance_of (Asked b r w)) (stance a (marks (es ++ olds))) (HandOverIn a (Asks b r w ∷ es)) (own_not_handed b r w) h
-    (λ is. record { newer = []; older = es; of = b; request = r; split = ap (λ (z : Recorded). Asks b r z ∷ es) (done_by a b r w is) })
-    (λ before. one_more a (Asks b r w) es (handed_in a es olds n before))
+pub handed_in : (shapes : List Shape) (a : ℕ) (es olds : List Event) → is_handed (stance shapes a (marks olds)) ≡ false → is_handed (stance shapes a (marks (es ++ olds))) ≡ true → HandOverIn a es
+handed_in shapes a [] olds n h = absurd (cc (n, h))
+handed_in shapes a (Loads s u ∷ es) olds n h = one_more a (Loads s u) es (handed_in shapes a es olds n h)
+handed_in shapes a (Lists l ∷ es) olds n h = one_more a (Lists l) es (handed_in shapes a es olds n h)
+handed_in shapes a (Asks b r w ∷ es) olds n h = by_renewal (renews_task shapes a (Asked b r w)) refl (handed_in shapes a es olds n)
+  where
+    by_renewal : (t : Bool) → renews_task shapes a (Asked b r w) ≡ t → (is_handed (stance shapes a (marks (es ++ olds))) ≡ true → HandOverIn a es) → HandOverIn a (Asks b r w ∷ es)
+    by_renewal true renews rest = absurd (cc (ap is_handed (renewed_stance shapes a (Asked b r w) (marks (es ++ olds)) renews), h))
+    by_renewal false calm rest =
+        unless_named a (next_of (Asked b r w)) (eqb b a) (stance_of (Asked b r w)) (stance shapes a (marks (es ++ olds))) (HandOverIn a (Asks b r w ∷ es)) (own_not_handed b r w)
+        (sym (ap is_handed (calm_stance shapes a (Asked b r w) (marks (es ++ olds)) calm)) ∙ h)
+        (λ is. record { newer = []; older = es; of = b; request = r; split = ap (λ (z : Recorded). Asks b r z ∷ es) (done_by a b r w is) })
+        (λ before. one_more a (Asks b r w) es (rest before))
 
 -- one that was queued hasn't been handed the object yet
-pub waits_still : (a o p : ℕ) (vs : List ℤ) (past : List Event) → is_handed (stance a (marks (Asks a (Call o p vs) Words.Queued ∷ past))) ≡ false
-waits_still a o p vs past = still_waits a o p vs (marks past)
+pub waits_still : (shapes : List Shape) (a o p : ℕ) (vs : List ℤ) (past : List Event) → is_handed (stance shapes a (marks (Asks a (Call o p vs) Words.Queued ∷ past))) ≡ false
+waits_still shapes a o p vs past = still_waits shapes a o p vs (marks past)
 
 -- Drops
 
@@ -134,7 +141,7 @@ not_so e = absurd (cc e)
 
 -- a resume that is refused tells of a drop, with the version that the list had then
 pub refused_resume : (h : History) (a : ℕ) (rule : Rule) (line version : ℕ) → out h a Resume ≡ Answers.Refused rule line version → version ≡ changes (until_then a h.past)
-refused_resume h a rule line version e = by_stance (stance a h.past) (answered h a Resume (Words.Refused rule line version) (ap recorded e)).said where
+refused_resume h a rule line version e = by_stance (stance h.shapes a h.past) (answered h a Resume (Words.Refused rule line version) (ap recorded e)).said where
   by_stance : (s : Stance) → recorded (due_resume h a s) ≡ Some (Words.Refused rule line version) → version ≡ changes (until_then a h.past)
   by_stance (DroppedBy l) f = sym (ap version_in f)
   by_stance Free f = not_so (ap is_refusal f)

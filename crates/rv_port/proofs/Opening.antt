@@ -2,6 +2,7 @@
 use Rattle.std.proofs.Common.{◌≡◌, ℕ, true, List, [], ◌∷◌, ◌++◌, reverse, Some, refl, sym, ap, ◌∙◌, subst, inl, inr, append_assoc}
 use Rattle.std.specs.Prelude.{ℤ}
 use Rattle.std.proofs.lemmas.List.{reverse-append, reverse-reverse}
+use Rattle.rv_shape.specs.Shape.{Shape}
 use Rattle.rv_event.specs.Past.{stance}
 use Rattle.rv_event.specs.declared.entry.Request.{Request}
 use Rattle.rv_event.specs.declared.entry.Request.TheVariants.{Call, Resume}
@@ -12,7 +13,7 @@ use Rattle.rv_event.specs.declared.entry.Recorded.{Recorded}
 use Rattle.rv_event.specs.declared.entry.Recorded.TheVariants as Words
 use Rattle.rv_behind.specs.declared.event.Event.{Event}
 use Rattle.rv_behind.specs.declared.event.Event.TheVariants.{Asks}
-use Rattle.rv_behind.specs.Events.{marks, history_at}
+use Rattle.rv_behind.specs.Events.{marks, history_at, shapes_of}
 use Rattle.rv_port.specs.Traces.{Passing, limits_in, Asked}
 use Rattle.rv_port.specs.Reaching.{waits_on}
 use Rattle.rv_port.specs.Calls.{Opens, IsNew, Stays}
@@ -91,12 +92,15 @@ opened_by_wait v u w o p vs scalars k x = record {
   q : Request
   q = Call o p vs
 
-  handed : is_handed (stance v.actor (marks (reverse x.from.0 ++ Asks v.actor q Words.Queued ∷ reverse k.asked.at))) ≡ true
-  handed = subst (λ (z : ℕ × List Event). is_handed (stance z.0 (marks z.1)) ≡ true) (λ i. (k.actor_is i, back_at v u q Words.Queued x.at k x.from i))
+  shapes : List Shape
+  shapes = shapes_of (reverse x.at)
+
+  handed : is_handed (stance shapes v.actor (marks (reverse x.from.0 ++ Asks v.actor q Words.Queued ∷ reverse k.asked.at))) ≡ true
+  handed = subst (λ (z : ℕ × List Event). is_handed (stance shapes z.0 (marks z.1)) ≡ true) (λ i. (k.actor_is i, back_at v u q Words.Queued x.at k x.from i))
       (woken_handed (history_at (limits_in u.about) x.at) u.actor scalars (sym x.due_is))
 
   found : HandOverIn v.actor (reverse x.from.0)
-  found = handed_in v.actor (reverse x.from.0) (Asks v.actor q Words.Queued ∷ reverse k.asked.at) (waits_still v.actor o p vs (reverse k.asked.at)) handed
+  found = handed_in shapes v.actor (reverse x.from.0) (Asks v.actor q Words.Queued ∷ reverse k.asked.at) (waits_still shapes v.actor o p vs (reverse k.asked.at)) handed
 
   start : Event
   start = Asks found.of found.request (Words.Done (HandedTo v.actor))

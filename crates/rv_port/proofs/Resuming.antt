@@ -24,7 +24,7 @@ use Rattle.rv_history.specs.Legal.{Legal, IsLegal}
 use Rattle.rv_history.specs.Due.{out, due, table, gate, within, enough, goes_on, due_resume, or_waiting}
 use Rattle.rv_history.proofs.Frame.{stance_stays}
 use Rattle.rv_history.proofs.Resumes.{resume_fits}
-use Rattle.rv_history.proofs.Silent.{is_queued, apart_while}
+use Rattle.rv_history.proofs.Silent.{apart_while, is_steady}
 use Rattle.rv_history.proofs.Stances.{is_waiting}
 use Rattle.rv_history.proofs.Tells.{each_waiting, is_pause, out_tells}
 use Rattle.rv_accounts.proofs.Queued.{in_queue, own_now, still_in_queue}
@@ -100,22 +100,23 @@ pause_of (Call o p vs) = WaitsOn o
 pause_of (DelayUntil time) = WaitsUntil time
 pause_of q = Free
 
-paused_now : (a : ℕ) (q : Request) (wait : Recorded) (past : List Entry) → IsPause q wait → (stance a (Asked a q wait ∷ past) ≡ pause_of q) × (paused (pause_of q) ≡ true)
-paused_now a (Call o p vs) Words.Suspended past t = (own_now (eqb a a) (WaitsOn o) (stance a past) (itself a), refl)
-paused_now a (DelayUntil time) Words.Delayed past t = (own_now (eqb a a) (WaitsUntil time) (stance a past) (itself a), refl)
-paused_now a q wait past t = absurd t
+paused_now : (shapes : List Shape) (a : ℕ) (q : Request) (wait : Recorded) (past : List Entry) → IsPause q wait → (stance shapes a (Asked a q wait ∷ past) ≡ pause_of q) × (paused (pause_of q) ≡ true)
+paused_now shapes a (Call o p vs) Words.Suspended past t = (own_now (eqb a a) (WaitsOn o) (stance shapes a past) (itself a), refl)
+paused_now shapes a (DelayUntil time) Words.Delayed past t = (own_now (eqb a a) (WaitsUntil time) (stance shapes a past) (itself a), refl)
+paused_now shapes a q wait past t = absurd t
 
-not_queued : (s : Stance) → paused s ≡ true → is_queued s ≡ false
-not_queued InQueue e = absurd (cc e)
-not_queued s e = refl
+pause_steady : (s : Stance) → paused s ≡ true → is_steady s ≡ true
+pause_steady InQueue e = absurd (cc e)
+pause_steady Gone e = absurd (cc e)
+pause_steady s e = refl
 
 -- nobody names one at a pause
 pub still_paused : (c : Limits) (shapes : List Shape) (lists : List (List Words_of)) (a : ℕ) (q : Request) (wait : Recorded) (later past : List Entry) → IsLegal c (later ++ Asked a q wait ∷ past) shapes lists → IsPause q wait → list_any (is_own a) later ≡ false
-    → paused (stance a (later ++ Asked a q wait ∷ past)) ≡ true
+    → paused (stance shapes a (later ++ Asked a q wait ∷ past)) ≡ true
 still_paused c shapes lists a q wait later past legal is none =
-    let now = paused_now a q wait past is in
-    let at : paused (stance a (Asked a q wait ∷ past)) ≡ true = ap paused now.0 ∙ now.1 in
-    ap paused (stance_stays a later (Asked a q wait ∷ past) (apart_while c later (Asked a q wait ∷ past) shapes lists a legal (not_queued (stance a (Asked a q wait ∷ past)) at) none)) ∙ at
+    let now = paused_now shapes a q wait past is in
+    let at : paused (stance shapes a (Asked a q wait ∷ past)) ≡ true = ap paused now.0 ∙ now.1 in
+    ap paused (stance_stays shapes a later (Asked a q wait ∷ past) (apart_while c later (Asked a q wait ∷ past) shapes lists a legal (pause_steady (stance shapes a (Asked a q wait ∷ past)) at) none)) ∙ at
 
 -- What its resume can be answered
 
@@ -141,14 +142,14 @@ open_sound true false r e = e
 open_sound false shut r e = refl
 
 -- the resume of one that waits is no misuse
-pub resume_sound : (h : History) (a : ℕ) → Legal h → waits (stance a h.past) ≡ true → is_sound (out h a Resume) ≡ true
+pub resume_sound : (h : History) (a : ℕ) → Legal h → waits (stance h.shapes a h.past) ≡ true → is_sound (out h a Resume) ≡ true
 resume_sound h a legal e =
     ap (λ (f : Bool). is_sound (within (enough h a Resume (recorded (due h a Resume))) (gate f (halted h.past && not (goes_on Resume)) (table h a Resume)))) (resume_fits h a legal e)
-    ∙ open_sound (enough h a Resume (recorded (due h a Resume))) (halted h.past && not (goes_on Resume)) (table h a Resume) (due_sound h a (stance a h.past) e)
+    ∙ open_sound (enough h a Resume (recorded (due h a Resume))) (halted h.past && not (goes_on Resume)) (table h a Resume) (due_sound h a (stance h.shapes a h.past) e)
 
 -- one that was queued is woken with scalars
-pub queue_wakes : {X : Type 0} (h : History) (a : ℕ) → in_queue (stance a h.past) ≡ true → out h a Resume ≡ Answers.Woken None → X
-queue_wakes {X = X} h a e is = by_stance (stance a h.past) e (out_tells h a Resume (Answers.Woken None) is (λ f. cc f)).1 where
+pub queue_wakes : {X : Type 0} (h : History) (a : ℕ) → in_queue (stance h.shapes a h.past) ≡ true → out h a Resume ≡ Answers.Woken None → X
+queue_wakes {X = X} h a e is = by_stance (stance h.shapes a h.past) e (out_tells h a Resume (Answers.Woken None) is (λ f. cc f)).1 where
   by_stance : (s : Stance) → in_queue s ≡ true → is_pause s ≡ true → X
   by_stance (WaitsOn object) e f = absurd (cc e)
   by_stance (WaitsUntil time) e f = absurd (cc e)
@@ -161,7 +162,7 @@ is_named (Answers.Refused rule line version) = true
 is_named r = false
 
 -- one at a pause is woken with no scalars, and isn't refused
-pub pause_unnamed : {X : Type 0} (h : History) (a : ℕ) (r : Answer) → paused (stance a h.past) ≡ true → out h a Resume ≡ r → is_named r ≡ true → X
+pub pause_unnamed : {X : Type 0} (h : History) (a : ℕ) (r : Answer) → paused (stance h.shapes a h.past) ≡ true → out h a Resume ≡ r → is_named r ≡ true → X
 pause_unnamed h a (Answers.Woken (Some s)) e is named = absurd (cc (sym (ap is_pause (out_tells h a Resume (Answers.Woken (Some s)) is (λ f. cc f)).1.0) ∙ e))
 pause_unnamed h a (Answers.Refused rule line version) e is named = absurd (cc (sym (ap is_pause (out_tells h a Resume (Answers.Refused rule line version) is (λ f. cc f)).0) ∙ e))
 pause_unnamed h a r e is named = absurd (cc named)
@@ -182,16 +183,18 @@ none_after a seen at own w e f = none_own a (reverse w.0) (ap (mine by a) (rever
 
 -- one whose last event was to be queued
 pub in_queue_at : (c : Limits) (a : ℕ) (seen at own front : List Event) (o p : ℕ) (vs : List ℤ) (w : StartsWith at seen) → seen ≡ front ++ Asks a (Call o p vs) Words.Queued ∷ [] → mine by a seen ≡ own → mine by a at ≡ own
-    → in_queue (stance a (history_at c at).past) ≡ true
-in_queue_at c a seen at own front o p vs w is e f =
-    ap (λ (l : List Entry). in_queue (stance a l)) (back_from seen at front (Asks a (Call o p vs) Words.Queued) w is)
-    ∙ still_in_queue a o p vs (marks (reverse w.0)) (marks (reverse front)) (none_after a seen at own w e f)
+    → Legal (history_at c at) → in_queue (stance (shapes_of (reverse at)) a (history_at c at).past) ≡ true
+in_queue_at c a seen at own front o p vs w is e f legal =
+    let back : marks (reverse at) ≡ marks (reverse w.0) ++ Asked a (Call o p vs) Words.Queued ∷ marks (reverse front) = back_from seen at front (Asks a (Call o p vs) Words.Queued) w is in
+    ap (λ (l : List Entry). in_queue (stance (shapes_of (reverse at)) a l)) back
+    ∙ still_in_queue c a o p vs (marks (reverse w.0)) (marks (reverse front)) (shapes_of (reverse at)) (lists_of (reverse at))
+    (subst (λ (l : List Entry). IsLegal c l (shapes_of (reverse at)) (lists_of (reverse at))) back legal) (none_after a seen at own w e f)
 
 -- one whose last event was to begin a pause
 pub paused_at : (c : Limits) (a : ℕ) (seen at own front : List Event) (q : Request) (wait : Recorded) (w : StartsWith at seen) → seen ≡ front ++ Asks a q wait ∷ [] → mine by a seen ≡ own → mine by a at ≡ own
-    → IsPause q wait → Legal (history_at c at) → paused (stance a (history_at c at).past) ≡ true
+    → IsPause q wait → Legal (history_at c at) → paused (stance (shapes_of (reverse at)) a (history_at c at).past) ≡ true
 paused_at c a seen at own front q wait w is e f pause legal =
     let back : marks (reverse at) ≡ marks (reverse w.0) ++ Asked a q wait ∷ marks (reverse front) = back_from seen at front (Asks a q wait) w is in
-    ap (λ (l : List Entry). paused (stance a l)) back
+    ap (λ (l : List Entry). paused (stance (shapes_of (reverse at)) a l)) back
     ∙ still_paused c (shapes_of (reverse at)) (lists_of (reverse at)) a q wait (marks (reverse w.0)) (marks (reverse front))
     (subst (λ (l : List Entry). IsLegal c l (shapes_of (reverse at)) (lists_of (reverse at))) back legal) pause (none_after a seen at own w e f)

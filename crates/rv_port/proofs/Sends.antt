@@ -177,7 +177,7 @@ pub port_send : IsSend port.the_row
 port_send = search (port_inside_send, sendable)
 
 finished_inside_send : IsSend finished_inside.the_row
-finished_inside_send = recorded_send (finished_inside.the_field).row _ _ (finished_inside.the_type).to_one (struct_send (shape finished_inside.the_type) (own_pass_send, (plain_send _ _ _ _ _, tt)))
+finished_inside_send = recorded_send (finished_inside.the_field).row _ _ (finished_inside.the_type).to_one (struct_send (shape finished_inside.the_type) (asker_send, tt))
 
 pub finished_send : IsSend finished.the_row
 finished_send = search (finished_inside_send, sendable)

@@ -70,7 +70,7 @@ body_settled (Some b) m e = absurd (off e)
 
 end_settled : (h : History) (a : ℕ) (vs : List ℤ) (x : Exit) (w : Recorded) → recorded (out h a (Complete vs x)) ≡ Some w → to_settle h.shapes a h.past ≡ None
 end_settled h a vs x w e =
-    body_settled (to_settle h.shapes a h.past) (mode_by (held h.shapes a h.past) (stance a h.past))
+    body_settled (to_settle h.shapes a h.past) (mode_by (held h.shapes a h.past) (stance h.shapes a h.past))
     (both (in_body (mode h.shapes a h.past)) (end_fits h.shapes vs x (innermost h.shapes a h.past)) (answered h a (Complete vs x) w e).fits_in).0
 
 abbrev Few : History → ℕ → List Entry → Type 0
@@ -213,8 +213,8 @@ settled_none true (r ∷ rs) u w none t =
 none_mode : (w : Passing) → NoneAt w w.seen → is_settling (mode_seen w) ≡ false
 none_mode w none =
     let h : History = history_at (limits_in w.about) w.seen in
-    ap (λ (o : Option Body). is_settling (or_settling o (mode_by (held h.shapes w.actor h.past) (stance w.actor h.past)))) none
-    ∙ never_settling (held h.shapes w.actor h.past) (stance w.actor h.past)
+    ap (λ (o : Option Body). is_settling (or_settling o (mode_by (held h.shapes w.actor h.past) (stance h.shapes w.actor h.past)))) none
+    ∙ never_settling (held h.shapes w.actor h.past) (stance h.shapes w.actor h.past)
 
 pub ends_are_settled : EndsAreSettled
 ends_are_settled v u w scalars exit next x s =

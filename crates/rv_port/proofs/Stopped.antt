@@ -116,14 +116,14 @@ paused_as s e = absurd (cc e)
 
 -- where the actor is at its resume
 abbrev at_resume : (u k : Passing) (r : Answer) → Asked u Resume r k → Stance
-at_resume u k r y = stance u.actor (history_at (limits_in u.about) y.at).past
+at_resume u k r y = stance (history_at (limits_in u.about) y.at).shapes u.actor (history_at (limits_in u.about) y.at).past
 
 queue_waits_by : (v u k : Passing) (o p : ℕ) (values : List ℤ) (q : Request) (r : Answer) → q ≡ Call o p values → Asked v q Answers.Queued u → (y : Asked u Resume r k) → queued (at_resume u k r y) ≡ true
 queue_waits_by v u k o p values q r is x y =
     let z : Asked v (Call o p values) Answers.Queued u = subst (λ (c : Request). Asked v c Answers.Queued u) is x in
     let a : Waits v (Call o p values) Words.Queued u = record { answer = Answers.Queued; asked = z; on = refl; seen_is = z.seen_is; own_is = z.own_is; actor_is = asked_actor v u (Call o p values) Answers.Queued z } in
     in_queue_as (at_resume u k r y)
-    (in_queue_at (limits_in u.about) u.actor u.seen y.at (u.base ++ u.own) z.at o p values y.from (here v u (Call o p values) Words.Queued a) z.owns y.owned)
+    (in_queue_at (limits_in u.about) u.actor u.seen y.at (u.base ++ u.own) z.at o p values y.from (here v u (Call o p values) Words.Queued a) z.owns y.owned y.legal)
 
 suspension_waits_by : (v u k : Passing) (o p : ℕ) (values : List ℤ) (q : Request) (r : Answer) → q ≡ Call o p values → Asked v q Answers.Suspended u → (y : Asked u Resume r k) → is_paused (at_resume u k r y) ≡ true
 suspension_waits_by v u k o p values q r is x y =

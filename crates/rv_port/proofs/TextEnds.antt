@@ -7,7 +7,7 @@ use Rattle.rv_exec.specs.Asking.{Along}
 use Rattle.rv_exec.specs.Bodies.{flat, task_of}
 use Rattle.rv_exec.specs.Tasks.{task_run}
 use Rattle.rv_history.specs.declared.limits.Limits.{Limits}
-use Rattle.rv_turn.specs.Histories.{StartsWith}
+use Rattle.rv_turn.specs.Histories.{StartsWith, mine}
 use Rattle.rv_turn.specs.Passes.{Acted}
 use Rattle.rv_turn.specs.Prefixes.{starts_self}
 use Rattle.rv_behind.specs.Acting.{BodiesFit, Does, IsLent, lent_view}
@@ -18,6 +18,7 @@ use Rattle.rv_behind.specs.declared.event.Lent.{Lent}
 use Rattle.rv_behind.specs.declared.event.Reply.TheVariants as Gives
 use Rattle.rv_accounts.specs.Explained.{Explained}
 use Rattle.rv_accounts.specs.Followed.{TextFollowed}
+use Rattle.rv_accounts.proofs.Growing.{others_stay}
 use Rattle.rv_accounts.proofs.Staying.{stays}
 use Rattle.rv_port.specs.Actors.{HasHandler}
 use Rattle.rv_port.specs.Bodies.{marked}
@@ -32,7 +33,7 @@ use Rattle.rv_port.proofs.Asked.{lent_explained}
 use Rattle.rv_port.proofs.Bodies.{bodies_later}
 use Rattle.rv_port.proofs.Ends.{IsLentBy}
 use Rattle.rv_port.proofs.Following.{texts_follow}
-use Rattle.rv_port.proofs.Holding.{borrow_own, counts_borrowed, counts_new}
+use Rattle.rv_port.proofs.Holding.{borrow_own, counts_borrowed}
 use Rattle.rv_port.proofs.Since.{texts_leave}
 use Rattle.rv_port.proofs.WornTexts.{worn_follows}
 
@@ -91,13 +92,21 @@ module _ (v u w : Passing) (lent : Option Lent) (bodies : UnitBodies) (budget : 
       (λ before after values ended next p e.
       texts_leave u w trace at budget exit k went owned (sym (counts_borrowed v u (Gives.Bodies lent) 0 acted owns (sym none))) runs before after values ended next p e))
 
-  pub lent_text_follows : v.base ≡ [] → HasHandler (catalogue_of v.seen) v.actor → v.own ≡ [] → is_some (task_of (bodies_at v.seen) v.actor) ≡ true → TextFollowed (limits_in w.about) w.actor budget w.left v.seen w.seen
-  lent_text_follows base has none task =
+  later : StartsWith u.seen v.seen
+  later = later_entry at v.seen v u acted.later acted.entry
+
+  -- it asked nothing where it borrowed
+  same : mine by u.actor u.seen ≡ mine by u.actor v.seen
+  same =
+      acted.owns
+      ∙ ((λ i. ap (λ (z : Passing). z.base) acted.same i ++ borrow_own v u (Gives.Bodies lent) acted i)
+      ∙ (sym owns ∙ (λ i. mine by (sym actor_is i) v.seen)))
+
+  pub lent_text_follows : HasHandler (catalogue_of v.seen) v.actor → is_some (task_of (bodies_at v.seen) v.actor) ≡ true → TextFollowed (limits_in w.about) w.actor budget w.left v.seen w.seen
+  lent_text_follows has task =
       subst (λ (z : Limits × ℕ). TextFollowed z.0 z.1 budget w.left v.seen w.seen) (λ i. (sym limits_after i, sym actor_after i))
-      (texts_follow u w trace at v.seen budget exit k acted.later
-      (moved v u actor_is (later_entry at v.seen v u acted.later acted.entry) has)
-      went owned
-      (λ i. (ap (λ (z : Passing). z.base) acted.same ∙ base) i ++ (borrow_own v u (Gives.Bodies lent) acted ∙ none) i)
+      (texts_follow u w trace at v.seen budget exit k acted.later (moved v u actor_is later has) went owned
+      (others_stay (limits_in u.about) u.actor v.seen u.seen later same) later same
       (subst (λ (n : ℕ). is_some (task_of (bodies_at at) n) ≡ true) (sym actor_is) (task_later (bodies_at v.seen) (bodies_at at) v.actor (bodies_later v.seen at acted.later).tasks task))
       runs)
 
@@ -114,20 +123,20 @@ text_explained v w mark after budget exit owns owned t old is =
     ⊎_elim (λ x. subst (λ (z : Passing). EndsExplained z) (sym x.0.1) (old (sym x.1 ∙ is)))
     (λ y. ⊎_elim (λ x. subst (λ (z : Passing). EndsExplained z) (sym x.1) (old (sym x.2 ∙ is))) (λ r. text_lent_explained v w mark after budget exit owns owned r old is) y) t
 
-text_lent_follows : (v w : Passing) (mark after : Bool) (budget : ℕ) (exit : Exit) → Owns v → Owns w → v.base ≡ [] → HasHandler (catalogue_of v.seen) v.actor → TextLent v mark budget exit w after → v.own ≡ []
+text_lent_follows : (v w : Passing) (mark after : Bool) (budget : ℕ) (exit : Exit) → Owns v → Owns w → HasHandler (catalogue_of v.seen) v.actor → TextLent v mark budget exit w after
     → is_some (task_of (bodies_at v.seen) v.actor) ≡ true → after ≡ false → TextFollowed (limits_in w.about) w.actor budget w.left v.seen w.seen
-text_lent_follows v w mark after budget exit owns owned base has r none task is = by_bodies r.bodies r.borrows.lent_is r.runs r.marked_is where
+text_lent_follows v w mark after budget exit owns owned has r task is = by_bodies r.bodies r.borrows.lent_is r.runs r.marked_is where
   by_bodies : (bodies : Option UnitBodies) → bodies ≡ lent_view r.borrows.lent → TextRuns bodies v.actor budget r.trace exit → after ≡ marked mark bodies → TextFollowed (limits_in w.about) w.actor budget w.left v.seen w.seen
   by_bodies None e runs m = absurd (cc (is, m))
-  by_bodies (Some bodies) e runs m = lent_text_follows v r.lent w r.borrows.lent bodies budget exit r.trace r.borrows.acted e runs r.went owns owned base has none task
+  by_bodies (Some bodies) e runs m = lent_text_follows v r.lent w r.borrows.lent bodies budget exit r.trace r.borrows.acted e runs r.went owns owned has task
 
 none_left : (n : ℕ) → 0 < n → n ≡ 0 → ⊥
 none_left n few e = omega (arith, few, e)
 
-pub text_follows : (v w : Passing) (mark after : Bool) (budget : ℕ) (exit : Exit) → Owns v → Owns w → v.base ≡ [] → HasHandler (catalogue_of v.seen) v.actor → BodiesFit v.seen → TextRan v mark budget exit w after → FollowsUnless after budget v w
-text_follows v w mark after budget exit owns owned base has fit t none task is =
-    ⊎_elim (λ x. worn_follows v w budget owns base fit x.0 none task)
-    (λ y. ⊎_elim (λ x. absurd (none_left (held_by v) x.0 (sym (counts_new v owns base none)))) (λ r. text_lent_follows v w mark after budget exit owns owned base has r none task is) y) t
+pub text_follows : (v w : Passing) (mark after : Bool) (budget : ℕ) (exit : Exit) → Owns v → Owns w → HasHandler (catalogue_of v.seen) v.actor → BodiesFit v.seen → TextRan v mark budget exit w after → FollowsUnless after budget v w
+text_follows v w mark after budget exit owns owned has fit t none task is =
+    ⊎_elim (λ x. worn_follows v w budget fit x.0 task)
+    (λ y. ⊎_elim (λ x. absurd (none_left (held_by v) x.0 none)) (λ r. text_lent_follows v w mark after budget exit owns owned has r task is) y) t
 
 -- what is followed stays so when the port is let go of
 pub left_follows : (mark after : Bool) (budget : ℕ) (v w z : Passing) → after ≡ mark → LeavesText mark w z → FollowsUnless mark budget v w → FollowsUnless after budget v z

@@ -72,15 +72,15 @@ refused_then v u w o p vs rule line version k x = omega (arith, is, drop, more) 
   more = version_later v.seen k.asked.at k.asked.from
 
 -- it is in the queue, or was named since
-queue_at : (v u k : Passing) (o p : ℕ) (vs : List ℤ) (r : Answer) → Waits v (Call o p vs) Words.Queued u → (x : Asked u Resume r k) → in_queue (stance u.actor (history_at (limits_in u.about) x.at).past) ≡ true
-queue_at v u k o p vs r a x = in_queue_at (limits_in u.about) u.actor u.seen x.at (u.base ++ u.own) a.asked.at o p vs x.from (here v u (Call o p vs) Words.Queued a) a.asked.owns x.owned
+queue_at : (v u k : Passing) (o p : ℕ) (vs : List ℤ) (r : Answer) → Waits v (Call o p vs) Words.Queued u → (x : Asked u Resume r k) → in_queue (stance (history_at (limits_in u.about) x.at).shapes u.actor (history_at (limits_in u.about) x.at).past) ≡ true
+queue_at v u k o p vs r a x = in_queue_at (limits_in u.about) u.actor u.seen x.at (u.base ++ u.own) a.asked.at o p vs x.from (here v u (Call o p vs) Words.Queued a) a.asked.owns x.owned x.legal
 
 -- it is still at its pause
-pub pause_at : (v u k : Passing) (q : Request) (wait : Recorded) (r : Answer) → Waits v q wait u → IsPause q wait → (x : Asked u Resume r k) → paused (stance u.actor (history_at (limits_in u.about) x.at).past) ≡ true
+pub pause_at : (v u k : Passing) (q : Request) (wait : Recorded) (r : Answer) → Waits v q wait u → IsPause q wait → (x : Asked u Resume r k) → paused (stance (history_at (limits_in u.about) x.at).shapes u.actor (history_at (limits_in u.about) x.at).past) ≡ true
 pause_at v u k q wait r a pause x = paused_at (limits_in u.about) u.actor u.seen x.at (u.base ++ u.own) a.asked.at q wait x.from (here v u q wait a) a.asked.owns x.owned pause x.legal
 
 -- the resume of one that waits is no misuse
-no_misuse : {X : Type 0} (u k : Passing) (x : Asked u Resume Answers.Misuse k) → waits (stance u.actor (history_at (limits_in u.about) x.at).past) ≡ true → X
+no_misuse : {X : Type 0} (u k : Passing) (x : Asked u Resume Answers.Misuse k) → waits (stance (history_at (limits_in u.about) x.at).shapes u.actor (history_at (limits_in u.about) x.at).past) ≡ true → X
 no_misuse u k x e = absurd (cc (ap is_sound x.due_is ∙ resume_sound (history_at (limits_in u.about) x.at) u.actor x.legal e))
 
 tied_queue : (v u k w : Passing) (m f : Bool) (o p : ℕ) (vs : List ℤ) (r : Answer) (log : List Event) (reached : Reached) → StartsWith k.seen log → Waits v (Call o p vs) Words.Queued u → Asked u Resume r k → of_resume r ≡ true → asks_on r ≡ false

@@ -1,5 +1,5 @@
 -- The text of a task whose port has no act left: each of its asks is told Full.
-use Rattle.std.proofs.Common.{◌≡◌, inr, ℕ, List, [], ◌∷◌, ◌++◌, true, refl, sym, ap, ◌∙◌, subst}
+use Rattle.std.proofs.Common.{◌≡◌, inr, ℕ, List, [], ◌∷◌, ◌++◌, true, refl, sym, ap, ◌∙◌, subst, append-nil}
 use Rattle.std.specs.Prelude.{is_some}
 use Rattle.rv_event.specs.declared.entry.Answer.{Answer}
 use Rattle.rv_event.specs.declared.entry.Answer.TheVariants.{Full}
@@ -7,17 +7,16 @@ use Rattle.rv_event.specs.declared.entry.Request.{Request}
 use Rattle.rv_exec.specs.Asking.{Trace, Asking, ended, asking, Along}
 use Rattle.rv_exec.specs.Bodies.{task_of}
 use Rattle.rv_exec.specs.Tasks.{task_run}
-use Rattle.rv_turn.specs.Histories.{mine}
 use Rattle.rv_turn.specs.Passes.{IsWorn}
 use Rattle.rv_turn.specs.Prefixes.{starts_self}
 use Rattle.rv_meant.specs.Asks.{recorded_of}
 use Rattle.rv_behind.specs.Acting.{BodiesFit}
-use Rattle.rv_behind.specs.Events.{by, bodies_at}
+use Rattle.rv_behind.specs.Events.{bodies_at}
 use Rattle.rv_behind.specs.declared.event.Event.{Event}
+use Rattle.rv_behind.specs.declared.event.Event.TheVariants.{Asks}
 use Rattle.rv_accounts.specs.Followed.{TextFollowed}
-use Rattle.rv_accounts.proofs.Growing.{others_stay}
-use Rattle.rv_accounts.proofs.Staying.{not_mine}
-use Rattle.rv_port.specs.Held.{Owns}
+use Rattle.rv_accounts.specs.Seen.{asked_at}
+use Rattle.rv_accounts.proofs.FollowedLater.{longer}
 use Rattle.rv_port.specs.Traces.{Passing, limits_in}
 
 -- What asks is told Full each time
@@ -56,11 +55,11 @@ each_full (asking p go) [] q r behind e = (sym (ap (answer_in r) e), ap (λ (l :
 each_full (asking p go) (x ∷ before) q r behind e = each_full (go Full) before q r behind (ap rest_of e)
 
 -- So it is followed: it asked nothing that has an entry.
-pub worn_follows : (v w : Passing) (budget : ℕ) → Owns v → v.base ≡ [] → BodiesFit v.seen → IsWorn v w → v.own ≡ [] → is_some (task_of (bodies_at v.seen) v.actor) ≡ true
+pub worn_follows : (v w : Passing) (budget : ℕ) → BodiesFit v.seen → IsWorn v w → is_some (task_of (bodies_at v.seen) v.actor) ≡ true
     → TextFollowed (limits_in w.about) w.actor budget w.left v.seen w.seen
-worn_follows v w budget owns base fit worn none task =
+worn_follows v w budget fit worn task =
     let what = task_run (bodies_at v.seen) v.actor budget in
-    let nothing : mine by v.actor v.seen ≡ [] = owns ∙ (λ i. base i ++ none i) in
+    let first : Trace = asked_at (limits_in v.about) v.actor v.seen in
     subst (λ (z : Passing). TextFollowed (limits_in z.about) z.actor budget z.left v.seen z.seen) (sym worn.1) record {
       began = v.seen;
       later = starts_self v.seen;
@@ -70,7 +69,7 @@ worn_follows v w budget owns base fit worn none task =
       trace = full_trace what;
       exit = full_end what;
       along = along_full what;
-      entries = others_stay (limits_in v.about) v.actor [] v.seen (v.seen, refl) nothing ∙ sym (none_recorded what);
-      due = λ before after q word e. absurd (not_mine v.actor q word before after (sym (ap (λ (l : List Event). mine by v.actor l) e) ∙ nothing));
+      entries = sym (ap (λ (l : Trace). first ++ l) (none_recorded what) ∙ append-nil first);
+      due = λ before after q word from e. absurd (longer v.seen before after (Asks v.actor q word) from e);
       each = λ before q r behind e. let t = each_full what before q r behind e in inr (inr (t.0, worn.0, t.1));
     }

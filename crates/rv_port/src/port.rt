@@ -61,18 +61,15 @@ impl Drop for Port {
     }
 }
 
-/// A port that is done. Contracts see of it what they saw of the port.
+/// A port that is done. Contracts see of it what they saw of the port. It keeps the port's stack, so that a task whose unit is
+/// restarted goes on without memory being taken (`Control::port_again`).
 pub struct Finished {
-    pub(crate) pass: OwnPass,
-    is_refused: bool,
+    pub(crate) asker: Asker,
 }
 
 impl Model for Finished {
     ghost use Rattle.std.specs.Coded.{codes};
     ghost use Rattle.rv_behind.specs.contracts.event.Event as e;
-    ghost use Rattle.std.specs.Prelude.{◌≡◌, ◌++◌, [], true, false, is_some};
-    ghost use Rattle.rv_turn.specs.Histories.{mine};
-    ghost use Rattle.rv_behind.specs.Events.{by};
     ghost use Rattle.rv_port.specs.Ends.{ExplainedUnless};
     ghost use Rattle.rv_port.specs.Ports.{Porting, porting};
 
@@ -80,18 +77,15 @@ impl Model for Finished {
 
     ghost coded = { Prim.hlevel (codes, e.the_row.coded) };
 
-    ghost view = { λ f. porting f.pass f.is_refused };
+    ghost view = { λ f. porting f.asker.pass f.asker.is_refused };
 
-    ghost invariant = { λ f. (f.pass.first ≡ false) × (is_some f.pass.about ≡ true) × (f.pass.base ≡ []) × (mine by f.pass.actor f.pass.seen ≡ f.pass.own) × ExplainedUnless f.is_refused f.pass };
+    ghost invariant = { λ f. ExplainedUnless f.asker.is_refused f.asker.pass };
 }
 
 impl Drop for Finished {
     // A function of its own, as a port's.
     fn drop(self) {
-        let Finished {
-            pass: _,
-            is_refused: _,
-        } = self;
+        let Finished { asker: _ } = self;
     }
 }
 
@@ -101,18 +95,31 @@ impl Finished {
         ensures same { result ≡ pass_of self }
         ensures given { (result.first ≡ false) × (result.base ≡ []) }
     {
-        let Finished {
+        let Finished { asker } = self;
+        let Asker {
             pass,
+            bell: _,
             is_refused: _,
-        } = self;
+            held: _,
+            course: _,
+            stack: _,
+        } = asker;
         pass.into_pass()
+    }
+
+    // The port that it was.
+    pub(crate) fn into_port(self) -> Port
+        ensures { result ≡ self }
+    {
+        let Finished { asker } = self;
+        Port { asker }
     }
 
     /// Whose port it was.
     pub fn actor(&self) -> u64
         ensures { result ≡ self.now.actor }
     {
-        self.pass.actor()
+        self.asker.pass.actor()
     }
 
     /// Does nothing. Its clauses say what every port that is done keeps: each end of its actor is
@@ -121,14 +128,14 @@ impl Finished {
         ensures keeps { IsPorts (pass_of self.now) }
         ensures explained { IsExplained self.now }
     {
-        let _ = &self.pass;
+        let _ = &self.asker;
     }
 
     /// Whether a body was ever left alone because there were too many holders of the bodies, or no stack for their run.
     pub fn is_refused(&self) -> bool
         ensures { result ≡ self.now.refused }
     {
-        self.is_refused
+        self.asker.is_refused
     }
 }
 

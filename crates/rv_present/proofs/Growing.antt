@@ -10,12 +10,12 @@ use Rattle.rv_object.specs.declared.action.Action.TheVariants.{Shared, Exclusive
 use Rattle.rv_shape.specs.Shape.{Shape}
 use Rattle.rv_shape.specs.Catalogue.{UnitObject, all_objects, ceiling_at, initial, place, shares, starts_at, target}
 use Rattle.rv_shape.proofs.Stay.{object_stays, objects_append}
-use Rattle.rv_event.specs.Past.{innermost, scalars, scalars_after, under_way, unsettled, writes}
+use Rattle.rv_event.specs.Past.{innermost, scalars, scalars_after, under_way, unsettled, writes, renews_object}
 use Rattle.rv_event.specs.declared.entry.Body.{Body}
 use Rattle.rv_event.specs.declared.entry.Entry.{Entry}
 use Rattle.rv_event.specs.declared.entry.Entry.TheVariants.{Asked, Load, ListChange}
 use Rattle.rv_event.specs.declared.entry.Request.{Request}
-use Rattle.rv_event.specs.declared.entry.Request.TheVariants.{Call, Complete, Settle, Resume, DelayUntil, Clock, Fire, Quit, Tick, Halt, Archive}
+use Rattle.rv_event.specs.declared.entry.Request.TheVariants.{Call, Complete, Settle, Resume, DelayUntil, Clock, Fire, Quit, Tick, Halt, Archive, Restart}
 use Rattle.rv_event.specs.declared.entry.Recorded.{Recorded}
 use Rattle.rv_event.proofs.Matching.{by}
 use Rattle.rv_history.specs.declared.limits.Limits.{Limits}
@@ -35,6 +35,8 @@ use Rattle.rv_present.specs.Loads.{AreRenewed, HasGrown}
 use Rattle.rv_present.specs.Unsettled.{AreUnsettled, IsPlaced, Leavers, counted}
 use Rattle.rv_present.specs.declared.present.Present.{Present}
 use Rattle.rv_present.proofs.UnderWay.{each_inner}
+use Rattle.rv_event.specs.declared.entry.Recorded.TheVariants.{Accepted}
+use Rattle.rv_history.proofs.Restarts.{stance_loaded}
 
 held_grows : (old more : List Shape) (b : Body) → IsProtected old b → held_of (old ++ more) b ≡ held_of old b
 held_grows old more b p =
@@ -72,23 +74,31 @@ unwritten old more o a bs all none = by_body (slice_get (filter (by a) bs) 0) re
     by_body None is = refl
     by_body (Some b) is = by_test b (b.object == o) refl (each_inner (IsProtected old) a b bs is all)
 
-fresh_after : (h : History) (more : List Shape) (o : ℕ) (a : ℕ) (r : Request) (w : Recorded) → Legal h → place h.shapes o ≡ None →
+fresh_after : (h : History) (more : List Shape) (o : ℕ) (a : ℕ) (r : Request) (w : Recorded) → Legal h → place h.shapes o ≡ None → renews_object (h.shapes ++ more) o (Asked a r w) ≡ false →
     scalars_after (h.shapes ++ more) o h.past (Asked a r w) (scalars (h.shapes ++ more) o h.past) ≡ scalars (h.shapes ++ more) o h.past
-fresh_after h more o a (Complete vs x) w l none =
+fresh_after h more o a (Complete vs x) w l none calm =
     let ways : innermost (h.shapes ++ more) a h.past ≡ innermost h.shapes a h.past = ap (λ bs. slice_get (filter (by a) bs) 0) (under_way_stays h more l) in
     let test : writes (h.shapes ++ more) o (innermost (h.shapes ++ more) a h.past) ≡ false =
     ap (writes (h.shapes ++ more) o) ways ∙ unwritten h.shapes more o a (under_way h.shapes h.past) (legal_orderly_at h l).bodies none in
     ap (λ t. if t then vs else scalars (h.shapes ++ more) o h.past) test
-fresh_after h more o a (Call p q vs) w l none = refl
-fresh_after h more o a Settle w l none = refl
-fresh_after h more o a Resume w l none = refl
-fresh_after h more o a (DelayUntil t) w l none = refl
-fresh_after h more o a Clock w l none = refl
-fresh_after h more o a Fire w l none = refl
-fresh_after h more o a Quit w l none = refl
-fresh_after h more o a (Tick n) w l none = refl
-fresh_after h more o a Halt w l none = refl
-fresh_after h more o a (Archive n) w l none = refl
+fresh_after h more o a (Call p q vs) w l none calm = refl
+fresh_after h more o a Settle w l none calm = refl
+fresh_after h more o a Resume w l none calm = refl
+fresh_after h more o a (DelayUntil t) w l none calm = refl
+fresh_after h more o a Clock w l none calm = refl
+fresh_after h more o a Fire w l none calm = refl
+fresh_after h more o a Quit w l none calm = refl
+fresh_after h more o a (Tick n) w l none calm = refl
+fresh_after h more o a Halt w l none calm = refl
+fresh_after h more o a (Archive n) w l none calm = refl
+fresh_after h more o a (Restart u) (Accepted v) l none calm = ap (λ b. if b then initial (h.shapes ++ more) o else scalars (h.shapes ++ more) o h.past) calm
+fresh_after h more o a (Restart u) w l none calm = refl
+
+-- an object of a unit that is restarted has its initial scalars
+renewed_scalars : (shapes : List Shape) (o : ℕ) (past : List Entry) (a : ℕ) (r : Request) (w : Recorded) → renews_object shapes o (Asked a r w) ≡ true → scalars shapes o (Asked a r w ∷ past) ≡ initial shapes o
+renewed_scalars shapes o past a (Restart u) (Accepted v) renews = ap (λ b. if b then initial shapes o else scalars shapes o past) renews
+renewed_scalars shapes o past a (Restart u) w renews = absurd (cc)
+renewed_scalars shapes o past a r w renews = absurd (cc)
 
 none_before : (old more : List Shape) (o : ℕ) → place (old ++ more) o ≡ None → place old o ≡ None
 none_before old more o none = by_place (place old o) refl
@@ -99,8 +109,11 @@ none_before old more o none = by_place (place old o) refl
 
 fresh : (c : Limits) (past : List Entry) (shapes more : List Shape) (lists : List (List Words)) (o : ℕ) → IsLegal c past shapes lists → place shapes o ≡ None → scalars (shapes ++ more) o past ≡ initial (shapes ++ more) o
 fresh c [] shapes more lists o l none = refl
-fresh c (Asked a r w ∷ past) shapes more lists o l none =
-    fresh_after (record { limits = c; past = past; shapes = shapes; lists = lists }) more o a r w l.0 none ∙ fresh c past shapes more lists o l.0 none
+fresh c (Asked a r w ∷ past) shapes more lists o l none = by_renewal (renews_object (shapes ++ more) o (Asked a r w)) refl (fresh c past shapes more lists o l.0 none)
+  where
+    by_renewal : (b : Bool) → renews_object (shapes ++ more) o (Asked a r w) ≡ b → scalars (shapes ++ more) o past ≡ initial (shapes ++ more) o → scalars (shapes ++ more) o (Asked a r w ∷ past) ≡ initial (shapes ++ more) o
+    by_renewal true renews before = renewed_scalars (shapes ++ more) o past a r w renews
+    by_renewal false calm before = fresh_after (record { limits = c; past = past; shapes = shapes; lists = lists }) more o a r w l.0 none calm ∙ before
 fresh c (Load ∷ past) shapes more lists o l none =
     let all : shapes ++ more ≡ l.0 ++ (l.1 ∷ more) = ap (λ (ss : List Shape). ss ++ more) l.2 ∙ append_assoc l.0 (l.1 ∷ []) more in
     ap (λ (ss : List Shape). scalars ss o past) all
@@ -247,7 +260,7 @@ grown h more p q l k g =
           (grown_unsettled h.shapes more (unsettled h.shapes h.past) p.unsettled p.bodies.objects q.bodies.objects k.leavers_placed k.unsettled_are renewed));
       leavers_placed = subst (Each (IsPlaced shapes)) (sym (left_stays h.limits h.past h.shapes more h.lists l)) (placed_more h.shapes more (unsettled h.shapes h.past) k.leavers_placed);
       scalars_are = grown_scalars h more p.bodies.objects q.bodies.objects l k.scalars_are renewed;
-      stances_are = λ a. ap (λ ss. get_or ss a Free) g.stances_are ∙ k.stances_are a;
+      stances_are = λ a. ap (λ ss. get_or ss a Free) g.stances_are ∙ k.stances_are a ∙ sym (stance_loaded h.limits h.past h.shapes more h.lists a l);
       calls_are = λ a. ap (λ cs. get_or cs a None) g.calls_are ∙ k.calls_are a;
       counts_are = subst (AreCounts h.past) (sym g.counts_are) k.counts_are;
       actors_are = g.actors_are;

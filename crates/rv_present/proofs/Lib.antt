@@ -13,6 +13,7 @@ pub mod Leaving
 -- Stances and what is owed, queued calls
 pub mod Owing
 pub mod Noting
+pub mod Anew
 pub mod Calling
 -- No entries
 pub mod Empty

@@ -27,9 +27,9 @@ one_more old shape =
     omega (arith, all, ends, own)
 
 pub owed_loaded : (h : History) (shape : Shape) → Legal h →
-    owed (h.shapes ++ shape ∷ []) (Load ∷ h.past) ≡ length (under_way h.shapes h.past) + length (unsettled h.shapes h.past) + each (actors h.shapes + length shape.tasks) (dues (Load ∷ h.past)) + halt_due (halted (Load ∷ h.past))
+    owed (h.shapes ++ shape ∷ []) (Load ∷ h.past) ≡ length (under_way h.shapes h.past) + length (unsettled h.shapes h.past) + each (actors h.shapes + length shape.tasks) (dues (h.shapes ++ shape ∷ []) (Load ∷ h.past)) + halt_due (halted (Load ∷ h.past))
 owed_loaded h shape l =
     let way = under_way_stays h (shape ∷ []) l in
     let left = left_stays h.limits h.past h.shapes (shape ∷ []) h.lists l in
     let n = one_more h.shapes shape in
-    λ i. length (way i) + length (left i) + each (n i) (dues (Load ∷ h.past)) + halt_due (halted (Load ∷ h.past))
+    λ i. length (way i) + length (left i) + each (n i) (dues (h.shapes ++ shape ∷ []) (Load ∷ h.past)) + halt_due (halted (Load ∷ h.past))

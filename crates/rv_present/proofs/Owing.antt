@@ -12,6 +12,7 @@ use Rattle.rv_history.proofs.Sums.{each_change, each_same}
 use Rattle.rv_history.proofs.Stances.{same_number}
 use Rattle.rv_present.specs.Stances.{AreStances, due_at, due_by, dues_by}
 use Rattle.rv_present.proofs.Arrays.{set_at}
+use Rattle.rv_shape.specs.Shape.{Shape}
 
 due_some : (s : Stance) (low : Bool) → surcharge s + (if low then 0 else unfinished s) ≤ 3
 due_some Free true = omega arith
@@ -67,8 +68,8 @@ pub set_one : (ss : List Stance) (a j : ℕ) (s : Stance) → j < length ss → 
 set_one ss a j s less = set_at ss a j s (λ same. less)
 
 -- what they owe by their stances is what they owe after the past
-pub dues_are : (past : List Entry) (ss : List Stance) (n : ℕ) → AreStances past ss → dues_by ss n ≡ each n (dues past)
-dues_are past ss n are = each_same n (due_by ss) (dues past) (λ j less. ap (due_at j) (are j))
+pub dues_are : (shapes : List Shape) (past : List Entry) (ss : List Stance) (n : ℕ) → AreStances shapes past ss → dues_by ss n ≡ each n (dues shapes past)
+dues_are shapes past ss n are = each_same n (due_by ss) (dues shapes past) (λ j less. ap (due_at j) (are j))
 
 -- a sum in which one number takes the place of another
 pub swapped : (sum was becomes after : ℕ) → after + was ≡ sum + becomes → was ≤ sum → sum - was + becomes ≡ after

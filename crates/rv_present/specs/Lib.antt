@@ -4,8 +4,9 @@ pub mod Ends
 pub mod Bodies
 pub mod Unsettled
 pub mod Known
-pub mod Stances
 pub mod Calls
 pub mod Counts
 pub mod Loads
+pub mod Restarts
+pub mod Stances
 pub mod Present

@@ -38,7 +38,7 @@ pub record IsPresent (shapes : List Shape) (past : List Entry) (present : Presen
   pub unsettled_are : AreUnsettled (unsettled shapes past) present.unsettled present.bodies.objects
   pub leavers_placed : Each (IsPlaced shapes) (unsettled shapes past)
   pub scalars_are : AreScalars shapes past present.bodies.objects
-  pub stances_are : AreStances past present.stances.stances
+  pub stances_are : AreStances shapes past present.stances.stances
   pub calls_are : AreCalls past present.calls
   pub counts_are : AreCounts past present.counts
   pub actors_are : present.stances.actors ≡ actors shapes
@@ -70,7 +70,7 @@ pub record Stands (shapes : List Shape) (present : Present) : Type 0 where
 pub record IsChange (shapes : List Shape) (past : List Entry) (entry : Entry) (change : Change) : Type 0 where
   pub start_is : change.start ≡ started shapes past entry
   pub leaver_is : change.leaver ≡ leaver shapes past entry
-  pub dues_are : change.dues ≡ each (actors shapes) (dues (entry ∷ past))
+  pub dues_are : change.dues ≡ each (actors shapes) (dues shapes (entry ∷ past))
 
 -- the entry is the next of a legal history of a capacity that hosts have
 pub record ComesNext (shapes : List Shape) (entry : Entry) (present : Present) : Type 0 where

@@ -1,7 +1,8 @@
 -- What each actor is at, and what all owe by it (own).
 use Rattle.std.specs.Prelude.{◌≡◌, ℕ, ◌+◌, nat_lt, if◌then◌else◌, List, slice_index_or, slice_set}
 use Rattle.rv_shape.specs.Catalogue.{first_task}
-use Rattle.rv_event.specs.Past.{stance, stance_of, next_of}
+use Rattle.rv_shape.specs.Shape.{Shape}
+use Rattle.rv_event.specs.Past.{next_of, restarts, stance, stance_of}
 use Rattle.rv_event.specs.declared.entry.Entry.{Entry}
 use Rattle.rv_event.specs.declared.entry.Entry.TheVariants.{Asked, Load, ListChange}
 use Rattle.rv_event.specs.declared.entry.Next.{Next}
@@ -9,10 +10,11 @@ use Rattle.rv_event.specs.declared.entry.Next.TheVariants.{Nothing, HandedTo, Dr
 use Rattle.rv_event.specs.declared.entry.Stance.{Stance}
 use Rattle.rv_event.specs.declared.entry.Stance.TheVariants.{Free, HandedOver, DroppedBy}
 use Rattle.rv_history.specs.Owed.{surcharge, unfinished, each}
+use Rattle.rv_present.specs.Restarts.{renewed}
 
 -- the stance of each actor
-abbrev pub AreStances : List Entry → List Stance → Type 0
-AreStances past stances = (actor : ℕ) → slice_index_or stances actor Free ≡ stance actor past
+abbrev pub AreStances : List Shape → List Entry → List Stance → Type 0
+AreStances shapes past stances = (actor : ℕ) → slice_index_or stances actor Free ≡ stance shapes actor past
 
 -- the stances, by the actors' numbers, and how many actors there are
 pub record Standing : Type 0 where
@@ -38,8 +40,9 @@ settled (HandedTo actor) stances = slice_set stances actor HandedOver
 settled (Dropped actor line) stances = slice_set stances actor (DroppedBy line)
 
 -- the stances after one more entry
-abbrev pub noted : Entry → List Stance → List Stance
-noted (Asked actor request answer) stances =
-    settled (next_of (Asked actor request answer)) (slice_set stances actor (stance_of (Asked actor request answer)))
-noted Load stances = stances
-noted ListChange stances = stances
+abbrev pub noted : List Shape → Entry → List Stance → List Stance
+noted shapes (Asked actor request answer) stances =
+    renewed shapes (restarts (Asked actor request answer)) 0
+    (settled (next_of (Asked actor request answer)) (slice_set stances actor (stance_of (Asked actor request answer))))
+noted shapes Load stances = stances
+noted shapes ListChange stances = stances

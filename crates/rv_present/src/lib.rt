@@ -14,4 +14,5 @@ mod stacks;
 mod stances;
 mod unsettled;
 
+pub use new_objects::initial_of;
 pub use present::{Change, Present};

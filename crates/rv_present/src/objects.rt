@@ -110,6 +110,15 @@ impl Objects {
         self.items[object] = Object::new(scalars);
     }
 
+    /// An object has its first scalars again; who is in it stays so.
+    pub fn renew(&mut self, object: usize, scalars: Scalars)
+        requires { object < length self.old }
+        ensures { self.new
+            ≡ slice_set self.old object (record (slice_index_or self.old object idle) { scalars = scalars }) }
+    {
+        self.items[object].renew(scalars);
+    }
+
     /// An end leaves an object unsettled, which nobody is in.
     pub fn unsettle(&mut self, object: usize)
         requires known { object < length self.old }

@@ -1,18 +1,21 @@
 //! What each actor is at, and what all owe by it.
 
-ghost use Rattle.std.specs.Prelude.{◌≡◌, ◌<◌, ◌≤◌, ◌+◌, ◌*◌, length, replicate, slice_index_or, slice_set, IfOk};
+ghost use Rattle.std.specs.Prelude.{◌≡◌, ◌<◌, ◌≤◌, ◌+◌, ◌*◌, Some, length, replicate, slice_index_or, slice_set, IfOk};
 ghost use Rattle.rv_event.specs.Lent.{whole};
 ghost use Rattle.rv_event.specs.declared.entry.Stance.{Stance};
 ghost use Rattle.rv_history.specs.Owed as owed;
 ghost use Rattle.rv_present.specs.Known.{AreBelow, IsNamedBelow};
 ghost use Rattle.rv_present.specs.Limits.{most_actors};
 ghost use Rattle.rv_present.specs.Stances.{due_at, dues_by, noted, settled};
+ghost use Rattle.rv_present.specs.Restarts.{renewed, renewed_at};
 ghost use Rattle.rv_shape.specs.Catalogue.{first_task};
+ghost use Rattle.rv_shape.specs.Units.{is_unit, task_unit};
 
 use crate::stacks::MOST_ACTORS;
-use rv_event::entry::{EntryRef, Next, Stance};
-use rv_event::one_entry::{next_of, stance_of};
+use rv_event::entry::{EntryRef, Next, Recorded, Request, Stance};
+use rv_event::one_entry::{next_of, restarts, stance_of};
 use rv_shape::actor::FIRST_TASK;
+use rv_shape::catalogue::Catalogue;
 use std::alloc::{AllocError, Global};
 use std::marker::Model;
 
@@ -68,6 +71,40 @@ fn dues_by(stances: &[Stance], actors: usize) -> usize
         dues += due_at(actor, stances[actor]);
     }
     dues
+}
+
+// Whether an actor is a task of a unit.
+fn is_of(catalogue: &Catalogue, actor: usize, unit: usize) -> bool
+    ensures { result ≡ is_unit unit (task_unit catalogue.now actor) }
+{
+    match catalogue.unit_of_task(actor) {
+        Some(of) => of == unit,
+        None => false,
+    }
+}
+
+// What an actor is at once a unit was restarted (own).
+fn renewed_at(catalogue: &Catalogue, unit: usize, actor: usize, before: Stance) -> Stance
+    ensures { result ≡ renewed_at catalogue.now (Some unit) actor before }
+{
+    if is_of(catalogue, actor, unit) {
+        Stance::Free
+    } else {
+        before
+    }
+}
+
+// What each is at once a unit was restarted, if one was (own).
+#[tactic(auto, using(crate::proofs::Noting::renewed_none, crate::proofs::Anew::none_renewed, crate::proofs::Anew::one_renewed, crate::proofs::Anew::all_renewed))]
+fn renew(stances: &mut Vec<Stance>, catalogue: &Catalogue, unit: Option<usize>)
+    ensures { stances.new.items ≡ renewed catalogue.now unit 0 stances.old.items }
+{
+    let Some(unit) = unit else {
+        return;
+    };
+    for actor in 0..stances.len() {
+        stances[actor] = renewed_at(catalogue, unit, actor, stances[actor]);
+    }
 }
 
 // What an entry does to a queue.
@@ -206,14 +243,31 @@ impl Stances {
         dues - due_at(named, was) + due_at(named, becomes)
     }
 
+    // What all would owe if one waited for nothing, and then a unit were restarted (own).
+    #[tactic(auto, using(crate::proofs::Noting::renewed_first))]
+    fn dues_restarted(&self, catalogue: &Catalogue, actor: usize, unit: usize) -> usize
+        ensures { result ≡ dues_by
+            (renewed catalogue.now (Some unit) 0 (slice_set self.now.stances actor Stance.Free)) self.now.actors }
+    {
+        let mut dues: usize = 0;
+        for other in 0..self.actors {
+            let before = self.of_with(actor, Stance::Free, other);
+            dues += due_at(other, renewed_at(catalogue, unit, other, before));
+        }
+        dues
+    }
+
     /// What all would owe after one more entry.
     #[inline(always)]
-    pub fn dues_after(&self, entry: &EntryRef) -> usize
-        ensures { result ≡ dues_by (noted (whole entry.now) self.now.stances) self.now.actors }
+    pub fn dues_after(&self, catalogue: &Catalogue, entry: &EntryRef) -> usize
+        ensures { result ≡ dues_by (noted catalogue.now (whole entry.now) self.now.stances) self.now.actors }
     {
         let EntryRef::Asked(actor, _, _) = *entry else {
             return self.dues;
         };
+        if let EntryRef::Asked(_, Request::Restart(unit), Recorded::Accepted(_)) = *entry {
+            return self.dues_restarted(catalogue, actor, *unit);
+        }
         match next_of(entry) {
             Next::Nothing => self.dues_with(actor, stance_of(entry)),
             Next::HandedTo(named) => self.dues_with_both(
@@ -256,16 +310,17 @@ impl Stances {
     }
 
     /// One more entry, and what all owe after it.
-    pub fn note(&mut self, entry: &EntryRef, dues: usize)
+    pub fn note(&mut self, catalogue: &Catalogue, entry: &EntryRef, dues: usize)
         requires below { AreBelow most_actors (whole entry.now) }
-        requires dues { dues ≡ dues_by (noted (whole entry.now) self.old.stances) self.old.actors }
-        ensures { self.new ≡ record self.old { stances = noted (whole entry.now) self.old.stances } }
+        requires dues { dues ≡ dues_by (noted catalogue.now (whole entry.now) self.old.stances) self.old.actors }
+        ensures { self.new ≡ record self.old { stances = noted catalogue.now (whole entry.now) self.old.stances } }
     {
         let EntryRef::Asked(actor, _, _) = *entry else {
             return;
         };
         self.items[actor] = stance_of(entry);
         settle(&mut self.items, next_of(entry));
+        renew(&mut self.items, catalogue, restarts(entry));
         self.dues = dues;
     }
 }

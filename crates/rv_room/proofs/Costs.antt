@@ -1,9 +1,12 @@
 -- What an entry costs: one, and the change of what is owed.
-use Rattle.std.proofs.Common.{◌≡◌, ◌∙◌, ℕ, ℤ, ◌+◌, ◌-◌, ◌≤◌, List, ◌∷◌, length, Option, Some, None, Bool, true, false, arith, ap, refl}
-use Rattle.std.specs.Prelude.{nat_lt}
-use Rattle.rv_shape.specs.Catalogue.{handler, target, who}
-use Rattle.rv_event.specs.Past.{archived, begun, fired, halted, held, innermost, mode, next_of, stance, stance_of, to_settle, under_way, unsettled}
+use Rattle.std.proofs.Common.{◌≡◌, ◌∙◌, ℕ, ℤ, ◌+◌, ◌-◌, ◌≤◌, List, ◌∷◌, length, Option, Some, None, Bool, true, false, arith, ap, sym, refl}
+use Rattle.std.specs.Prelude.{is_some, nat_lt, pos, if◌then◌else◌}
+use Rattle.rv_shape.specs.Catalogue.{handler, numbered, target, who}
+use Rattle.rv_shape.specs.Shape.{Shape}
+use Rattle.rv_shape.specs.Units.{is_loaded}
+use Rattle.rv_event.specs.Past.{archived, begun, fired, halted, held, innermost, mode, next_of, renews_task, stance, stance_of, to_settle, under_way, unsettled}
 use Rattle.rv_event.specs.Recorded.{recorded}
+use Rattle.rv_event.specs.declared.entry.Answer.TheVariants.{Busy}
 use Rattle.rv_event.specs.declared.entry.Body.{Body}
 use Rattle.rv_event.specs.declared.entry.Entry.TheVariants.{Asked}
 use Rattle.rv_event.specs.declared.entry.Exit.{Exit}
@@ -11,25 +14,29 @@ use Rattle.rv_event.specs.declared.entry.Next.TheVariants.{Nothing}
 use Rattle.rv_event.specs.declared.entry.Recorded.{Recorded}
 use Rattle.rv_event.specs.declared.entry.Recorded.TheVariants.{Started, Queued, Refused, Done, Suspended, Delayed, Woken, Accepted}
 use Rattle.rv_event.specs.declared.entry.Request.{Request}
-use Rattle.rv_event.specs.declared.entry.Request.TheVariants.{Call, Complete, Settle, Resume, DelayUntil, Clock, Fire, Quit, Tick, Halt, Archive}
+use Rattle.rv_event.specs.declared.entry.Request.TheVariants.{Call, Complete, Settle, Resume, DelayUntil, Clock, Fire, Quit, Tick, Halt, Archive, Restart}
 use Rattle.rv_event.specs.declared.entry.Stance.{Stance}
 use Rattle.rv_event.specs.declared.entry.Stance.TheVariants.{Free, InQueue, HandedOver, DroppedBy, WaitsOn, WaitsUntil, Gone}
-use Rattle.rv_history.specs.Due.{due, enough, out}
+use Rattle.rv_history.specs.Due.{due, enough, nothing_more, out}
 use Rattle.rv_history.specs.Fitting.{call_fits, is_archive, is_operator, is_tick, is_time, may_call}
 use Rattle.rv_history.specs.HandOver.{serves}
 use Rattle.rv_history.specs.History.{History}
+use Rattle.rv_history.specs.InUse.{in_use}
 use Rattle.rv_history.specs.Legal.{Legal}
 use Rattle.rv_history.specs.Owed.{IsSolvent, actors, halt_due, has_room, owed, surcharge}
-use Rattle.rv_history.proofs.Answered.{answered, both, within_recorded}
+use Rattle.rv_history.proofs.Answered.{answered, both, off, within_recorded, word_is}
 use Rattle.rv_history.proofs.Archived.{few_archived}
 use Rattle.rv_history.proofs.Costs.{halt_paid, operator_is}
 use Rattle.rv_history.proofs.Done.{done_serves}
+use Rattle.rv_history.proofs.Ends.{pays_end, pays_settle}
 use Rattle.rv_history.proofs.Modes.{unfit}
 use Rattle.rv_history.proofs.Pays.{dues_by, each_own, quit_never_full, resume_never_full}
+use Rattle.rv_history.proofs.Renewing.{restart_owed}
+use Rattle.rv_history.proofs.Restarts.{Unused, unused}
 use Rattle.rv_history.proofs.Room.{from_room}
 use Rattle.rv_history.proofs.Stances.{below}
 use Rattle.rv_history.proofs.Standing.{ender_free, legal_standing, legal_waits}
-use Rattle.rv_room.proofs.Ends.{pays_end, pays_settle}
+use Rattle.rv_room.specs.Room.{count_tasks}
 use Rattle.rv_room.proofs.Payers.{caller_free, firing_free}
 
 -- What pays for itself, by a history without any room left
@@ -106,13 +113,13 @@ dearer Gone false = omega arith
 abbrev bodies : History → ℕ → Request → Recorded → ℕ
 bodies h a r w = length (under_way h.shapes (Asked a r w ∷ h.past)) + length (unsettled h.shapes (Asked a r w ∷ h.past))
 
-alone : (h : History) (a : ℕ) (r : Request) (w : Recorded) → next_of (Asked a r w) ≡ Nothing → nat_lt a (actors h.shapes) ≡ true → stance a h.past ≡ Free
+alone : (h : History) (a : ℕ) (r : Request) (w : Recorded) → next_of (Asked a r w) ≡ Nothing → ((j : ℕ) → renews_task h.shapes j (Asked a r w) ≡ false) → nat_lt a (actors h.shapes) ≡ true → stance h.shapes a h.past ≡ Free
     → halted (Asked a r w ∷ h.past) ≡ halted h.past
     → bodies h a r w + surcharge (stance_of (Asked a r w)) ≤ length (under_way h.shapes h.past) + length (unsettled h.shapes h.past) + 2
     → owed h.shapes (Asked a r w ∷ h.past) ≤ owed h.shapes h.past + 2
-alone h a r w none known free going few =
-    let own = each_own (actors h.shapes) a r w h.past none (below a (actors h.shapes) known) in
-    let was : dues_by (stance a h.past) (nat_lt a 11) ≡ dues_by Free (nat_lt a 11) = ap (λ s. dues_by s (nat_lt a 11)) free in
+alone h a r w none calm known free going few =
+    let own = each_own h.shapes (actors h.shapes) a r w h.past none calm (below a (actors h.shapes) known) in
+    let was : dues_by (stance h.shapes a h.past) (nat_lt a 11) ≡ dues_by Free (nat_lt a 11) = ap (λ s. dues_by s (nat_lt a 11)) free in
     let halts : halt_due (halted (Asked a r w ∷ h.past)) ≡ halt_due (halted h.past) = ap halt_due going in
     let dear = dearer (stance_of (Asked a r w)) (nat_lt a 11) in
     omega (arith, own, was, halts, few, dear)
@@ -133,7 +140,7 @@ pub call_cost : (h : History) (a o p : ℕ) (vs : List ℤ) (w : Recorded) → r
 call_cost h a o p vs w e =
     let g = answered h a (Call o p vs) w e in
     let may = (both (may_call (who h.shapes a) (mode h.shapes a h.past)) (call_fits (length (held h.shapes a h.past)) vs (target h.shapes o p)) g.fits_in).0 in
-    alone h a (Call o p vs) w (no_done h a (Call o p vs) w refl e) g.known (caller_free h a may) refl (calls h a o p vs w e)
+    alone h a (Call o p vs) w (no_done h a (Call o p vs) w refl e) (λ j. refl) g.known (caller_free h a may) refl (calls h a o p vs w e)
 
 delays : (h : History) (a : ℕ) (t : ℤ) (w : Recorded)
     → bodies h a (DelayUntil t) w + surcharge (stance_of (Asked a (DelayUntil t) w)) ≤ length (under_way h.shapes h.past) + length (unsettled h.shapes h.past) + 2
@@ -151,12 +158,12 @@ pub delay_cost : (h : History) (a : ℕ) (t : ℤ) (w : Recorded) → recorded (
 delay_cost h a t w e =
     let g = answered h a (DelayUntil t) w e in
     let may = (both (may_call (who h.shapes a) (mode h.shapes a h.past)) (is_time t) g.fits_in).0 in
-    alone h a (DelayUntil t) w (no_done h a (DelayUntil t) w refl e) g.known (caller_free h a may) refl (delays h a t w)
+    alone h a (DelayUntil t) w (no_done h a (DelayUntil t) w refl e) (λ j. refl) g.known (caller_free h a may) refl (delays h a t w)
 
 pub clock_cost : (h : History) (a : ℕ) (w : Recorded) → recorded (out h a Clock) ≡ Some w → owed h.shapes (Asked a Clock w ∷ h.past) ≤ owed h.shapes h.past + 2
 clock_cost h a w e =
     let g = answered h a Clock w e in
-    alone h a Clock w (no_done h a Clock w refl e) g.known (caller_free h a g.fits_in) refl (omega arith)
+    alone h a Clock w (no_done h a Clock w refl e) (λ j. refl) g.known (caller_free h a g.fits_in) refl (omega arith)
 
 one_more : (o : Option Body) (bs : List Body) → length (begun o bs) ≤ length bs + 1
 one_more None bs = omega arith
@@ -176,16 +183,16 @@ fires h a (Accepted value) = omega arith
 pub fire_cost : (h : History) (a : ℕ) (w : Recorded) → recorded (out h a Fire) ≡ Some w → owed h.shapes (Asked a Fire w ∷ h.past) ≤ owed h.shapes h.past + 2
 fire_cost h a w e =
     let g = answered h a Fire w e in
-    alone h a Fire w (no_done h a Fire w refl e) g.known (firing_free h a g.fits_in) refl (fires h a w)
+    alone h a Fire w (no_done h a Fire w refl e) (λ j. refl) g.known (firing_free h a g.fits_in) refl (fires h a w)
 
 -- What the operator asks
 
-asked_none : (h : History) (a : ℕ) (r : Request) (w : Recorded) → next_of (Asked a r w) ≡ Nothing → nat_lt a (actors h.shapes) ≡ true → a ≡ 0
+asked_none : (h : History) (a : ℕ) (r : Request) (w : Recorded) → next_of (Asked a r w) ≡ Nothing → ((j : ℕ) → renews_task h.shapes j (Asked a r w) ≡ false) → nat_lt a (actors h.shapes) ≡ true → a ≡ 0
     → stance_of (Asked a r w) ≡ Free → halted (Asked a r w ∷ h.past) ≡ halted h.past
     → bodies h a r w ≡ length (under_way h.shapes h.past) + length (unsettled h.shapes h.past)
     → owed h.shapes (Asked a r w ∷ h.past) ≤ owed h.shapes h.past
-asked_none h a r w none known operator free going same =
-    let own = each_own (actors h.shapes) a r w h.past none (below a (actors h.shapes) known) in
+asked_none h a r w none calm known operator free going same =
+    let own = each_own h.shapes (actors h.shapes) a r w h.past none calm (below a (actors h.shapes) known) in
     let low : nat_lt a 11 ≡ true = ap (λ n. nat_lt n 11) operator in
     let now : dues_by (stance_of (Asked a r w)) (nat_lt a 11) ≡ 0 = λ i. dues_by (free i) (low i) in
     let halts : halt_due (halted (Asked a r w ∷ h.past)) ≡ halt_due (halted h.past) = ap halt_due going in
@@ -195,10 +202,34 @@ pub tick_cost : (h : History) (a : ℕ) (n : ℤ) (w : Recorded) → recorded (o
 tick_cost h a n w e =
     let g = answered h a (Tick n) w e in
     let operator = operator_is h.shapes a (both (is_operator (who h.shapes a)) (is_tick n) g.fits_in).0 in
-    asked_none h a (Tick n) w (no_done h a (Tick n) w refl e) g.known operator refl refl refl
+    asked_none h a (Tick n) w (no_done h a (Tick n) w refl e) (λ j. refl) g.known operator refl refl refl
 
 pub archive_cost : (h : History) (a n : ℕ) (w : Recorded) → recorded (out h a (Archive n)) ≡ Some w → owed h.shapes (Asked a (Archive n) w ∷ h.past) ≤ owed h.shapes h.past
 archive_cost h a n w e =
     let g = answered h a (Archive n) w e in
     let operator = operator_is h.shapes a (both (is_operator (who h.shapes a)) (is_archive h n) g.fits_in).0 in
-    asked_none h a (Archive n) w (no_done h a (Archive n) w refl e) g.known operator refl refl refl
+    asked_none h a (Archive n) w (no_done h a (Archive n) w refl e) (λ j. refl) g.known operator refl refl refl
+
+-- a restart of a unit: its tasks
+
+accepted : (used : Bool) (w : Recorded) → recorded (if used then Busy else nothing_more) ≡ Some w → w ≡ Accepted (pos 0)
+accepted true w e = absurd (cc)
+accepted false w e = sym (word_is (Accepted (pos 0)) w e)
+
+pub restart_word : (h : History) (a u : ℕ) (w : Recorded) → recorded (out h a (Restart u)) ≡ Some w → w ≡ Accepted (pos 0)
+restart_word h a u w e = accepted (in_use h u) w (answered h a (Restart u) w e).said
+
+pub restart_cost : (h : History) (a u : ℕ) (w : Recorded) → Legal h → recorded (out h a (Restart u)) ≡ Some w
+    → owed h.shapes (Asked a (Restart u) w ∷ h.past) ≡ owed h.shapes h.past + count_tasks (numbered h.shapes u)
+restart_cost h a u w l e = by_shape (numbered h.shapes u) refl found.loaded
+  where
+    found : Unused h u
+    found = unused h a u w e
+
+    operator : a ≡ 0
+    operator = operator_is h.shapes a (both (is_operator (who h.shapes a)) (is_loaded h.shapes u) (answered h a (Restart u) w e).fits_in).0
+
+    by_shape : (o : Option Shape) → numbered h.shapes u ≡ o → is_some o ≡ true → owed h.shapes (Asked a (Restart u) w ∷ h.past) ≡ owed h.shapes h.past + count_tasks o
+    by_shape None is there = absurd (off there)
+    by_shape (Some shape) is there =
+        (λ i. owed h.shapes (Asked (operator i) (Restart u) (restart_word h a u w e i) ∷ h.past)) ∙ restart_owed h u (pos 0) shape l is found.gone

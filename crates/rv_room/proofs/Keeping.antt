@@ -1,23 +1,26 @@
 -- What is kept for the operator is there.
-use Rattle.std.proofs.Common.{◌≡◌, ◌∙◌, ℕ, zero, suc, ◌+◌, ◌-◌, ◌*◌, ◌≤◌, List, [], ◌∷◌, ◌++◌, length, Option, Some, None, Bool, true, false, arith, ap, subst, sym, refl, length-append}
-use Rattle.std.specs.Prelude.{◌==◌, is_some, nat_lt, if◌then◌else◌}
+use Rattle.std.proofs.Common.{◌≡◌, ◌∙◌, ℕ, ℤ, zero, suc, ◌+◌, ◌-◌, ◌*◌, ◌≤◌, List, [], ◌∷◌, ◌++◌, length, Option, Some, None, Bool, true, false, arith, ap, subst, sym, refl, append_assoc, length-append}
+use Rattle.std.specs.Prelude.{◌==◌, is_some, nat_lt, pos, if◌then◌else◌}
 use Rattle.std.specs.List.{filter}
 use Rattle.std.proofs.Math.Nat.{suc-mul}
 use Rattle.std.proofs.lemmas.Bool.Decides.{nat_tests}
 use Rattle.rv_access.specs.Changes.{changed}
 use Rattle.rv_access.specs.Words.{Words}
 use Rattle.rv_access.specs.declared.change.Change.{Change}
-use Rattle.rv_shape.specs.Catalogue.{all_tasks, target, who}
+use Rattle.rv_shape.specs.Catalogue.{all_tasks, numbered, target, who}
 use Rattle.rv_shape.specs.Shape.{Shape}
-use Rattle.rv_event.specs.Past.{halted, held, mode}
+use Rattle.rv_shape.specs.Units.{is_loaded}
+use Rattle.rv_shape.proofs.UnitsStay.{numbered_stays}
+use Rattle.rv_event.specs.Past.{halted, held, mode, restarts}
 use Rattle.rv_event.specs.Recorded.{recorded}
 use Rattle.rv_event.specs.declared.entry.Answer.{Answer}
 use Rattle.rv_event.specs.declared.entry.Answer.TheVariants as Answers
 use Rattle.rv_event.specs.declared.entry.Entry.{Entry}
 use Rattle.rv_event.specs.declared.entry.Entry.TheVariants.{Asked, Load, ListChange}
 use Rattle.rv_event.specs.declared.entry.Recorded.{Recorded}
+use Rattle.rv_event.specs.declared.entry.Recorded.TheVariants.{Accepted}
 use Rattle.rv_event.specs.declared.entry.Request.{Request}
-use Rattle.rv_event.specs.declared.entry.Request.TheVariants.{Call, Complete, Settle, Resume, DelayUntil, Clock, Fire, Quit, Tick, Halt, Archive}
+use Rattle.rv_event.specs.declared.entry.Request.TheVariants.{Call, Complete, Settle, Resume, DelayUntil, Clock, Fire, Quit, Tick, Halt, Archive, Restart}
 use Rattle.rv_history.specs.Allowance.{charged, is_unit, spent}
 use Rattle.rv_history.specs.Due.{gate, nothing_more, out, within}
 use Rattle.rv_history.specs.Fitting.{call_fits, is_time, may_call}
@@ -28,18 +31,19 @@ use Rattle.rv_history.specs.Steps.{Steps, after_command, due_change}
 use Rattle.rv_history.specs.declared.command.Command.{Command}
 use Rattle.rv_history.specs.declared.command.Command.TheVariants as Commands
 use Rattle.rv_history.specs.declared.limits.Limits.{Limits}
-use Rattle.rv_history.proofs.Answered.{answered, both}
+use Rattle.rv_history.proofs.Answered.{answered, both, off}
 use Rattle.rv_history.proofs.Costs.{list_costs}
 use Rattle.rv_history.proofs.Growing.{front_is}
+use Rattle.rv_history.proofs.Restarts.{unused}
 use Rattle.rv_history.proofs.Room.{legal_solvent}
 use Rattle.rv_history.proofs.Spending.{never_more}
 use Rattle.rv_history.proofs.Stepping.{steps_legal}
 use Rattle.rv_history.proofs.Sums.{each_change}
 use Rattle.rv_room.specs.Kept.{LeaveRoom, kept_after, kept_behind, takes_room}
-use Rattle.rv_room.specs.Room.{Keeps, is_operators, is_own, own}
-use Rattle.rv_room.proofs.Costs.{archive_cost, call_cost, clock_cost, delay_cost, end_cost, fire_cost, halt_cost, quit_cost, resume_cost, settle_cost, tick_cost}
+use Rattle.rv_room.specs.Room.{Keeps, anew, count_tasks, is_operators, is_own, of_restarts, of_units, own}
+use Rattle.rv_room.proofs.Costs.{archive_cost, call_cost, clock_cost, delay_cost, end_cost, fire_cost, halt_cost, quit_cost, restart_cost, restart_word, resume_cost, settle_cost, tick_cost}
 use Rattle.rv_room.proofs.Loads.{load_owed, more_tasks}
-use Rattle.rv_room.proofs.Payers.{IsOneOf, asks_pays, fire_pays}
+use Rattle.rv_room.proofs.Payers.{IsOneOf, asks_pays, fire_pays, one_of}
 
 -- What all units have spent
 
@@ -53,75 +57,129 @@ is_another : (m n : ℕ) → (n ≡ m → ⊥) → (suc m == suc n) ≡ false
 is_another m n other = grind (arith, nat_tests, other)
 
 -- what is charged to one of them
-one_more : (shapes : List Shape) (past : List Entry) (a : ℕ) (r : Request) (w : Recorded) → IsOneOf (length shapes) (charged shapes past a r)
+one_more : (shapes : List Shape) (past : List Entry) (a : ℕ) (r : Request) (w : Recorded) → restarts (Asked a r w) ≡ None → IsOneOf (length shapes) (charged shapes past a r)
     → total shapes (Asked a r w ∷ past) ≡ total shapes past + 1
-one_more shapes past a r w pays =
+one_more shapes past a r w calm pays =
     let paid = pays.2 in
     let others : (j : ℕ) → (j ≡ pays.0 → ⊥) → spent shapes (suc j) (Asked a r w ∷ past) ≡ spent shapes (suc j) past = λ j other.
-    ap (λ (u : Option ℕ). if is_unit (suc j) u then suc (spent shapes (suc j) past) else spent shapes (suc j) past) paid
+    before (suc j)
+    ∙ ap (λ (u : Option ℕ). if is_unit (suc j) u then suc (spent shapes (suc j) past) else spent shapes (suc j) past) paid
     ∙ ap (λ (b : Bool). if b then suc (spent shapes (suc j) past) else spent shapes (suc j) past) (is_another pays.0 j other) in
     let its : spent shapes (suc pays.0) (Asked a r w ∷ past) ≡ suc (spent shapes (suc pays.0) past) =
-    ap (λ (u : Option ℕ). if is_unit (suc pays.0) u then suc (spent shapes (suc pays.0) past) else spent shapes (suc pays.0) past) paid
+    before (suc pays.0)
+    ∙ ap (λ (u : Option ℕ). if is_unit (suc pays.0) u then suc (spent shapes (suc pays.0) past) else spent shapes (suc pays.0) past) paid
     ∙ ap (λ (b : Bool). if b then suc (spent shapes (suc pays.0) past) else spent shapes (suc pays.0) past) (is_itself (suc pays.0)) in
     let sums = each_change (length shapes) pays.0 (λ n. spent shapes (suc n) (Asked a r w ∷ past)) (λ n. spent shapes (suc n) past) pays.1 others in
     omega (arith, sums, its)
+  where
+    -- nothing is begun anew
+    before : (n : ℕ) → spent shapes n (Asked a r w ∷ past) ≡ (if is_unit n (charged shapes past a r) then suc (spent shapes n past) else spent shapes n past)
+    before n = ap (λ (o : Option ℕ). if is_unit n o then 0 else if is_unit n (charged shapes past a r) then suc (spent shapes n past) else spent shapes n past) calm
+
+-- a restart takes away what its unit has spent
+restart_spends : (h : History) (a u : ℕ) (v : ℤ) (quota : ℕ) → Legal h → h.limits.allowance ≡ Some quota → is_loaded h.shapes u ≡ true
+    → total h.shapes h.past ≤ total h.shapes (Asked a (Restart u) (Accepted v) ∷ h.past) + quota
+restart_spends h a u v quota l allowed loaded =
+    let one = one_of h.shapes u loaded in
+    let others : (j : ℕ) → (j ≡ one.0 → ⊥) → spent h.shapes (suc j) (Asked a (Restart u) (Accepted v) ∷ h.past) ≡ spent h.shapes (suc j) h.past = λ j other.
+    ap (λ (o : Option ℕ). if is_unit (suc j) o then 0 else spent h.shapes (suc j) h.past) one.2
+    ∙ ap (λ (b : Bool). if b then 0 else spent h.shapes (suc j) h.past) (is_another one.0 j other) in
+    let its : spent h.shapes (suc one.0) (Asked a (Restart u) (Accepted v) ∷ h.past) ≡ 0 =
+    ap (λ (o : Option ℕ). if is_unit (suc one.0) o then 0 else spent h.shapes (suc one.0) h.past) one.2
+    ∙ ap (λ (b : Bool). if b then 0 else spent h.shapes (suc one.0) h.past) (is_itself (suc one.0)) in
+    let sums =
+    each_change (length h.shapes) one.0 (λ n. spent h.shapes (suc n) (Asked a (Restart u) (Accepted v) ∷ h.past)) (λ n. spent h.shapes (suc n) h.past) one.1 others in
+    omega (arith, sums, its, never_more h (suc one.0) quota l allowed)
 
 -- What an entry of a request costs
 
--- three for what is charged, one for what the operator asks, and nothing else
-abbrev Costs : History → ℕ → Request → Recorded → Type 0
-Costs h a r w =
+-- three for what is charged, one for what the operator asks, of a unit that begins anew what comes of it, and nothing else
+abbrev Costs : ℕ → History → ℕ → Request → Recorded → Type 0
+Costs quota h a r w =
     1 + owed h.shapes (Asked a r w ∷ h.past) + 3 * total h.shapes h.past + own h.past
-    ≤ owed h.shapes h.past + 3 * total h.shapes (Asked a r w ∷ h.past) + own (Asked a r w ∷ h.past)
+    ≤ owed h.shapes h.past + 3 * total h.shapes (Asked a r w ∷ h.past) + own (Asked a r w ∷ h.past) + anew quota h.shapes (Asked a r w)
 
-charged_costs : (h : History) (a : ℕ) (r : Request) (w : Recorded) → is_operators r ≡ false → IsOneOf (length h.shapes) (charged h.shapes h.past a r)
-    → owed h.shapes (Asked a r w ∷ h.past) ≤ owed h.shapes h.past + 2 → Costs h a r w
-charged_costs h a r w other pays few =
+charged_costs : (quota : ℕ) (h : History) (a : ℕ) (r : Request) (w : Recorded) → is_operators r ≡ false → restarts (Asked a r w) ≡ None → IsOneOf (length h.shapes) (charged h.shapes h.past a r)
+    → owed h.shapes (Asked a r w ∷ h.past) ≤ owed h.shapes h.past + 2 → Costs quota h a r w
+charged_costs quota h a r w other calm pays few =
     let same : own (Asked a r w ∷ h.past) ≡ own h.past = ap (λ (b : Bool). length (if b then Asked a r w ∷ filter is_own h.past else filter is_own h.past)) other in
-    omega (arith, few, same, one_more h.shapes h.past a r w pays)
+    omega (arith, few, same, one_more h.shapes h.past a r w calm pays)
 
-costs : (h : History) (a : ℕ) (r : Request) (w : Recorded) → Legal h → recorded (out h a r) ≡ Some w → Costs h a r w
-costs h a (Call o p vs) w l e =
+costs : (quota : ℕ) (h : History) (a : ℕ) (r : Request) (w : Recorded) → h.limits.allowance ≡ Some quota → Legal h → recorded (out h a r) ≡ Some w → Costs quota h a r w
+costs quota h a (Call o p vs) w allowed l e =
     let may = (both (may_call (who h.shapes a) (mode h.shapes a h.past)) (call_fits (length (held h.shapes a h.past)) vs (target h.shapes o p)) (answered h a (Call o p vs) w e).fits_in).0 in
-    charged_costs h a (Call o p vs) w refl (asks_pays h a l may) (call_cost h a o p vs w e)
-costs h a (DelayUntil t) w l e =
+    charged_costs quota h a (Call o p vs) w refl refl (asks_pays h a l may) (call_cost h a o p vs w e)
+costs quota h a (DelayUntil t) w allowed l e =
     let may = (both (may_call (who h.shapes a) (mode h.shapes a h.past)) (is_time t) (answered h a (DelayUntil t) w e).fits_in).0 in
-    charged_costs h a (DelayUntil t) w refl (asks_pays h a l may) (delay_cost h a t w e)
-costs h a Clock w l e = charged_costs h a Clock w refl (asks_pays h a l (answered h a Clock w e).fits_in) (clock_cost h a w e)
-costs h a Fire w l e = charged_costs h a Fire w refl (fire_pays h a w e) (fire_cost h a w e)
-costs h a (Complete vs x) w l e = omega (arith, end_cost h a vs x w l e)
-costs h a Settle w l e = omega (arith, settle_cost h a w l e)
-costs h a Resume w l e = omega (arith, resume_cost h a w l e)
-costs h a Quit w l e = omega (arith, quit_cost h a w l e)
-costs h a Halt w l e = omega (arith, halt_cost h a w l e)
-costs h a (Tick n) w l e = omega (arith, tick_cost h a n w e)
-costs h a (Archive n) w l e = omega (arith, archive_cost h a n w e)
+    charged_costs quota h a (DelayUntil t) w refl refl (asks_pays h a l may) (delay_cost h a t w e)
+costs quota h a Clock w allowed l e = charged_costs quota h a Clock w refl refl (asks_pays h a l (answered h a Clock w e).fits_in) (clock_cost h a w e)
+costs quota h a Fire w allowed l e = charged_costs quota h a Fire w refl refl (fire_pays h a w e) (fire_cost h a w e)
+costs quota h a (Complete vs x) w allowed l e = omega (arith, end_cost h a vs x w l e)
+costs quota h a Settle w allowed l e = omega (arith, settle_cost h a w l e)
+costs quota h a Resume w allowed l e = omega (arith, resume_cost h a w l e)
+costs quota h a Quit w allowed l e = omega (arith, quit_cost h a w l e)
+costs quota h a Halt w allowed l e = omega (arith, halt_cost h a w l e)
+costs quota h a (Tick n) w allowed l e = omega (arith, tick_cost h a n w e)
+costs quota h a (Archive n) w allowed l e = omega (arith, archive_cost h a n w e)
+costs quota h a (Restart u) w allowed l e =
+    let word = restart_word h a u w e in
+    let begins : anew quota h.shapes (Asked a (Restart u) w) ≡ of_units quota 1 (count_tasks (numbered h.shapes u)) = ap (λ x. anew quota h.shapes (Asked a (Restart u) x)) word in
+    let spends : total h.shapes h.past ≤ total h.shapes (Asked a (Restart u) w ∷ h.past) + quota =
+    subst (λ x. total h.shapes h.past ≤ total h.shapes (Asked a (Restart u) x ∷ h.past) + quota) (sym word) (restart_spends h a u (pos 0) quota l allowed (unused h a u w e).loaded) in
+    omega (arith, begins, spends, restart_cost h a u w l e)
 
 -- All entries, and what is owed
 
-abbrev Bound : List Entry → List Shape → Type 0
-Bound past shapes = length past + owed shapes past ≤ 1 + 3 * total shapes past + length (all_tasks shapes) + own past
+abbrev Bound : ℕ → List Entry → List Shape → Type 0
+Bound quota past shapes =
+    length past + owed shapes past ≤ 1 + 3 * total shapes past + length (all_tasks shapes) + own past + of_restarts quota shapes past
 
-load_bound : (c : Limits) (past : List Entry) (old : List Shape) (s : Shape) (lists : List (List Words)) → IsLegal c past old lists → Bound past old → Bound (Load ∷ past) (old ++ s ∷ [])
-load_bound c past old s lists l before =
+-- what came of the units that were begun anew is the same with more units
+anew_stays : (quota : ℕ) (h : History) (more : List Shape) (a : ℕ) (r : Request) (w : Recorded) → recorded (out h a r) ≡ Some w
+    → anew quota (h.shapes ++ more) (Asked a r w) ≡ anew quota h.shapes (Asked a r w)
+anew_stays quota h more a (Restart u) (Accepted v) e =
+    ap (λ o. of_units quota 1 (count_tasks o)) (numbered_stays h.shapes more u (unused h a u (Accepted v) e).loaded)
+anew_stays quota h more a (Restart u) w e = refl
+anew_stays quota h more a r w e = refl
+
+restarts_stay : (quota : ℕ) (c : Limits) (past : List Entry) (shapes more : List Shape) (lists : List (List Words)) → IsLegal c past shapes lists
+    → of_restarts quota (shapes ++ more) past ≡ of_restarts quota shapes past
+restarts_stay quota c [] shapes more lists l = refl
+restarts_stay quota c (Asked a r w ∷ past) shapes more lists l =
+    let h : History = record { limits = c; past = past; shapes = shapes; lists = lists } in
+    let here : anew quota (shapes ++ more) (Asked a r w) ≡ anew quota shapes (Asked a r w) = anew_stays quota h more a r w l.1 in
+    let before = restarts_stay quota c past shapes more lists l.0 in
+    λ i. here i + before i
+restarts_stay quota c (Load ∷ past) shapes more lists l =
+    ap (λ (ss : List Shape). of_restarts quota (ss ++ more) past) l.2
+    ∙ ap (λ (ss : List Shape). of_restarts quota ss past) (append_assoc l.0 (l.1 ∷ []) more)
+    ∙ restarts_stay quota c past l.0 (l.1 ∷ more) lists l.3
+    ∙ sym (restarts_stay quota c past l.0 (l.1 ∷ []) lists l.3)
+    ∙ ap (λ (ss : List Shape). of_restarts quota ss past) (sym l.2)
+restarts_stay quota c (ListChange ∷ past) shapes more lists l = restarts_stay quota c past shapes more l.0 l.3
+
+load_bound : (quota : ℕ) (c : Limits) (past : List Entry) (old : List Shape) (s : Shape) (lists : List (List Words)) → IsLegal c past old lists
+    → Bound quota past old → Bound quota (Load ∷ past) (old ++ s ∷ [])
+load_bound quota c past old s lists l before =
     let h : History = record { limits = c; past = past; shapes = old; lists = lists } in
     let count : length (old ++ s ∷ []) ≡ suc (length old) = omega (arith, length-append old (s ∷ [])) in
     let spent_so : total (old ++ s ∷ []) (Load ∷ past) ≡ spent old (suc (length old)) past + total old past =
     ap (λ (ss : List Shape). each (length (old ++ s ∷ [])) (λ n. spent ss (suc n) past)) (front_is old s)
     ∙ ap (λ (k : ℕ). each k (λ n. spent old (suc n) past)) count in
-    omega (arith, before, spent_so, load_owed h s l, more_tasks old s)
+    omega (arith, before, spent_so, load_owed h s l, more_tasks old s, restarts_stay quota c past old (s ∷ []) lists l)
 
-bound : (c : Limits) (past : List Entry) (shapes : List Shape) (lists : List (List Words)) → IsLegal c past shapes lists → Bound past shapes
-bound c [] shapes lists l = subst (λ (ss : List Shape). Bound [] ss) (sym l.0) (omega arith)
-bound c (Asked a r w ∷ past) shapes lists l =
+bound : (quota : ℕ) (c : Limits) (past : List Entry) (shapes : List Shape) (lists : List (List Words)) → c.allowance ≡ Some quota
+    → IsLegal c past shapes lists → Bound quota past shapes
+bound quota c [] shapes lists allowed l = subst (λ (ss : List Shape). Bound quota [] ss) (sym l.0) (omega arith)
+bound quota c (Asked a r w ∷ past) shapes lists allowed l =
     let h : History = record { limits = c; past = past; shapes = shapes; lists = lists } in
-    let before : Bound past shapes = bound c past shapes lists l.0 in
-    let cost : Costs h a r w = costs h a r w l.0 l.1 in
+    let before : Bound quota past shapes = bound quota c past shapes lists allowed l.0 in
+    let cost : Costs quota h a r w = costs quota h a r w allowed l.0 l.1 in
     omega (arith, before, cost)
-bound c (Load ∷ past) shapes lists l =
-    subst (λ (ss : List Shape). Bound (Load ∷ past) ss) (sym l.2) (load_bound c past l.0 l.1 lists l.3 (bound c past l.0 lists l.3))
-bound c (ListChange ∷ past) shapes lists l =
-    let before : Bound past shapes = bound c past shapes l.0 l.3 in
+bound quota c (Load ∷ past) shapes lists allowed l =
+    subst (λ (ss : List Shape). Bound quota (Load ∷ past) ss) (sym l.2) (load_bound quota c past l.0 l.1 lists l.3 (bound quota c past l.0 lists allowed l.3))
+bound quota c (ListChange ∷ past) shapes lists allowed l =
+    let before : Bound quota past shapes = bound quota c past shapes l.0 allowed l.3 in
     let same : owed shapes (ListChange ∷ past) ≡ owed shapes past = refl in
     omega (arith, before, same)
 
@@ -133,7 +191,7 @@ pub kept_is_there : (h : History) (quota kept : ℕ) → Legal h → h.limits.al
 kept_is_there h quota kept l allowed keeps =
     let few : total h.shapes h.past ≤ length h.shapes * quota =
     each_most (length h.shapes) quota (λ n. spent h.shapes (suc n) h.past) (λ n. never_more h (suc n) quota l allowed) in
-    let all : Bound h.past h.shapes = bound h.limits h.past h.shapes h.lists l in
+    let all : Bound quota h.past h.shapes = bound quota h.limits h.past h.shapes h.lists allowed l in
     omega (arith, few, all, keeps)
 
 -- A list change
@@ -170,12 +228,17 @@ fewer (command ∷ commands) (answer ∷ answers) kept =
     by_command (Commands.Ask actor request) = omega arith
     by_command (Commands.Load shape) = omega arith
 
+-- who isn't the operator begins nothing anew
+none_anew : (quota : ℕ) (shapes : List Shape) (a : ℕ) (r : Request) (w : Recorded) → is_operators r ≡ false → anew quota shapes (Asked a r w) ≡ 0
+none_anew quota shapes a (Restart u) w other = absurd (off (sym other))
+none_anew quota shapes a r w other = refl
+
 asked_keeps : (quota kept : ℕ) (h : History) (actor : ℕ) (request : Request) (o : Option Recorded) → is_operators request ≡ false → Keeps quota h kept → Keeps quota (entered h actor request o) kept
 asked_keeps quota kept h actor request None other keeps = keeps
 asked_keeps quota kept h actor request (Some w) other keeps =
     let same : own (Asked actor request w ∷ h.past) ≡ own h.past =
     ap (λ (b : Bool). length (if b then Asked actor request w ∷ filter is_own h.past else filter is_own h.past)) other in
-    omega (arith, same, keeps)
+    omega (arith, same, keeps, none_anew quota h.shapes actor request w other)
 
 listed_keeps : (quota kept : ℕ) (h : History) (list : Option (List Words)) (b : Bool) → 1 ≤ (if b then kept - 1 else kept) → Keeps quota h kept
     → Keeps quota (if b then listed h list else h) (if b then kept - 1 else kept)

@@ -1,4 +1,3 @@
-pub mod Ends
 pub mod Loads
 pub mod Payers
 pub mod Costs

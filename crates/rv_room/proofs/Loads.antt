@@ -12,7 +12,10 @@ use Rattle.rv_history.specs.History.{History}
 use Rattle.rv_history.specs.Legal.{Legal}
 use Rattle.rv_history.specs.Owed.{actors, dues, each, halt_due, owed, surcharge, unfinished}
 use Rattle.rv_history.proofs.Loaded.{left_stays, tasks_append, way_stays}
+use Rattle.rv_history.proofs.Pays.{dues_by}
+use Rattle.rv_history.proofs.Restarts.{stance_loaded}
 use Rattle.rv_history.proofs.Silent.{beyond_free}
+use Rattle.rv_history.proofs.Sums.{each_same}
 
 each_ones : (n m : ℕ) (f : ℕ → ℕ) → ((j : ℕ) → n ≤ j → f j ≡ 1) → each (n + m) f ≡ each n f + m
 each_ones n zero f ones =
@@ -28,10 +31,14 @@ each_ones n (suc m) f ones =
 high : (j n : ℕ) → 11 + n ≤ j → nat_lt j 11 ≡ false
 high j n e = grind (arith, nat_tests)
 
-new_due : (h : History) (j : ℕ) → Legal h → actors h.shapes ≤ j → dues h.past j ≡ 1
+new_due : (h : History) (j : ℕ) → Legal h → actors h.shapes ≤ j → dues h.shapes h.past j ≡ 1
 new_due h j l beyond =
-    let free : stance j h.past ≡ Free = beyond_free h.limits h.past h.shapes h.lists j l beyond in
+    let free : stance h.shapes j h.past ≡ Free = beyond_free h.limits h.past h.shapes h.lists j l beyond in
     λ i. surcharge (free i) + (if high j (length (all_tasks h.shapes)) beyond i then 0 else unfinished (free i))
+
+-- who was there owes what it owed
+same_due : (h : History) (s : Shape) (j : ℕ) → Legal h → dues (h.shapes ++ s ∷ []) h.past j ≡ dues h.shapes h.past j
+same_due h s j l = ap (λ t. dues_by t (nat_lt j 11)) (stance_loaded h.limits h.past h.shapes (s ∷ []) h.lists j l)
 
 pub more_tasks : (shapes : List Shape) (s : Shape) → length (all_tasks (shapes ++ s ∷ [])) ≡ length (all_tasks shapes) + length s.tasks
 more_tasks shapes s =
@@ -44,7 +51,9 @@ load_owed h s l =
     let ways : length (under_way (h.shapes ++ s ∷ []) h.past) ≡ length (under_way h.shapes h.past) = ap length (way_stays h.limits h.past h.shapes (s ∷ []) h.lists l) in
     let lefts : length (unsettled (h.shapes ++ s ∷ []) h.past) ≡ length (unsettled h.shapes h.past) = ap length (left_stays h.limits h.past h.shapes (s ∷ []) h.lists l) in
     let count : actors (h.shapes ++ s ∷ []) ≡ actors h.shapes + length s.tasks = omega (arith, more_tasks h.shapes s) in
-    let tasks : each (actors (h.shapes ++ s ∷ [])) (dues h.past) ≡ each (actors h.shapes) (dues h.past) + length s.tasks =
-    ap (λ n. each n (dues h.past)) count ∙ each_ones (actors h.shapes) (length s.tasks) (dues h.past) (λ j beyond. new_due h j l beyond) in
-    let now : owed (h.shapes ++ s ∷ []) (Load ∷ h.past) ≡ length (under_way (h.shapes ++ s ∷ []) h.past) + length (unsettled (h.shapes ++ s ∷ []) h.past) + each (actors (h.shapes ++ s ∷ [])) (dues h.past) + halt_due (halted h.past) = refl in
-    omega (arith, ways, lefts, tasks, now)
+    let theirs : each (actors (h.shapes ++ s ∷ [])) (dues (h.shapes ++ s ∷ []) h.past) ≡ each (actors (h.shapes ++ s ∷ [])) (dues h.shapes h.past) =
+    each_same (actors (h.shapes ++ s ∷ [])) (dues (h.shapes ++ s ∷ []) h.past) (dues h.shapes h.past) (λ j less. same_due h s j l) in
+    let tasks : each (actors (h.shapes ++ s ∷ [])) (dues h.shapes h.past) ≡ each (actors h.shapes) (dues h.shapes h.past) + length s.tasks =
+    ap (λ n. each n (dues h.shapes h.past)) count ∙ each_ones (actors h.shapes) (length s.tasks) (dues h.shapes h.past) (λ j beyond. new_due h j l beyond) in
+    let now : owed (h.shapes ++ s ∷ []) (Load ∷ h.past) ≡ length (under_way (h.shapes ++ s ∷ []) h.past) + length (unsettled (h.shapes ++ s ∷ []) h.past) + each (actors (h.shapes ++ s ∷ [])) (dues (h.shapes ++ s ∷ []) h.past) + halt_due (halted h.past) = refl in
+    omega (arith, ways, lefts, theirs, tasks, now)

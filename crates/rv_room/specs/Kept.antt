@@ -15,7 +15,7 @@ use Rattle.rv_history.specs.Owed.{room}
 use Rattle.rv_history.specs.Steps.{Steps, after_command, due_change}
 use Rattle.rv_room.specs.Room.{Keeps, is_operators}
 
--- What takes room that is kept for list changes: a load, ticks and an archive. What units and lines ask takes none.
+-- What takes room that is kept for list changes: a load, ticks, an archive and a restart. What units and lines ask takes none.
 abbrev pub takes_room : Command → Bool
 takes_room (Commands.Ask actor request) = is_operators request
 takes_room (Commands.Load shape) = true
@@ -32,7 +32,7 @@ kept_after [] answers kept = kept
 kept_after (command ∷ commands) [] kept = kept
 kept_after (command ∷ commands) (answer ∷ answers) kept = kept_after commands answers (kept_behind command answer kept)
 
--- Each load, all ticks and each archive leave the entries that are kept. Of list changes, and of what units and lines ask, nothing is
+-- Each load, all ticks, each archive and each restart leave the entries that are kept. Of list changes, and of what units and lines ask, nothing is
 -- asked.
 abbrev pub LeaveRoom : ℕ → History → ℕ → List Command → List Answer → Type 0
 LeaveRoom quota h kept [] answers = Unit {0}

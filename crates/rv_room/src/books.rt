@@ -1,7 +1,8 @@
 //! The books of a run: what it keeps for its operator's list changes, and what the operator has asked.
 
-ghost use Rattle.std.specs.Prelude.{◌≡◌, ◌+◌, ◌≤◌, length, nat_le};
+ghost use Rattle.std.specs.Prelude.{◌≡◌, ◌+◌, ◌-◌, ◌^◌, ◌≤◌, length, min, nat_le};
 ghost use Rattle.rv_room.specs.Booked.{books_need, one_more};
+ghost use Rattle.rv_room.specs.Room.{of_units};
 ghost use Rattle.rv_shape.specs.Catalogue.{all_tasks};
 
 use rv_shape::catalogue::Catalogue;
@@ -19,12 +20,16 @@ pub struct Books {
     pub changes: u32,
     /// How often ticks were asked.
     pub ticks: u32,
+    /// How often a unit was restarted.
+    pub restarts: u16,
+    /// How many tasks began anew by that.
+    pub renewed: u32,
 }
 
 impl Books {
     /// Before a run, of which so many lists were set.
     pub fn new(quota: u32, kept: u32, lists: u32) -> Books
-        ensures { result ≡ record { quota = quota; kept = kept; lists = lists; changes = 0; ticks = 0 } }
+        ensures { result ≡ record { quota = quota; kept = kept; lists = lists; changes = 0; ticks = 0; restarts = 0; renewed = 0 } }
     {
         Books {
             quota,
@@ -32,6 +37,8 @@ impl Books {
             lists,
             changes: 0,
             ticks: 0,
+            restarts: 0,
+            renewed: 0,
         }
     }
 
@@ -55,6 +62,27 @@ impl Books {
         }
     }
 
+    /// The same with a restart more, of a unit that has so many tasks.
+    pub fn with_restart(self, tasks: usize) -> Books
+        requires { tasks ≤ 64 }
+        ensures { result ≡ record self { restarts = min (self.restarts + 1) (2 ^ 16 - 1); renewed = min (self.renewed + tasks) (2 ^ 32 - 1) } }
+    {
+        Books {
+            restarts: self.restarts.saturating_add(1),
+            renewed: self.renewed.saturating_add(tasks as u32),
+            ..self
+        }
+    }
+
+    // How many entries come of the restarts.
+    #[tactic(auto, using(crate::proofs::Booking::smaller))]
+    fn anew(&self) -> u64
+        ensures anew { result ≡ of_units self.now.quota self.now.restarts self.now.renewed }
+        ensures few { result ≤ 844416340197375 }
+    {
+        3 * (self.restarts as u64 * self.quota as u64) + self.renewed as u64
+    }
+
     // How many entries a journal has to hold with so many units and tasks.
     #[tactic(auto, using(crate::proofs::Booking::small))]
     fn need(&self, units: u64, tasks: u64) -> u64
@@ -64,12 +92,12 @@ impl Books {
     {
         let spent = 3 * (units * self.quota as u64) + tasks;
         let kept = self.kept.max(self.changes) as u64;
-        let operators = units + self.lists as u64 + self.ticks as u64 + kept;
-        spent + operators + 1
+        let operators = units + self.lists as u64 + self.ticks as u64 + self.restarts as u64 + kept;
+        spent + operators + 1 + self.anew()
     }
 
     /// How many entries a journal has to hold, so that what is kept is there to the end: three for each that a unit may spend, the end
-    /// of each task, what the operator has asked, what is kept, and the halt.
+    /// of each task, what the operator has asked, what is kept, and the halt; of a unit that was restarted the same again.
     pub fn needs(&self, catalogue: &Catalogue) -> u64
         ensures { result ≡ books_need self.now (length catalogue.now) (length (all_tasks catalogue.now)) }
     {

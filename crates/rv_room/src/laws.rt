@@ -9,7 +9,7 @@ pub fn kept_is_there()
     ensures { KeptIsThere }
 {}
 
-/// Over all runs whose operator asks loads, ticks and archives only while they leave what is kept, the operator can change the list as
+/// Over all runs whose operator asks loads, ticks, archives and restarts only while they leave what is kept, the operator can change the list as
 /// often as that says, whatever units do.
 #[tactic(auto, using(crate::proofs::Keeping::have_room))]
 pub fn operators_have_room()

@@ -11,11 +11,12 @@ use Rattle.rv_shell.specs.Serving.{Serves}
 use Rattle.rv_shell.specs.declared.shell.Next.{Next}
 use Rattle.rv_shell.specs.declared.shell.LineFault.{LineFault}
 use Rattle.rv_staff.specs.Giving.{Starts}
+use Rattle.rv_staff.specs.Restarting.{Restarts}
 use Rattle.rv_staff.specs.Saying.{Known, Says, SaysNoThread, SaysRaised}
 use Rattle.rv_staff.specs.Staffs.{Staffed, Workers}
 use Rattle.rv_text.specs.Words.{words}
 use Rattle.rv_turn.specs.declared.pass.Worn.{Worn}
-use Rattle.rv_run.specs.Commanding.{Admission, Commands, Follows, LoadsIn, LoadsText, SaysOfLine, Welcomes}
+use Rattle.rv_run.specs.Commanding.{Admission, Answers, Behind, Commands, Follows, LoadsIn, LoadsText, RestartsIn, RestartsUnit, SaysOfLine, TakesUpOn, Welcomes, was_accepted}
 use Rattle.rv_run.specs.Staging.{GoesOn, IsSaid, Outcome, SaysOn, Stage}
 
 -- a text is said by what writes it
@@ -86,4 +87,29 @@ loads_by admits v u w old new text unit answer result gives admitted told crew w
   loaded = u.control;
   told = told;
   welcomed = subst (λ (x : Staffed). Welcomes x w old new answer result) (same_staff v u crew) welcomes;
+}
+
+-- a restart: its threads
+pub said_restarts : {X E : Type 0} (unit : ℕ) (v w : Staffed) (old new : Known) (written : Result X E) (result : Outcome)
+    → Restarts unit v w old new written → IsSaid written result → Restarts unit v w old new result
+said_restarts unit v w old new (Ok x) result restarts is = subst (λ (r : Outcome). Restarts unit v w old new r) (sym is) restarts
+said_restarts unit v w old new (Err e) (Ok y) restarts is = absurd is
+said_restarts unit v w old new (Err e) (Err failure) restarts is = restarts
+
+-- and what is said of it
+pub restarts_by : (unit : ℕ) (v u w : Staffed) (old said noted new : Known) (answer : Result Answer Worn) (accepted : Bool) (next : Result Next LineFault) (goes result : Outcome)
+    → RestartsIn v.control unit answer u.control → u.crew ≡ v.crew → accepted ≡ was_accepted answer
+    → Answers old said (catalogue_of u.control.seen) answer next → Behind said noted next goes → TakesUpOn accepted unit u w noted new goes result
+    → RestartsUnit unit v w old new result
+restarts_by unit v u w old said noted new answer accepted next goes result told crew is answered behind taken = record {
+  answer = answer;
+  asked = u.control;
+  told = told;
+  next = next;
+  said = said;
+  answered = answered;
+  noted = noted;
+  goes = goes;
+  behind = behind;
+  taken = subst (λ (z : Bool × Staffed). TakesUpOn z.0 unit z.1 w noted new goes result) (λ i. (is i, same_staff v u crew i)) taken;
 }

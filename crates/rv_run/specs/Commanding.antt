@@ -5,12 +5,15 @@ use Rattle.rv_code.specs.declared.body.UnitBodies.{UnitBodies}
 use Rattle.rv_shape.specs.Shape.{Shape}
 use Rattle.rv_shape.specs.Catalogue.{OperationNumber, handler}
 use Rattle.rv_event.specs.declared.entry.Answer.{Answer}
+use Rattle.rv_event.specs.declared.entry.Answer.TheVariants.{Accepted}
+use Rattle.rv_event.specs.declared.entry.Request.TheVariants as asks
+use Rattle.rv_behind.specs.declared.event.Ask.{Ask}
 use Rattle.rv_turn.specs.Passes.{IsWorn}
 use Rattle.rv_turn.specs.declared.pass.Worn.{Worn}
 use Rattle.rv_behind.specs.Events.{catalogue_of}
 use Rattle.rv_port.specs.Traces.{Passing}
 use Rattle.rv_behind.specs.Events.{catalogue_of}
-use Rattle.rv_port.specs.Controls.{Brings, LoadTold}
+use Rattle.rv_port.specs.Controls.{Brings, LoadTold, Told}
 use Rattle.rv_fault.specs.Sections.{GivesUnit, Reads}
 use Rattle.rv_fault.specs.declared.failure.Failure.{Failure}
 use Rattle.rv_fault.specs.declared.failure.Failure.TheVariants as Failures
@@ -22,6 +25,7 @@ use Rattle.rv_shell.specs.declared.shell.LineFault.TheVariants as Faults
 use Rattle.rv_shell.specs.declared.shell.LineFault.{LineFault}
 use Rattle.rv_text.specs.Words.{words}
 use Rattle.rv_staff.specs.Giving.{Starts}
+use Rattle.rv_staff.specs.Restarting.{Restarts}
 use Rattle.rv_staff.specs.Saying.{Known, Says, SaysRaised, no_memory_line}
 use Rattle.rv_staff.specs.Staffs.{Staffed}
 use Rattle.rv_run.specs.declared.command.Goes.{Goes}
@@ -33,6 +37,7 @@ abbrev pub goes_behind : Next → Goes
 goes_behind Nexts.Go = On
 goes_behind Nexts.Load = On
 goes_behind (Nexts.Raise line) = On
+goes_behind (Nexts.Restart unit) = On
 goes_behind Nexts.Quit = Out
 
 -- what comes behind the shell's word: no more is read where no act is left, and want of memory is said
@@ -147,6 +152,45 @@ pub record Raises (s t : Stage) (line : ℕ) (result : Outcome) : Type 0 where
   pub said : SaysOfLine s.written t.written (catalogue_of s.staff.control.seen) line (handler (catalogue_of s.staff.control.seen) line) result
   pub goes : GoesOn result
 
+-- Restarts
+
+-- a restart is answered, or no act is left for it
+abbrev pub RestartsIn : Passing → ℕ → Result Answer Worn → Passing → Type 0
+RestartsIn v unit result w = MatchResult result (λ answer. Told v (Ask.Step (asks.Restart unit)) answer w) (λ _. IsWorn v w)
+
+abbrev pub was_accepted : Result Answer Worn → Bool
+was_accepted (Ok (Accepted value)) = true
+was_accepted answer = false
+
+-- where a unit was restarted and the run goes on, its tasks get threads again
+abbrev pub TakesUpOn : Bool → ℕ → Staffed → Staffed → Known → Known → Outcome → Outcome → Type 0
+TakesUpOn true unit v w old new (Ok On) result = Restarts unit v w old new result × GoesOn result
+TakesUpOn restarted unit v w old new goes result = (w ≡ v) × (new ≡ old) × (result ≡ goes)
+
+-- the restart of a unit is answered, that is said, and where it was accepted the unit's tasks get threads again
+pub record RestartsUnit (unit : ℕ) (v w : Staffed) (old new : Known) (result : Outcome) : Type 0 where
+  pub answer : Result Answer Worn
+  pub asked : Passing
+  pub told : RestartsIn v.control unit answer asked
+  pub next : Result Next LineFault
+  pub said : Known
+  pub answered : Answers old said (catalogue_of asked.seen) answer next
+  pub noted : Known
+  pub goes : Outcome
+  pub behind : Behind said noted next goes
+  pub taken : TakesUpOn (was_accepted answer) unit (record v { control = asked }) w noted new goes result
+
+-- a task of the unit belonged to another process: nothing is asked, and that is said
+abbrev pub SaysOfProcess : Staffed → Staffed → Known → Known → Outcome → Type 0
+SaysOfProcess v w old new result = (w ≡ v) × SaysOn old new (codes "of a process\n") result
+
+abbrev pub RestartsNamed : ℕ → Staffed → Staffed → Known → Known → Outcome → Type 0
+RestartsNamed unit v w old new result = RestartsUnit unit v w old new result ⊎ SaysOfProcess v w old new result
+
+pub record RestartsNext (s t : Stage) (unit : ℕ) (result : Outcome) : Type 0 where
+  pub unread : ReadsNothing s t
+  pub restarts : RestartsNamed unit s.staff t.staff s.written t.written result
+
 -- Commands
 
 -- a command that is carried out as far as the shell does
@@ -159,6 +203,7 @@ pub record IsDone (s t : Stage) (next : Result Next LineFault) (result : Outcome
 abbrev pub Follows : Admission → Stage → Stage → Result Next LineFault → Outcome → Type 0
 Follows admits s t (Ok Nexts.Load) result = LoadsNext admits s t result
 Follows admits s t (Ok (Nexts.Raise line)) result = Raises s t line result
+Follows admits s t (Ok (Nexts.Restart unit)) result = RestartsNext s t unit result
 Follows admits s t next result = IsDone s t next result
 
 -- a command line is carried out by the shell, and what it says is done

@@ -2,7 +2,7 @@
 
 ghost use Rattle.std.specs.Prelude.{◌≡◌, ℕ, List, Err};
 ghost use Rattle.rv_fault.specs.Written.{IsNoFault};
-ghost use Rattle.rv_run.specs.Commanding.{Behind, Commands, LoadsNext, LoadsText, SaysFault, StartsOn, Welcomes, goes_behind};
+ghost use Rattle.rv_run.specs.Commanding.{Behind, Commands, LoadsNext, LoadsText, RestartsNamed, RestartsUnit, SaysFault, StartsOn, TakesUpOn, Welcomes, goes_behind, was_accepted};
 ghost use Rattle.rv_run.specs.ServingBeside.{HearsIf};
 ghost use Rattle.rv_run.specs.Staging.{GoesOn, IsSaid, SaysOn, stage};
 ghost use Rattle.rv_shell.specs.Orders.{IsRead};
@@ -14,19 +14,25 @@ use rv_event::entry::Answer;
 use rv_fault::{Failure, ScriptFault, What, text_unit};
 use rv_input::{Input, InputFault};
 use rv_shell::{LineFault, Next, Order, Shell};
-use rv_staff::{Hires, NO_MEMORY, Session, raise, say, start_threads};
+use rv_staff::{
+    Hires, NO_MEMORY, Session, is_of_process, raise, restart_threads, say, start_threads,
+};
 use rv_step::reading::StepError;
 use rv_turn::Worn;
 use std::alloc::Global;
 use std::io;
 use std::io::{ErrorKind, Read, Write};
 use std::sync::Wait;
+use std::thread::Threads;
 
 // What is said where there is no room.
 const FULL: &str = "full\n";
 
 // A unit text that a command brings stands at no line of the script.
 const NO_LINE: usize = 0;
+
+// What is said of a unit that isn't restarted, since a task of it belonged to another process.
+const OF_PROCESS: &str = "of a process\n";
 
 /// Whether the run goes on.
 #[derive(Clone, Copy, Debug, PartialEq, Eq, Drop)]
@@ -191,6 +197,7 @@ fn goes_behind(next: Next) -> Goes
         Next::Go => Goes::On,
         Next::Load => Goes::On,
         Next::Raise(_) => Goes::On,
+        Next::Restart(_) => Goes::On,
         Next::Quit => Goes::Out,
     }
 }
@@ -217,8 +224,75 @@ pub fn after<W: Write>(next: Result<Next, LineFault>, writer: &mut W) -> Result<
     }
 }
 
+// Whether a restart was accepted.
+fn is_accepted(answer: &Result<Answer, Worn>) -> bool
+    ensures { result ≡ was_accepted answer.now }
+{
+    match answer {
+        Ok(Answer::Accepted(_)) => true,
+        _ => false,
+    }
+}
+
+// Starts the threads of a unit's tasks again, where it was restarted and the run goes on.
+fn restart_on<T: Threads, H: Hires, W: Write>(
+    rt: &T,
+    hires: &H,
+    session: &mut Session,
+    unit: usize,
+    is_restarted: bool,
+    goes: Result<Goes, Failure>,
+    writer: &mut W,
+) -> Result<Goes, Failure>
+    ensures { TakesUpOn is_restarted unit session.old.staff session.new.staff (W.contents writer.old) (W.contents writer.new) goes result }
+{
+    if !is_restarted {
+        return goes;
+    }
+    match goes {
+        Ok(Goes::On) => said(restart_threads(rt, hires, session, unit, writer)),
+        Ok(Goes::Out) => Ok(Goes::Out),
+        Err(failure) => Err(failure),
+    }
+}
+
+// Asks for the restart of a unit, says the answer, and starts the threads of its tasks again.
+fn restart_unit<T: Threads + Wait, H: Hires, W: Write>(
+    rt: &T,
+    hires: &H,
+    session: &mut Session,
+    unit: usize,
+    writer: &mut W,
+) -> Result<Goes, Failure>
+    ensures { RestartsUnit unit session.old.staff session.new.staff (W.contents writer.old) (W.contents writer.new) result }
+{
+    let answer = session.staff.restart(rt, unit);
+    let is_restarted = is_accepted(&answer);
+    let told = session
+        .staff
+        .tell(&Shell::new(session.alloc), answer, writer);
+    let goes = after(told, writer);
+    restart_on(rt, hires, session, unit, is_restarted, goes, writer)
+}
+
+// The same, unless a task of the unit belonged to another process, whose pipes are gone: that is said.
+fn restart<T: Threads + Wait, H: Hires, W: Write>(
+    rt: &T,
+    hires: &H,
+    session: &mut Session,
+    unit: usize,
+    writer: &mut W,
+) -> Result<Goes, Failure>
+    ensures { RestartsNamed unit session.old.staff session.new.staff (W.contents writer.old) (W.contents writer.new) result }
+{
+    if is_of_process(&*session, unit) {
+        return said(say(writer, OF_PROCESS));
+    }
+    restart_unit(rt, hires, session, unit, writer)
+}
+
 /// Carries out a command line as it was read (`order_of`).
-pub fn command<T: Wait, H: Hires, R: Read, W: Write, E: Write, C: Chores<T, W, E>>(
+pub fn command<T: Threads + Wait, H: Hires, R: Read, W: Write, E: Write, C: Chores<T, W, E>>(
     rt: &T,
     hires: &H,
     session: &mut Session,
@@ -243,6 +317,7 @@ pub fn command<T: Wait, H: Hires, R: Read, W: Write, E: Write, C: Chores<T, W, E
     match next {
         Ok(Next::Load) => load_next(rt, hires, session, chores, input, reader, outputs),
         Ok(Next::Raise(line)) => said(raise(rt, session, line, &mut outputs.writer)),
+        Ok(Next::Restart(unit)) => restart(rt, hires, session, unit, &mut outputs.writer),
         Ok(Next::Go) => Ok(Goes::On),
         Ok(Next::Quit) => Ok(Goes::Out),
         Err(fault) => after_fault(fault, &mut outputs.writer),

@@ -9,3 +9,4 @@ pub mod Added
 pub mod FitsLemmas
 pub mod FoundByName
 pub mod Again
+pub mod UnitsStay

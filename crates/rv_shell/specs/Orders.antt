@@ -9,13 +9,14 @@ use Rattle.rv_step.specs.StepText.{Gives, asked_of}
 use Rattle.rv_step.specs.declared.reading.StepError.{StepError}
 use Rattle.rv_text.specs.Numbers.{integer_of}
 use Rattle.rv_shell.specs.declared.order.Order.{Order}
-use Rattle.rv_shell.specs.declared.order.Order.TheVariants.{Change, Tick, Halt, Raise, Load, Journal, Quit}
+use Rattle.rv_shell.specs.declared.order.Order.TheVariants.{Change, Tick, Halt, Restart, Raise, Load, Journal, Quit}
 
 -- what a step asks, if the operator may command it
 abbrev pub of_step : Asked → Option Order
 of_step (Asks.Change change number) = Some (Change change)
 of_step (Asks.Plain (Requests.Tick ticks)) = Some (Tick ticks)
 of_step (Asks.Plain Requests.Halt) = Some Halt
+of_step (Asks.Restart unit) = Some (Restart unit)
 of_step asked = None
 
 -- `raise K`: a line of Int_0 .. Int_9

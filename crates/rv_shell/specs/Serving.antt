@@ -7,6 +7,7 @@ use Rattle.rv_script.specs.Prefixes.{WritesPrefix}
 use Rattle.rv_access.specs.declared.change.Change.{Change}
 use Rattle.rv_access.specs.declared.fault.ListFault.{ListFault}
 use Rattle.rv_access.specs.declared.fault.ListFault.TheVariants as Lists
+use Rattle.rv_shape.specs.Names.{unit_number}
 use Rattle.rv_shape.specs.Shape.{Shape}
 use Rattle.rv_event.specs.Text.{answer_text}
 use Rattle.rv_event.specs.declared.entry.Answer.{Answer}
@@ -119,11 +120,17 @@ abbrev pub Changes : Written → Written → Passing → Passing → Result Chan
 Changes old new v w (Ok change) result = RequestsOrWorn old new v w (Ask.Change change) result
 Changes old new v w (Err fault) result = WritesOnly old new v w (fault_line fault) result
 
+-- the caller is told of the unit that is to be restarted; where there is none of the name, that is written
+abbrev pub Seeks : Written → Written → Passing → Passing → Option ℕ → Result Next LineFault → Type 0
+Seeks old new v w (Some unit) result = TellsCaller old new v w (Nexts.Restart unit) result
+Seeks old new v w None result = (w ≡ v) × Prints old new (codes "unknown unit\n") result
+
 -- what a command does
 abbrev pub Obeys : Written → Written → Passing → Passing → Order → Result Next LineFault → Type 0
 Obeys old new v w (Orders.Change change) result = Changes old new v w change result
 Obeys old new v w (Orders.Tick ticks) result = RequestsOrWorn old new v w (Ask.Step (asks.Tick ticks)) result
 Obeys old new v w Orders.Halt result = RequestsOrWorn old new v w (Ask.Step asks.Halt) result
+Obeys old new v w (Orders.Restart unit) result = Seeks old new v w (unit_number (catalogue_of v.seen) unit) result
 Obeys old new v w (Orders.Raise line) result = TellsCaller old new v w (Nexts.Raise line) result
 Obeys old new v w Orders.Load result = TellsCaller old new v w Nexts.Load result
 Obeys old new v w (Orders.Journal from) result = ReadsOrWorn old new v w from result

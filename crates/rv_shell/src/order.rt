@@ -7,6 +7,7 @@ ghost use Rattle.rv_text.specs.Words.{words};
 
 use rv_access::{Change, ListFault};
 use rv_event::entry::Request;
+use rv_shape::name::Name;
 use rv_step::reading::{StepError, asked_of};
 use rv_step::step::Asked;
 use rv_text::{integer_of, next_word};
@@ -21,6 +22,8 @@ pub enum Order {
     Tick(i64),
     /// The end of the host.
     Halt,
+    /// The unit of this name begins anew.
+    Restart(Name),
     /// The line 0 .. 9 is raised.
     Raise(u8),
     /// A unit text follows.
@@ -39,6 +42,7 @@ fn of_step(asked: Asked) -> Result<Order, StepError>
         Asked::Change(change, _) => Ok(Order::Change(change)),
         Asked::Plain(Request::Tick(ticks)) => Ok(Order::Tick(ticks)),
         Asked::Plain(Request::Halt) => Ok(Order::Halt),
+        Asked::Restart(unit) => Ok(Order::Restart(unit)),
         _ => Err(StepError::BadStep),
     }
 }
@@ -103,7 +107,7 @@ fn own_order(line: &str) -> Option<Order>
     }
 }
 
-/// What a command line asks: `append LINE`, `remove N`, `replace N LINE`, `tick N`, `halt`, `raise K`, `load`,
+/// What a command line asks: `append LINE`, `remove N`, `replace N LINE`, `tick N`, `halt`, `restart UNIT`, `raise K`, `load`,
 /// `journal FROM` or `quit`. `BadStep` where it is none of them.
 pub fn order_of(alloc: Global, line: &str) -> Result<Order, StepError>
     ensures gives { Gives result (order_of (words line.now)) }

@@ -3,7 +3,8 @@
 ghost use Rattle.std.specs.Prelude.{◌≡◌, ℕ, List, Err, IfOk, MatchResult, string_bytes};
 ghost use Rattle.rv_text.specs.Words.{words};
 ghost use Rattle.rv_behind.specs.Events.{catalogue_of};
-ghost use Rattle.rv_shell.specs.Serving.{CarriesRead, Obeys, Prints, ReadsOrWorn, Serves, Writes, answer_line, fault_line, of_page};
+ghost use Rattle.rv_shape.specs.Names.{unit_number};
+ghost use Rattle.rv_shell.specs.Serving.{CarriesRead, Obeys, Prints, ReadsOrWorn, Seeks, Serves, Writes, answer_line, fault_line, of_page};
 
 use crate::order::{Order, order_of};
 use rv_access::ListFault;
@@ -15,6 +16,7 @@ use rv_port::control::Control;
 use rv_port::fault::PageFault;
 use rv_script::write_whole;
 use rv_shape::catalogue::Catalogue;
+use rv_shape::name::Name;
 use rv_step::reading::StepError;
 use rv_turn::Worn;
 use std::alloc::{AllocError, Global};
@@ -32,6 +34,8 @@ pub enum Next {
     Load,
     /// It raises this line, 0 .. 9.
     Raise(u8),
+    /// It restarts the unit of this number.
+    Restart(usize),
     /// It ends the run.
     Quit,
 }
@@ -172,6 +176,21 @@ impl Shell {
         put_made(writer, text)
     }
 
+    // The unit of a name is to be restarted; where no such unit is loaded that is written.
+    fn find_unit<W: Write>(
+        &self,
+        control: &Control,
+        name: &Name,
+        writer: &mut W,
+    ) -> Result<Next, LineFault>
+        ensures { Seeks (W.contents writer.old) (W.contents writer.new) control.now control.now (unit_number (catalogue_of control.now.seen) name.now) result }
+    {
+        match control.catalogue().find_unit(name.as_str()) {
+            Some(unit) => Ok(Next::Restart(unit)),
+            None => put(writer, "unknown unit\n"),
+        }
+    }
+
     // What a command asks.
     fn obey<R: Wait, W: Write>(
         &self,
@@ -196,6 +215,7 @@ impl Shell {
                 let answer = control.halt(rt);
                 self.tell(&*control, answer, writer)
             }
+            Order::Restart(unit) => self.find_unit(&*control, &unit, writer),
             Order::Raise(line) => Ok(Next::Raise(line)),
             Order::Load => Ok(Next::Load),
             Order::Journal(from) => self.journal(rt, control, from, writer),
@@ -204,9 +224,9 @@ impl Shell {
     }
 
     /// Carries out a command line as it was read (`order_of`): one request of the operator, whose answer is written; for
-    /// `journal` one page, whose entries are written; for `load`, `raise` and `quit` nothing is asked, and the caller is
-    /// told. A line that is no command, or whose line of the list is none, sends nothing, and that is written. The caller
-    /// flushes.
+    /// `journal` one page, whose entries are written; for `load`, `raise`, `restart` and `quit` nothing is asked, and the caller is
+    /// told. A line that is no command, whose line of the list is none, or whose unit isn't loaded, sends nothing, and that is
+    /// written. The caller flushes.
     ///
     /// # Errors
     /// `NoMemory` where the line couldn't be read, and nothing was asked, or where the text of an answer or of a page

@@ -16,5 +16,9 @@ pub record AreSpent (shapes : List Shape) (past : List Entry) (counts : List ℕ
 abbrev pub more_of : ℕ → ℕ → ℕ → ℕ
 more_of unit other count = if unit == other then min (count + 1) (2 ^ 64 - 1) else count
 
+-- the count of a unit is none
+pub record Resets (old : List ℕ) (unit : ℕ) (new : List ℕ) : Type 0 where
+  pub counts : (other : ℕ) → other < most_places → slice_index new other ≡ (if unit == other then 0 else slice_index old other)
+
 pub record Notes (old : List ℕ) (unit : ℕ) (new : List ℕ) : Type 0 where
   pub counts : (other : ℕ) → other < most_places → slice_index new other ≡ more_of unit other (slice_index old other)

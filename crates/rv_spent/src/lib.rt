@@ -7,9 +7,10 @@ ghost use Rattle.rv_event.specs.declared.entry.Entry.TheVariants.{Asked};
 ghost use Rattle.rv_event.specs.declared.entry.Entry.{Entry};
 ghost use Rattle.rv_event.specs.declared.entry.Recorded.{Recorded};
 ghost use Rattle.rv_event.specs.declared.entry.Request.{Request};
-ghost use Rattle.rv_history.specs.Allowance.{charged, spent};
+ghost use Rattle.rv_event.specs.Past.{restarts};
+ghost use Rattle.rv_history.specs.Allowance.{charged, charged as charged_to, spent};
 ghost use Rattle.rv_shape.specs.Shape.{Shape};
-ghost use Rattle.rv_spent.specs.Counts.{AreSpent, Notes, most_places};
+ghost use Rattle.rv_spent.specs.Counts.{AreSpent, Notes, Resets, most_places};
 
 use rv_shape::catalogue::MOST_UNITS;
 use std::marker::Model;
@@ -66,7 +67,7 @@ impl Spent {
     fn charge_to(&mut self, unit: usize)
         ensures { (shapes : List Shape) (past : List Entry) (actor : ℕ) (request : Request) (word : Recorded) →
             length past < 10 ^ 12 → AreSpent shapes past self.old → Some unit ≡ charged shapes past actor request →
-            AreSpent shapes (Asked actor request word ∷ past) self.new }
+            restarts (Asked actor request word) ≡ None → AreSpent shapes (Asked actor request word ∷ past) self.new }
     {
         self.count(unit);
     }
@@ -76,18 +77,51 @@ impl Spent {
     fn charge_to_none(&self)
         ensures { (shapes : List Shape) (past : List Entry) (actor : ℕ) (request : Request) (word : Recorded) →
             None ≡ charged shapes past actor request → AreSpent shapes past self.now →
-            AreSpent shapes (Asked actor request word ∷ past) self.now }
+            restarts (Asked actor request word) ≡ None → AreSpent shapes (Asked actor request word ∷ past) self.now }
     {}
 
-    /// One entry more, of a request that is charged to this unit, if it is to one.
-    pub fn charge(&mut self, unit: Option<usize>)
+    // One entry more, of a request that is charged to this unit, if it is to one, and restarts none.
+    fn charge(&mut self, unit: Option<usize>)
         ensures { (shapes : List Shape) (past : List Entry) (actor : ℕ) (request : Request) (word : Recorded) →
             length past < 10 ^ 12 → AreSpent shapes past self.old → unit ≡ charged shapes past actor request →
-            AreSpent shapes (Asked actor request word ∷ past) self.new }
+            restarts (Asked actor request word) ≡ None → AreSpent shapes (Asked actor request word ∷ past) self.new }
     {
         match unit {
             Some(unit) => self.charge_to(unit),
             None => self.charge_to_none(),
+        }
+    }
+
+    // The count of a unit begins anew.
+    #[tactic(auto, using(crate::proofs::Counting::resets_none, crate::proofs::Counting::resets_one))]
+    fn reset(&mut self, unit: usize)
+        ensures { Resets self.old unit self.new }
+    {
+        if unit >= PLACES {
+            return;
+        }
+        self.counts[unit] = 0;
+    }
+
+    // One entry more, which restarts this unit.
+    #[tactic(auto, using(crate::proofs::Counting::renewed))]
+    fn restart(&mut self, unit: usize)
+        ensures { (shapes : List Shape) (past : List Entry) (actor : ℕ) (request : Request) (word : Recorded) →
+            AreSpent shapes past self.old → Some unit ≡ restarts (Asked actor request word) →
+            AreSpent shapes (Asked actor request word ∷ past) self.new }
+    {
+        self.reset(unit);
+    }
+
+    /// One entry more, of a request that is charged to a unit, if it is to one, and restarts one, if it does.
+    pub fn note(&mut self, charged: Option<usize>, restarted: Option<usize>)
+        ensures { (shapes : List Shape) (past : List Entry) (actor : ℕ) (request : Request) (word : Recorded) →
+            length past < 10 ^ 12 → AreSpent shapes past self.old → charged ≡ charged_to shapes past actor request →
+            restarted ≡ restarts (Asked actor request word) → AreSpent shapes (Asked actor request word ∷ past) self.new }
+    {
+        match restarted {
+            Some(unit) => self.restart(unit),
+            None => self.charge(charged),
         }
     }
 

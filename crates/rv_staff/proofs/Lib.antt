@@ -1,3 +1,4 @@
 pub mod OneTurn
 pub mod Starting
 pub mod Texts
+mod Again

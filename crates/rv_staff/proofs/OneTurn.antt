@@ -23,8 +23,9 @@ use Rattle.rv_follow.specs.Following.{Reads, ReadsOn}
 use Rattle.rv_port.specs.Controls.{IsGiven, LoadTold, Told}
 use Rattle.rv_crew.specs.Teams.{IsOfTurn}
 use Rattle.rv_behind.specs.declared.event.Ask.{Ask}
-use Rattle.rv_crew.specs.Crews.{Joins, IsClosedBy, with_joined}
+use Rattle.rv_crew.specs.Crews.{Joins, IsClosedBy, Takes, with_joined}
 use Rattle.rv_crew.specs.declared.crew.Closed.{Closed}
+use Rattle.rv_crew.proofs.Taking.{back_of_turn, taken_of_turn}
 use Rattle.rv_crew.proofs.Turns.{abandoned_of_turn, none_of_turn, started_of_turn, given_up_of_turn, lost_of_turn}
 use Rattle.rv_crew.specs.declared.hiring.HireFault.{HireFault}
 use Rattle.rv_crew.specs.declared.hiring.HireFault.TheVariants.{NoThread, GivenUp, NoMemory}
@@ -95,6 +96,17 @@ given_stays v w actor port given = ap (λ (p : Passing). p.turn) given.parted.re
 
 pub given_turn : (v w : Passing) (actor : ℕ) (port : Passing) → IsGiven v actor w port → port.turn ≡ w.turn
 given_turn v w actor port given = ap (λ (p : Passing). p.turn) given.parted.new_is ∙ sym (given_stays v w actor port given)
+
+-- a thread that is taken out leaves the others, and its port goes on
+pub taken_stay : (control : Passing) (crew after : Workers) (actor : ℕ) (back : Porting) → AreOf control crew → Takes Works crew after actor back → AreOf control after
+taken_stay control crew after actor back are takes = record {
+  none_joined = ap (λ (t : Workers). t.joined) takes.is ∙ are.none_joined;
+  none_paid = ap (λ (t : Workers). t.paid) takes.is ∙ are.none_paid;
+  one_turn = taken_of_turn Works control.turn crew after actor back are.one_turn takes;
+}
+
+pub again_turn : (control : Passing) (crew after : Workers) (actor : ℕ) (back : Porting) → AreOf control crew → Takes Works crew after actor back → back.turn ≡ control.turn
+again_turn control crew after actor back are takes = back_of_turn Works control.turn crew after actor back are.one_turn takes
 
 -- What is started.
 

@@ -16,7 +16,7 @@ use Rattle.rv_staff.specs.Saying.{Known, Says, SaysNoThread, no_memory_line, no_
 use Rattle.rv_staff.specs.Staffs.{Staffed, Workers}
 use Rattle.rv_staff.specs.declared.work.Work.{Work}
 use Rattle.rv_staff.specs.declared.work.Work.TheVariants.{Text}
-use Rattle.rv_staff.specs.Giving.{GivesOne, GivesUpTo, SaidOfFault, SaidOfHire}
+use Rattle.rv_staff.specs.Giving.{EachUpTo, GivesOne, SaidOfFault, SaidOfHire}
 
 -- there is no thread, and that is said
 pub no_thread_said : {X E : Type 0} (old new : Known) (shapes : List Shape) (actor : ℕ) (start : Result (Unit {0}) HireFault) (result : Result X E)
@@ -64,57 +64,62 @@ pub none_given : (v w : Staffed) (actor : ℕ) (fault : PortFault) (text : List 
     → IsPortFault actor v.control.given (catalogue_of v.control.seen) v.control.left fault → w ≡ v → SaidOfFault fault text → GivesOne v w actor text
 none_given v w actor fault text stands same said = inr record { fault = fault; stands = stands; same = same; said = said }
 
+-- What becomes of each actor is one of these
+
+abbrev pub Turn : Type 1
+Turn = Staffed → Staffed → ℕ → List ℕ → Type 0
+
 -- the actors below this one had their turn
-pub record GaveBelow (v w : Staffed) (old new : Known) (actor : ℕ) : Type 0 where
+pub record DidBelow (One : Turn) (v w : Staffed) (old new : Known) (actor : ℕ) : Type 0 where
   pub count : ℕ
   pub next : actor ≡ count + 1
   pub text : List ℕ
-  pub gave : GivesUpTo count v w text
+  pub did : EachUpTo One count v w text
   pub said : Appends old new text
 
 -- what one had
-pub record GaveOne {X E : Type 0} (v w : Staffed) (old new : Known) (actor : ℕ) (result : Result X E) : Type 0 where
+pub record DidOne {X E : Type 0} (One : Turn) (v w : Staffed) (old new : Known) (actor : ℕ) (result : Result X E) : Type 0 where
   pub text : List ℕ
-  pub gives : GivesOne v w actor text
+  pub does : One v w actor text
   pub said : Says old new text result
 
-pub gave_one : {X E : Type 0} (v w : Staffed) (old new : Known) (actor : ℕ) (result : Result X E)
-    → (text : List ℕ) × GivesOne v w actor text × Says old new text result → GaveOne v w old new actor result
-gave_one v w old new actor result told = record { text = told.0; gives = told.1; said = told.2 }
+pub did_one : {X E : Type 0} (One : Turn) (v w : Staffed) (old new : Known) (actor : ℕ) (result : Result X E)
+    → (text : List ℕ) × One v w actor text × Says old new text result → DidOne One v w old new actor result
+did_one One v w old new actor result told = record { text = told.0; does = told.1; said = told.2 }
 
 -- before the first
-pub none_below : (v : Staffed) (known : Known) → GaveBelow v v known known 1
-none_below v known = record { count = 0; next = refl; text = []; gave = (refl, refl); said = keeps_nothing known }
+pub none_below : (One : Turn) (v : Staffed) (known : Known) → DidBelow One v v known known 1
+none_below One v known = record { count = 0; next = refl; text = []; did = (refl, refl); said = keeps_nothing known }
 
-one_more : (count actor : ℕ) (v u w : Staffed) (before last : List ℕ) → actor ≡ count + 1 → GivesUpTo count v u before → GivesOne u w actor last
-    → GivesUpTo (suc count) v w (before ++ last)
-one_more count actor v u w before last next up one =
-    (u, before, last, up, subst (λ (n : ℕ). GivesOne u w n last) (next ∙ add-one count) one, refl)
+one_more : (One : Turn) (count actor : ℕ) (v u w : Staffed) (before last : List ℕ) → actor ≡ count + 1 → EachUpTo One count v u before → One u w actor last
+    → EachUpTo One (suc count) v w (before ++ last)
+one_more One count actor v u w before last next up one =
+    (u, before, last, up, subst (λ (n : ℕ). One u w n last) (next ∙ add-one count) one, refl)
 
 -- one actor more
-pub one_below : {X E : Type 0} (v u w : Staffed) (old mid new : Known) (actor : ℕ) (result : Result X E) (x : X) → result ≡ Ok x
-    → GaveBelow v u old mid actor → GaveOne u w mid new actor result → GaveBelow v w old new (actor + 1)
-one_below {X} {E} v u w old mid new actor result x ok below one = record {
+pub one_below : {X E : Type 0} (One : Turn) (v u w : Staffed) (old mid new : Known) (actor : ℕ) (result : Result X E) (x : X) → result ≡ Ok x
+    → DidBelow One v u old mid actor → DidOne One u w mid new actor result → DidBelow One v w old new (actor + 1)
+one_below {X} {E} One v u w old mid new actor result x ok below one = record {
   count = suc below.count;
   next = ap (λ (n : ℕ). n + 1) (below.next ∙ add-one below.count);
   text = below.text ++ one.text;
-  gave = one_more below.count actor v u w below.text one.text below.next below.gave one.gives;
+  did = one_more One below.count actor v u w below.text one.text below.next below.did one.does;
   said = appends_more old mid new below.text one.text below.said (subst (λ (r : Result X E). Says mid new one.text r) ok one.said);
 }
 
 -- writing failed behind what was said of the actors before
-pub fails_at : {X E : Type 0} (v u w : Staffed) (old mid new : Known) (actor : ℕ) (result : Result X E) (error : E) → result ≡ Err error
-    → GaveBelow v u old mid actor → GaveOne u w mid new actor result → (count : ℕ) × (text : List ℕ) × GivesUpTo count v w text × WritesPrefix old new text
-fails_at {X} {E} v u w old mid new actor result error failed below one = (
+pub fails_at : {X E : Type 0} (One : Turn) (v u w : Staffed) (old mid new : Known) (actor : ℕ) (result : Result X E) (error : E) → result ≡ Err error
+    → DidBelow One v u old mid actor → DidOne One u w mid new actor result → (count : ℕ) × (text : List ℕ) × EachUpTo One count v w text × WritesPrefix old new text
+fails_at {X} {E} One v u w old mid new actor result error failed below one = (
   suc below.count,
   below.text ++ one.text,
-  one_more below.count actor v u w below.text one.text below.next below.gave one.gives,
+  one_more One below.count actor v u w below.text one.text below.next below.did one.does,
   prefix_behind old mid new below.text one.text below.said (subst (λ (r : Result X E). Says mid new one.text r) failed one.said),
 )
 
 -- all had their turn
-pub all_below : (v w : Staffed) (old new : Known) (actor count : ℕ) → actor ≡ count + 1 → GaveBelow v w old new actor
-    → (text : List ℕ) × GivesUpTo count v w text × Appends old new text
-all_below v w old new actor count is below =
+pub all_below : (One : Turn) (v w : Staffed) (old new : Known) (actor count : ℕ) → actor ≡ count + 1 → DidBelow One v w old new actor
+    → (text : List ℕ) × EachUpTo One count v w text × Appends old new text
+all_below One v w old new actor count is below =
     let same : below.count ≡ count = omega (arith, below.next, is) in
-    (below.text, subst (λ (n : ℕ). GivesUpTo n v w below.text) same below.gave, below.said)
+    (below.text, subst (λ (n : ℕ). EachUpTo One n v w below.text) same below.did, below.said)

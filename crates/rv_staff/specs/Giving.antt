@@ -49,11 +49,15 @@ pub record GivesNone (v w : Staffed) (actor : ℕ) (text : List ℕ) : Type 0 wh
 abbrev pub GivesOne : Staffed → Staffed → ℕ → List ℕ → Type 0
 GivesOne v w actor text = GivesPort v w actor text ⊎ GivesNone v w actor text
 
--- the actors 1 .. count, one after another
+-- the actors 1 .. count, one after another, each of which comes to one of these
+abbrev pub EachUpTo : (Staffed → Staffed → ℕ → List ℕ → Type 0) → ℕ → Staffed → Staffed → List ℕ → Type 0
+EachUpTo One zero v w text = (w ≡ v) × (text ≡ [])
+EachUpTo One (suc count) v w text =
+    (u : Staffed) × (before : List ℕ) × (last : List ℕ) × EachUpTo One count v u before × One u w (suc count) last × (text ≡ before ++ last)
+
+-- each is given a port and a thread, or not
 abbrev pub GivesUpTo : ℕ → Staffed → Staffed → List ℕ → Type 0
-GivesUpTo zero v w text = (w ≡ v) × (text ≡ [])
-GivesUpTo (suc count) v w text =
-    (u : Staffed) × (before : List ℕ) × (last : List ℕ) × GivesUpTo count v u before × GivesOne u w (suc count) last × (text ≡ before ++ last)
+GivesUpTo = EachUpTo GivesOne
 
 -- the lines have the actors 1 .. 10, the tasks those behind
 abbrev pub actors_of : List Shape → ℕ

@@ -58,6 +58,8 @@ pub struct Session {
     pub outsiders: Vec<Outsider>,
     /// What ends the requests of those that have one.
     pub(crate) enders: Vec<Ender>,
+    /// The numbers of those that have one.
+    pub(crate) served: Vec<usize>,
     /// The devices that were loaded.
     pub devices: Vec<DeviceJob>,
     /// How many requests a task's own body may make.
@@ -77,6 +79,7 @@ impl Drop for Session {
             channels: _,
             outsiders: _,
             enders: _,
+            served: _,
             devices: _,
             budget: _,
             capacity: _,
@@ -105,6 +108,7 @@ impl Session {
             channels: Vec::new(alloc),
             outsiders: Vec::new(alloc),
             enders: Vec::new(alloc),
+            served: Vec::new(alloc),
             devices,
             budget,
             capacity,
@@ -124,6 +128,7 @@ impl Session {
             channels,
             outsiders: _,
             enders,
+            served: _,
             devices: _,
             budget: _,
             capacity: _,

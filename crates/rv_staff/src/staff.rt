@@ -1,6 +1,6 @@
 //! A host that runs: its operator and the crew of its threads, which are of one turn.
 
-ghost use Rattle.std.specs.Prelude.{◌≡◌, ◌<◌, ◌^◌, [], Err, IfErr, IfOk, IfSome, List, MatchResult, is_some, length};
+ghost use Rattle.std.specs.Prelude.{◌≡◌, ◌<◌, ◌^◌, [], Err, IfErr, IfNone, IfOk, IfSome, List, MatchResult, is_some, length};
 ghost use Rattle.rv_turn.specs.Passes.{Acted, IsWorn};
 ghost use Rattle.rv_behind.specs.Acting.{Does};
 ghost use Rattle.rv_behind.specs.Events.{by, catalogue_of};
@@ -22,6 +22,7 @@ ghost use Rattle.rv_crew.specs.Teams.{IsOfTurn};
 ghost use Rattle.rv_shell.specs.Serving.{CarriesRead, Writes, answer_line};
 ghost use Rattle.rv_staff.specs.Ending.{Closes, Ended};
 ghost use Rattle.rv_crew.specs.Hiring.{hired};
+ghost use Rattle.rv_staff.specs.Restarting.{IsAgain};
 ghost use Rattle.rv_staff.specs.Staffs.{AreOf, no_crew};
 ghost use Rattle.rv_staff.specs.Working.{Works};
 ghost use Rattle.rv_staff.specs.declared.work.Work.{Work};
@@ -276,6 +277,31 @@ impl Staff {
         ensures crew { self.new.crew ≡ self.old.crew }
     {
         self.control.port(actor)
+    }
+
+    /// A unit begins anew, by its number: `Control::restart`.
+    #[tactic(auto, using(crate::proofs::OneTurn::moved, crate::proofs::OneTurn::asks_stay))]
+    pub fn restart<R: Wait>(&mut self, rt: &R, unit: usize) -> Result<Answer, Worn>
+        ensures told { MatchResult
+            result
+            (λ r. Told self.old.control (Ask.Step (asks.Restart unit)) r self.new.control)
+            (λ _. IsWorn self.old.control self.new.control) }
+        ensures crew { self.new.crew ≡ self.old.crew }
+    {
+        self.control.restart(rt, unit)
+    }
+
+    /// The port of a task whose unit was restarted, once the thread that had it has ended. None where no thread has.
+    #[tactic(auto, using(crate::proofs::OneTurn::taken_stay, crate::proofs::OneTurn::again_turn))]
+    pub fn port_again<R: Threads>(&mut self, rt: &R, actor: u64) -> Option<Port>
+        ensures some { IfSome result (IsAgain self.old self.new actor) }
+        ensures turn { IfSome result (λ p. p.turn ≡ self.new.control.turn) }
+        ensures none { IfNone result (self.new ≡ self.old) }
+    {
+        match self.crew.take(rt, actor) {
+            Some(finished) => Some(self.control.port_again(finished)),
+            None => None,
+        }
     }
 
     /// Starts a thread that does some work on a port of this host.

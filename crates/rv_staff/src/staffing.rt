@@ -106,6 +106,7 @@ fn take_outsider(session: &mut Session, actor: usize) -> Option<Outsider>
 fn hire_server<H: Hires>(
     hires: &H,
     session: &mut Session,
+    actor: usize,
     pipes: Pipes,
     ender: Ender,
     names: Catalogue,
@@ -114,13 +115,14 @@ fn hire_server<H: Hires>(
     requires { port.turn ≡ session.old.staff.control.turn }
     ensures { (work : Work) × (session.new.staff ≡ record session.old.staff { crew = hired session.old.staff.crew port work result }) }
 {
-    if session.enders.reserve(1).is_err() {
+    if session.enders.reserve(1).is_err() || session.served.reserve(1).is_err() {
         return session.staff.give_up(port);
     }
     let work = Work::Lines(session.alloc, pipes, names);
     match session.staff.hire(hires, port, work) {
         Ok(()) => {
             session.enders.push_reserved(ender);
+            session.served.push_reserved(actor);
             Ok(())
         }
         Err(fault) => Err(fault),
@@ -132,6 +134,7 @@ fn hire_server<H: Hires>(
 fn hire_outsider<H: Hires>(
     hires: &H,
     session: &mut Session,
+    actor: usize,
     outsider: Outsider,
     port: Port,
 ) -> Result<(), HireFault>
@@ -146,7 +149,7 @@ fn hire_outsider<H: Hires>(
         pipes,
         ender,
     } = outsider;
-    hire_server(hires, session, pipes, ender, names, port)
+    hire_server(hires, session, actor, pipes, ender, names, port)
 }
 
 // A thread for a task on its port: it serves the process that the task belongs to, or else does the task's own work.
@@ -161,7 +164,7 @@ fn hire_task<H: Hires>(
     ensures { (work : Work) × (session.new.staff ≡ record session.old.staff { crew = hired session.old.staff.crew port work result }) }
 {
     match take_outsider(session, actor) {
-        Some(outsider) => hire_outsider(hires, session, outsider, port),
+        Some(outsider) => hire_outsider(hires, session, actor, outsider, port),
         None => {
             let work = work_of(session, actor);
             session.staff.hire(hires, port, work)
@@ -169,8 +172,8 @@ fn hire_task<H: Hires>(
     }
 }
 
-// A thread for an actor on its port.
-fn hire<H: Hires>(
+/// A thread for an actor on its port.
+pub(crate) fn hire<H: Hires>(
     hires: &H,
     session: &mut Session,
     actor: usize,
@@ -185,8 +188,8 @@ fn hire<H: Hires>(
     hire_task(hires, session, actor, port)
 }
 
-// Says why an actor has no thread, if it should have one.
-fn explain<W: Write>(
+/// Says why an actor has no thread, if it should have one.
+pub(crate) fn explain<W: Write>(
     session: &Session,
     actor: usize,
     hired: Result<(), HireFault>,
@@ -228,8 +231,8 @@ fn staff_one<H: Hires, W: Write>(
     }
 }
 
-// The number behind those of all actors that may have a thread.
-fn end_of_actors(session: &Session) -> usize
+/// The number behind those of all actors that may have a thread.
+pub(crate) fn end_of_actors(session: &Session) -> usize
     ensures { result ≡ actors_of (catalogue_of session.now.staff.control.seen) + 1 }
 {
     session.staff.catalogue().tasks() + FIRST_TASK

@@ -1,4 +1,3 @@
 pub mod Behind
 pub mod Following
-pub mod Kept
 pub mod States

@@ -74,7 +74,7 @@ object_at values set None = []
 object_at values set (Some at) = object_in values set at.unit at.object
 
 abbrev pub object_line : History → ℕ → List ℕ
-object_line h object = object_at (scalars h.shapes object h.past) (state object h.past) (place h.shapes object)
+object_line h object = object_at (scalars h.shapes object h.past) (state h.shapes object h.past) (place h.shapes object)
 
 abbrev pub objects_below : History → ℕ → List ℕ
 objects_below h zero = []

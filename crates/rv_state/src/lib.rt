@@ -8,5 +8,4 @@ mod actors;
 mod head;
 mod objects;
 pub mod state;
-mod states;
 mod waiters;

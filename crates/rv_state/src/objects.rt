@@ -6,10 +6,8 @@ ghost use Rattle.rv_event.specs.Text.{values_text};
 ghost use Rattle.rv_shape.specs.Catalogue.{all_objects, handler};
 ghost use Rattle.rv_shape.specs.Printed.{target_text};
 ghost use Rattle.rv_shape.specs.Readers.{target_of};
-ghost use Rattle.rv_state.specs.Kept.{KeepsStates};
 ghost use Rattle.rv_state.specs.States.{components_text, handler_of, handlers_below, object_line, objects_below, objects_text, of_object, state_word};
 
-use crate::states::States;
 use rv_host::host::Host;
 use rv_shape::actor::Callee;
 use rv_shape::catalogue::Catalogue;
@@ -72,13 +70,8 @@ fn put_suspension(text: &mut String, unit: &str, object: &str, set: bool) -> Res
 }
 
 // Puts the line of an object.
-fn put_object(
-    text: &mut String,
-    host: &Host,
-    states: &States,
-    object: usize,
-) -> Result<(), AllocError>
-    ensures { OnOk result (KeepsStates states.now host.now.past → string_bytes text.new ≡ string_bytes text.old ++ object_line host.now object) }
+fn put_object(text: &mut String, host: &Host, object: usize) -> Result<(), AllocError>
+    ensures { OnOk result (string_bytes text.new ≡ string_bytes text.old ++ object_line host.now object) }
 {
     match host.catalogue().object(object) {
         None => Ok(()),
@@ -87,19 +80,18 @@ fn put_object(
             put_protected(text, unit.name(), found.name(), values)
         }
         Some((unit, Object::Suspension(found))) => {
-            put_suspension(text, unit.name(), found.name(), states.of(object))
+            put_suspension(text, unit.name(), found.name(), host.state(object))
         }
     }
 }
 
 // Puts the lines of all objects.
-fn put_all(text: &mut String, host: &Host, states: &States) -> Result<(), AllocError>
-    ensures { OnOk result (KeepsStates states.now host.now.past
-        → string_bytes text.new ≡ string_bytes text.old ++ objects_below host.now (length (all_objects host.now.shapes))) }
+fn put_all(text: &mut String, host: &Host) -> Result<(), AllocError>
+    ensures { OnOk result (string_bytes text.new ≡ string_bytes text.old ++ objects_below host.now (length (all_objects host.now.shapes))) }
 {
     let count = host.catalogue().objects();
     for place in 0..count {
-        put_object(text, host, states, place + 1)?;
+        put_object(text, host, place + 1)?;
     }
     Ok(())
 }
@@ -132,10 +124,10 @@ fn put_handlers(text: &mut String, catalogue: &Catalogue) -> Result<(), AllocErr
     Ok(())
 }
 
-/// Puts the lines of all objects and handlers, where these are the states. Err where memory was refused.
-pub fn put_objects(text: &mut String, host: &Host, states: &States) -> Result<(), AllocError>
-    ensures { OnOk result (KeepsStates states.now host.now.past → string_bytes text.new ≡ string_bytes text.old ++ objects_text host.now) }
+/// Puts the lines of all objects and handlers. Err where memory was refused.
+pub fn put_objects(text: &mut String, host: &Host) -> Result<(), AllocError>
+    ensures { OnOk result (string_bytes text.new ≡ string_bytes text.old ++ objects_text host.now) }
 {
-    put_all(text, host, states)?;
+    put_all(text, host)?;
     put_handlers(text, host.catalogue())
 }

@@ -1,24 +1,20 @@
 //! The state behind an entry, by an observer of the audit.
 
-ghost use Rattle.std.specs.Prelude.{◌≡◌, ◌==◌, IfOk, List, None, OnOk, Some, if◌then◌else◌, string_bytes};
-ghost use Rattle.rv_shape.specs.Shape.{Shape};
+ghost use Rattle.std.specs.Prelude.{◌≡◌, ◌==◌, IfOk, None, OnOk, Some, if◌then◌else◌, string_bytes};
 ghost use Rattle.rv_history.specs.History.{History};
 ghost use Rattle.rv_history.specs.Legal.{empty};
 ghost use Rattle.rv_history.specs.declared.limits.Limits.{Limits};
-ghost use Rattle.rv_reading.specs.Reads.{told};
 ghost use Rattle.rv_refused.specs.Filters.{FilterText};
-ghost use Rattle.rv_refused.specs.Looking.{WillHold};
-ghost use Rattle.rv_state.specs.Following.{Awaits, Follows, IsKept, Looks, said_in};
-ghost use Rattle.rv_state.specs.Kept.{KeepsStates};
+ghost use Rattle.rv_state.specs.Following.{Awaits, Follows, Looks, said_in};
+ghost use Rattle.rv_waits.specs.Following as Lasts;
 ghost use Rattle.rv_state.specs.States.{no_entry, or_no_entry, start_text, state_of, state_text};
 
 use crate::actors::put_places;
 use crate::head::{put_head, start_text};
 use crate::objects::put_objects;
-use crate::states::States;
 use crate::waiters::put_waiting;
 use rv_audit::observer::Observer;
-use rv_event::entry::{Answer, EntryRef};
+use rv_event::entry::Answer;
 use rv_host::host::Host;
 use rv_reading::deed::Deed;
 use rv_refused::{Filter, Since};
@@ -44,7 +40,6 @@ pub struct State {
     // The number of the entry that is asked about.
     number: usize,
     used: usize,
-    states: States,
     // The bodies that began and haven't ended, and the delays.
     waits: Waits<'static>,
     said: Said,
@@ -57,7 +52,6 @@ impl Drop for State {
             alloc: _,
             number: _,
             used: _,
-            states: _,
             waits: _,
             said: _,
         } = self;
@@ -74,17 +68,12 @@ fn nothing() -> Filter<'static> {
 }
 
 // What stands behind what the host has carried out.
-fn state_text(
-    alloc: Global,
-    host: &Host,
-    states: &States,
-    waits: &Waits<'_>,
-) -> Result<String, AllocError>
-    ensures { IfOk result (λ text. (filter : FilterText) → IsKept filter states.now waits.now host.now → string_bytes text ≡ state_of host.now) }
+fn state_text(alloc: Global, host: &Host, waits: &Waits<'_>) -> Result<String, AllocError>
+    ensures { IfOk result (λ text. (filter : FilterText) → Lasts.Follows filter waits.now host.now → string_bytes text ≡ state_of host.now) }
 {
     let mut text = String::new(alloc);
     put_head(alloc, &mut text, host)?;
-    put_objects(&mut text, host, states)?;
+    put_objects(&mut text, host)?;
     put_places(&mut text, host, waits.bodies())?;
     put_waiting(alloc, &mut text, host, waits.delays())?;
     Ok(text)
@@ -118,20 +107,6 @@ fn said_text(alloc: Global, number: usize, entries: usize, said: Said) -> Result
     }
 }
 
-// Notes what an entry that is told does to suspension objects.
-fn note(states: &mut States, host: &Host, deed: &Deed<'_>) -> Result<(), AllocError>
-    ensures { OnOk result (KeepsStates states.old host.now.past
-        → (units : List Shape) → WillHold (λ after. KeepsStates states.new after.past) units host.now (told deed.now)) }
-{
-    match *deed {
-        Deed::Asks(actor, request, word) => {
-            states.note(host, &EntryRef::Asked(actor, &request, word))
-        }
-        Deed::Loads(_, _, _) => Ok(()),
-        Deed::Lists(_, _, _) => Ok(()),
-    }
-}
-
 impl State {
     /// Before the first line of a journal.
     pub fn new(alloc: Global, number: usize) -> State
@@ -142,7 +117,6 @@ impl State {
             alloc,
             number,
             used: 0,
-            states: States::new(alloc),
             waits: Waits::new(alloc, nothing()),
             said: first_said(number),
         }
@@ -156,7 +130,6 @@ impl State {
             alloc,
             number,
             used,
-            states: _,
             waits: _,
             said,
         } = self;
@@ -171,7 +144,7 @@ impl State {
         if self.number != self.used {
             return Ok(());
         }
-        let text = state_text(self.alloc, host, &self.states, &self.waits)?;
+        let text = state_text(self.alloc, host, &self.waits)?;
         self.said = Said::Words(text);
         Ok(())
     }
@@ -190,7 +163,7 @@ impl Observer for State {
         deed: &Deed<'_>,
     ) -> Result<(), AllocError> {
         self.waits.before(units, host, number, deed)?;
-        note(&mut self.states, host, deed)
+        Ok(())
     }
 
     fn after(

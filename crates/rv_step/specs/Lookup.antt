@@ -2,13 +2,13 @@
 use Rattle.std.specs.Prelude.{ℕ, ℤ, pos, negsuc, ◌+◌, List, Option, Some, None}
 use Rattle.rv_text.specs.Names.{dotted}
 use Rattle.rv_shape.specs.Shape.{Shape}
-use Rattle.rv_shape.specs.Names.{task_number, object_number, operation_number}
+use Rattle.rv_shape.specs.Names.{task_number, object_number, operation_number, unit_number}
 use Rattle.rv_event.specs.declared.entry.Request.{Request}
 use Rattle.rv_event.specs.declared.entry.Request.TheVariants as Requests
 use Rattle.rv_step.specs.declared.step.Asker.{Asker}
 use Rattle.rv_step.specs.declared.step.Asker.TheVariants.{Operator, Line, Task}
 use Rattle.rv_step.specs.declared.step.Asked.{Asked}
-use Rattle.rv_step.specs.declared.step.Asked.TheVariants.{Call, Plain, Go, Change}
+use Rattle.rv_step.specs.declared.step.Asked.TheVariants.{Call, Restart, Plain, Go, Change}
 use Rattle.rv_step.specs.Names.{DottedWord}
 use Rattle.rv_shape.specs.Items.{◌>>=◌}
 
@@ -35,6 +35,7 @@ callee_of shapes object operation =
 abbrev pub request_of : List Shape → Asked → Option Request
 request_of shapes (Call object operation values) =
     callee_of shapes object operation >>= λ found. Some (Requests.Call found.0 found.1 values)
+request_of shapes (Restart unit) = unit_number shapes unit >>= λ number. Some (Requests.Restart number)
 request_of shapes (Plain request) = Some request
 request_of shapes (Go number) = None
 request_of shapes (Change change number) = None

@@ -17,7 +17,7 @@ use Rattle.rv_step.specs.declared.step.Asked.{Asked}
 use Rattle.rv_step.specs.declared.step.Asked.TheVariants as Asks
 use Rattle.rv_event.specs.declared.entry.Request.TheVariants.{Complete}
 use Rattle.rv_event.specs.Reading as requests
-use Rattle.rv_event.specs.Words.{interrupt_of, args_of, scalars_of}
+use Rattle.rv_event.specs.Words.{interrupt_of, args_of, lone_word, scalars_of}
 use Rattle.rv_shape.specs.Items.{◌>>=◌}
 use Rattle.rv_step.specs.StepWords.{dotted_of, identifier_of}
 use Rattle.rv_step.specs.Ends.{exit_of}
@@ -46,6 +46,10 @@ abbrev pub call_of : List (List ℕ) → Option Asked
 call_of (object ∷ operation ∷ words) =
     dotted_of object >>= λ o. identifier_of operation >>= λ p. args_of words >>= λ values. Some (Asks.Call o p values)
 call_of words = None
+
+-- `restart UNIT`
+abbrev pub restart_of : List (List ℕ) → Option Asked
+restart_of words = lone_word words >>= identifier_of >>= λ unit. Some (Asks.Restart unit)
 
 -- `end SCALARS : EXIT`
 abbrev pub end_of : List (List ℕ) → Option Asked
@@ -101,6 +105,7 @@ abbrev pub longer : List ℕ → List (List ℕ) → Option Asked
 longer key words =
     if bytes_eq key (codes "call") then call_of words
     else if bytes_eq key (codes "end") then end_of words
+    else if bytes_eq key (codes "restart") then restart_of words
     else if bytes_eq key (codes "append") then append_of words
     else if bytes_eq key (codes "replace") then replace_of words
     else numbered key words

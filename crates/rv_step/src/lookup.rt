@@ -73,6 +73,10 @@ pub fn request_of(
                 None => Ok(None),
             }
         }
+        Asked::Restart(unit) => match catalogue.find_unit(unit.as_str()) {
+            Some(number) => Ok(Some(Request::Restart(number))),
+            None => Ok(None),
+        },
         Asked::Plain(request) => Ok(Some(*request)),
         Asked::Go(_) | Asked::Change(_, _) => Ok(None),
     }

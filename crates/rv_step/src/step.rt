@@ -64,6 +64,8 @@ pub enum Asker {
 pub enum Asked {
     /// A call of an operation of an object with these values.
     Call(DottedName, Name, Args),
+    /// A restart of the unit of this name.
+    Restart(Name),
     /// Any other request: it names nothing that is looked up.
     Plain(Request),
     /// So many requests of the actor's text, one after another, at least one.

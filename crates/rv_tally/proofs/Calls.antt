@@ -61,7 +61,7 @@ answered h actor request object (OnSuspension unit name wanted) d =
     denied_grants (force h) (subject h actor) d (dotted unit name) (suspension_operation_name wanted) (clock h.past) in
     inr (
       decided h (subject h actor) on,
-      denied_first h actor request object on (performed (state object h.past) wanted) none,
+      denied_first h actor request object on (performed (state h.shapes object h.past) wanted) none,
     )
 
 -- the answer that a call gets

@@ -11,7 +11,7 @@ use rv_shape::shape::UnitShape;
 use rv_text::{dotted_parts, is_identifier, next_word};
 
 const NO_REQUEST: &str =
-    "{0} is no request: those are call, end, delay, tick, archive, resume, settle, clock, fire, finish, halt, load and list";
+    "{0} is no request: those are call, end, delay, tick, archive, restart, resume, settle, clock, fire, finish, halt, load and list";
 
 const NOTHING: &str = "nothing is asked there, between the actor and the arrow";
 
@@ -20,6 +20,8 @@ const NO_BRACKETS: &str = "behind list stand its lines in brackets, as list [all
 const NO_UNIT: &str = "{0} is no name of a unit";
 
 const NOTHING_LOADED: &str = "the name of a unit stands behind load";
+
+const NOTHING_RESTARTED: &str = "the name of a unit stands behind restart";
 
 const NO_CALLEE: &str = "behind call stand Unit.Object and the name of an operation";
 
@@ -39,6 +41,17 @@ const NO_EXIT: &str = "{0} is no end of a body: those are return, raise, overrun
 const NO_EXCEPTION: &str =
     "behind raise stands Constraint_Error, Program_Error or Host.Access_Denied";
 
+// Why no unit of exactly this name is loaded, if there is none.
+fn of_loaded<'a>(loaded: &'a Catalogue, name: &'a str) -> Option<Reason<'a>> {
+    let Some(number) = loaded.find_unit(name) else {
+        return Some(Reason::NotLoaded(name));
+    };
+    match loaded.unit(number) {
+        Some(shape) => of_name(name, shape.name()),
+        None => None,
+    }
+}
+
 // Why the load of a text is none, over the units that are given.
 fn of_load<'a>(given: &[UnitShape], text: &'a str) -> Option<Reason<'a>> {
     let Some((name, behind)) = next_word(text) else {
@@ -50,6 +63,20 @@ fn of_load<'a>(given: &[UnitShape], text: &'a str) -> Option<Reason<'a>> {
     match first_unit(given, name) {
         Some(_) => of_behind(name, behind),
         None => Some(Reason::NotGiven(name)),
+    }
+}
+
+// Why the restart of a text is none, over the units that are loaded.
+fn of_restart<'a>(loaded: &'a Catalogue, text: &'a str) -> Option<Reason<'a>> {
+    let Some((name, behind)) = next_word(text) else {
+        return Some(Reason::plain(NOTHING_RESTARTED));
+    };
+    if !is_identifier(name) {
+        return Some(Reason::of(NO_UNIT, name));
+    }
+    match of_loaded(loaded, name) {
+        Some(reason) => Some(reason),
+        None => of_behind(name, behind),
     }
 }
 
@@ -175,6 +202,7 @@ pub(crate) fn of_request<'a>(
         "call" => of_call(loaded, behind),
         "end" => of_end(behind),
         "load" => of_load(given, behind),
+        "restart" => of_restart(loaded, behind),
         "delay" | "tick" => of_one(key, behind),
         "archive" => of_one_natural(key, behind),
         "resume" | "settle" | "clock" | "fire" | "finish" | "halt" => of_behind(key, behind),

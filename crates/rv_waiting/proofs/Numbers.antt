@@ -7,7 +7,7 @@ use Rattle.rv_shape.specs.Fits.{IsWithin}
 use Rattle.rv_event.specs.Past.{held, mode, named_in, next_of}
 use Rattle.rv_event.specs.declared.entry.Entry.{Entry}
 use Rattle.rv_event.specs.declared.entry.Entry.TheVariants.{Asked, Load, ListChange}
-use Rattle.rv_event.specs.declared.entry.Request.TheVariants.{Call, Complete, Settle, Resume, DelayUntil, Clock, Fire, Quit, Tick, Halt, Archive}
+use Rattle.rv_event.specs.declared.entry.Request.TheVariants.{Call, Complete, Settle, Resume, DelayUntil, Clock, Fire, Quit, Tick, Halt, Archive, Restart}
 use Rattle.rv_history.specs.Fitting.{call_fits, may_call}
 use Rattle.rv_history.specs.History.{History}
 use Rattle.rv_history.specs.Legal.{Legal}
@@ -46,6 +46,7 @@ called_known h (Asked a Quit w) o l is = absurd (cc)
 called_known h (Asked a (Tick n) w) o l is = absurd (cc)
 called_known h (Asked a Halt w) o l is = absurd (cc)
 called_known h (Asked a (Archive n) w) o l is = absurd (cc)
+called_known h (Asked a (Restart u) w) o l is = absurd (cc)
 called_known h Load o l is = absurd (cc)
 called_known h ListChange o l is = absurd (cc)
 

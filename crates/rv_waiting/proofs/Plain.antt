@@ -1,8 +1,8 @@
 -- What is kept of those that wait, after an entry that speaks of its own actor alone.
-use Rattle.std.proofs.Common.{◌≡◌, ◌∙◌, ℕ, ◌<◌, List, ◌∷◌, length, map, Option, Some, None, ap, subst, sym}
-use Rattle.std.specs.Prelude.{◌==◌}
+use Rattle.std.proofs.Common.{◌≡◌, ◌∙◌, ℕ, ◌<◌, List, ◌∷◌, length, map, Option, Some, None, ap, subst, sym, false}
+use Rattle.std.specs.Prelude.{◌==◌, if◌then◌else◌}
 use Rattle.std.specs.List.{filter}
-use Rattle.rv_event.specs.Past.{joined, left, named_in, next_of, state, state_after, waiter, waiter_after, waiting}
+use Rattle.rv_event.specs.Past.{joined, left, named_in, next_of, state, state_after, waiter, waiter_after, waiting, is_restarted}
 use Rattle.rv_event.specs.declared.entry.Body.{Body}
 use Rattle.rv_event.specs.declared.entry.Entry.{Entry}
 use Rattle.rv_event.specs.declared.entry.Next.TheVariants.{Nothing}
@@ -14,6 +14,8 @@ use Rattle.rv_waiting.specs.Suspensions.{AreSuspensions}
 use Rattle.rv_waiting.specs.Versions.{AreVersions, asker, with_version}
 use Rattle.rv_waiting.specs.Waiting.{IsPlain}
 use Rattle.rv_waiting.proofs.Telling.{told}
+use Rattle.rv_shape.specs.Shape.{Shape}
+use Rattle.rv_shape.specs.Units.{object_unit}
 
 some_same : (a b : ℕ) → (let q : Option ℕ = Some a in q ≡ Some b) → a ≡ b
 some_same a b e = cc
@@ -27,11 +29,11 @@ queues_stay past e a queues p are o =
     are o ∙ sym (λ i. map (λ (call : Body). call.actor) (filter (λ (call : Body). call.object == o) (joined (p.queues i) (left (named_in (p.names i)) (waiting past)))))
 
 -- the suspension objects stay
-pub suspensions_stay : (past : List Entry) (e : Entry) (a : ℕ) (suspensions : List Suspension) → IsPlain a e → AreSuspensions past suspensions → AreSuspensions (e ∷ past) suspensions
-suspensions_stay past e a suspensions p are o =
+pub suspensions_stay : (shapes : List Shape) (past : List Entry) (e : Entry) (a : ℕ) (suspensions : List Suspension) → IsPlain a e → AreSuspensions shapes past suspensions → AreSuspensions shapes (e ∷ past) suspensions
+suspensions_stay shapes past e a suspensions p are o =
     are o
     ∙ sym (λ i. record {
-      state = state_after (p.touches o i) (waiter o past) (state o past);
+      state = if is_restarted (p.restarts_none i) (object_unit shapes o) then false else state_after (p.touches o i) (waiter o past) (state shapes o past);
       waiter = waiter_after (p.touches o i) (waiter o past);
       released = None;
     })

@@ -10,7 +10,7 @@ use Rattle.rv_event.specs.declared.entry.Entry.{Entry}
 use Rattle.rv_event.specs.declared.entry.Entry.TheVariants.{Asked, Load, ListChange}
 use Rattle.rv_event.specs.declared.entry.Recorded.{Recorded}
 use Rattle.rv_event.specs.declared.entry.Recorded.TheVariants.{Started, Queued, Refused, Done, Suspended, Delayed, Woken, Accepted}
-use Rattle.rv_event.specs.declared.entry.Request.TheVariants.{Call, Complete, Settle, Resume, DelayUntil, Clock, Fire, Quit, Tick, Halt, Archive}
+use Rattle.rv_event.specs.declared.entry.Request.TheVariants.{Call, Complete, Settle, Resume, DelayUntil, Clock, Fire, Quit, Tick, Halt, Archive, Restart}
 use Rattle.rv_event.specs.declared.entry.Stance.TheVariants.{WaitsOn}
 use Rattle.rv_history.specs.Frame.{is_apart}
 use Rattle.rv_history.specs.History.{History}
@@ -18,6 +18,7 @@ use Rattle.rv_history.specs.Legal.{Legal}
 use Rattle.rv_history.proofs.Frame.{all_parts, not_own}
 use Rattle.rv_history.proofs.Released.{Outcome, outcome, set_releases}
 use Rattle.rv_history.proofs.Stances.{itself}
+use Rattle.rv_shape.specs.Shape.{Shape}
 
 -- a Set_True since its last entry
 
@@ -36,6 +37,7 @@ waits_itself a o (Asked b Quit v) w other none = none
 waits_itself a o (Asked b (Tick n) v) w other none = none
 waits_itself a o (Asked b Halt v) w other none = none
 waits_itself a o (Asked b (Archive n) v) w other none = none
+waits_itself a o (Asked b (Restart u) v) w other none = none
 waits_itself a o (Asked b (Call q p vs) v) w other none = by_test (q == o)
   where
     by_operation : (d : Option SuspensionOperation) → is_named a (waiter_after (accepted_touch d) w) ≡ false
@@ -59,17 +61,17 @@ waits_itself a o (Asked b (Call q p vs) v) w other none = by_test (q == o)
     by_test true = by_word v
     by_test false = none
 
-another_waits : (a o : ℕ) (later : List Entry) (set : Entry) (earlier : List Entry) → list_all (is_apart a) (later ++ set ∷ []) ≡ true → touch o set ≡ Sets → is_named a (waiter o (later ++ set ∷ earlier)) ≡ false
-another_waits a o [] set earlier silent sets = ap (λ t. is_named a (waiter_after t (waiter o earlier))) sets
-another_waits a o (e ∷ later) set earlier silent sets =
-    let parts = all_parts (is_apart a) e (later ++ set ∷ []) silent in
-    waits_itself a o e (waiter o (later ++ set ∷ earlier)) (not_own a e parts.0) (another_waits a o later set earlier parts.1 sets)
+another_waits : (shapes : List Shape) (a o : ℕ) (later : List Entry) (set : Entry) (earlier : List Entry) → list_all (is_apart shapes a) (later ++ set ∷ []) ≡ true → touch o set ≡ Sets → is_named a (waiter o (later ++ set ∷ earlier)) ≡ false
+another_waits shapes a o [] set earlier silent sets = ap (λ t. is_named a (waiter_after t (waiter o earlier))) sets
+another_waits shapes a o (e ∷ later) set earlier silent sets =
+    let parts = all_parts (is_apart shapes a) e (later ++ set ∷ []) silent in
+    waits_itself a o e (waiter o (later ++ set ∷ earlier)) (not_own shapes a e parts.0) (another_waits shapes a o later set earlier parts.1 sets)
 
-pub released_is : (h : History) (a o : ℕ) → Legal h → stance a h.past ≡ WaitsOn o → not (is_named a (waiter o h.past)) ≡ released a o h.past
+pub released_is : (h : History) (a o : ℕ) → Legal h → stance h.shapes a h.past ≡ WaitsOn o → not (is_named a (waiter o h.past)) ≡ released a o h.past
 released_is h a o l at = by_outcome (outcome h.limits h.past h.shapes h.lists a o l at)
   where
-    by_outcome : Outcome a o h.past → not (is_named a (waiter o h.past)) ≡ released a o h.past
+    by_outcome : Outcome h.shapes a o h.past → not (is_named a (waiter o h.past)) ≡ released a o h.past
     by_outcome (inl was) = ap (λ w. not (is_named a w)) was.1 ∙ ap not (itself a) ∙ sym was.0
     by_outcome (inr r) =
-        ap (λ es. not (is_named a (waiter o es))) r.split ∙ ap not (another_waits a o r.later r.set r.earlier r.silent r.sets)
-        ∙ sym (ap (released a o) r.split ∙ set_releases a o r.later r.set r.earlier r.silent r.sets)
+        ap (λ es. not (is_named a (waiter o es))) r.split ∙ ap not (another_waits h.shapes a o r.later r.set r.earlier r.silent r.sets)
+        ∙ sym (ap (released a o) r.split ∙ set_releases h.shapes a o r.later r.set r.earlier r.silent r.sets)

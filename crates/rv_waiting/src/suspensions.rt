@@ -1,6 +1,6 @@
 //! The suspension objects, each as the entries so far leave it (D.10).
 
-ghost use Rattle.std.specs.Prelude.{◌≡◌, ◌<◌, [], ◌∷◌, ℕ, List, Some, None, replicate, IfOk};
+ghost use Rattle.std.specs.Prelude.{◌≡◌, ◌<◌, [], ◌∷◌, ℕ, List, Some, None, length, replicate, slice_index_or, IfOk};
 ghost use Rattle.rv_event.specs.Lent.{whole};
 ghost use Rattle.rv_event.specs.Past as past;
 ghost use Rattle.rv_event.specs.declared.entry.Entry.{Entry};
@@ -10,10 +10,14 @@ ghost use Rattle.rv_history.specs.Legal.{Legal};
 ghost use Rattle.rv_suspend.specs.Suspension.{Suspension, initially};
 ghost use Rattle.rv_waiting.specs.Limits.{most_places};
 ghost use Rattle.rv_waiting.specs.Suspensions as suspensions;
-ghost use Rattle.rv_waiting.specs.Suspensions.{AreSuspensions, suspension_after, touch_of_deed};
+ghost use Rattle.rv_waiting.specs.Suspensions.{AreRenewed, AreSuspensions, HasOneRenewed, suspension_after, touch_of_deed, touched_at};
+ghost use Rattle.rv_shape.specs.Catalogue.{all_objects};
+ghost use Rattle.rv_shape.specs.Shape.{Shape};
+ghost use Rattle.rv_shape.specs.Units.{is_unit, object_unit};
 
 use rv_event::entry::{EntryRef, Recorded, Request};
-use rv_shape::catalogue::{MOST_OBJECTS, suspension_operation};
+use rv_event::one_entry::restarts;
+use rv_shape::catalogue::{Catalogue, MOST_OBJECTS, suspension_operation};
 use rv_shape::suspension::SuspensionOperation;
 use rv_suspend::SuspensionObject;
 use std::alloc::{AllocError, Global};
@@ -88,6 +92,40 @@ fn carry_out(suspension: &mut SuspensionObject, deed: Deed)
     }
 }
 
+// Whether an object is of a unit.
+fn is_of(catalogue: &Catalogue, object: usize, unit: usize) -> bool
+    ensures { result ≡ is_unit unit (object_unit catalogue.now object) }
+{
+    match catalogue.unit_of_object(object) {
+        Some(of) => of == unit,
+        None => false,
+    }
+}
+
+// An object is False, if it is of a unit.
+fn renew_one(items: &mut Vec<SuspensionObject>, catalogue: &Catalogue, unit: usize, object: usize)
+    requires { object < length items.old.items }
+    ensures { HasOneRenewed catalogue.now unit object items.old.items items.new.items }
+{
+    if is_of(catalogue, object, unit) {
+        items[object].set_false();
+    }
+}
+
+// The objects of a unit that is restarted are False, if one is (own). Who waits goes on waiting.
+#[tactic(auto, using(crate::proofs::Suspending::none_renewed, crate::proofs::Suspending::first_renewed, crate::proofs::Suspending::one_renewed, crate::proofs::Suspending::all_renewed))]
+fn renew(items: &mut Vec<SuspensionObject>, catalogue: &Catalogue, unit: Option<usize>)
+    requires { length (all_objects catalogue.now) < length items.old.items }
+    ensures { AreRenewed catalogue.now unit items.old.items items.new.items }
+{
+    let Some(unit) = unit else {
+        return;
+    };
+    for object in 0..catalogue.objects() + 1 {
+        renew_one(items, catalogue, unit, object);
+    }
+}
+
 // A suspension object for each number of an object.
 fn all_false(alloc: Global) -> Result<Vec<SuspensionObject>, AllocError>
     ensures { IfOk result (λ items. items.items ≡ replicate most_places initially) }
@@ -125,7 +163,7 @@ impl Suspensions {
     /// All are False, and nobody waits.
     #[tactic(auto, using(crate::proofs::Suspending::fresh_long, crate::proofs::Suspending::fresh_collected, crate::proofs::Suspending::fresh_are))]
     pub fn new(alloc: Global) -> Result<Suspensions, AllocError>
-        ensures { IfOk result (λ s. AreSuspensions [] s) }
+        ensures { IfOk result (λ s. AreSuspensions [] [] s) }
     {
         let items = all_false(alloc)?;
         Ok(Suspensions { items })
@@ -133,15 +171,15 @@ impl Suspensions {
 
     /// Whether the object is True (Current_State).
     pub fn state(&self, object: usize) -> bool
-        ensures { (history : List Entry) → AreSuspensions history self.now →
-            result ≡ past.state object history }
+        ensures { (shapes : List Shape) (history : List Entry) → AreSuspensions shapes history self.now →
+            result ≡ past.state shapes object history }
     {
         object < self.items.len() && self.items[object].state()
     }
 
     /// The actor that waits on it.
     pub fn waiter(&self, object: usize) -> Option<usize>
-        ensures { (history : List Entry) → AreSuspensions history self.now →
+        ensures { (shapes : List Shape) (history : List Entry) → AreSuspensions shapes history self.now →
             result ≡ past.waiter object history }
     {
         self.items.get(object)?.waiter()
@@ -149,7 +187,7 @@ impl Suspensions {
 
     // Whether it is this actor that waits.
     fn is_waiter(&self, actor: usize, object: usize) -> bool
-        ensures { (history : List Entry) → AreSuspensions history self.now →
+        ensures { (shapes : List Shape) (history : List Entry) → AreSuspensions shapes history self.now →
             result ≡ past.is_named actor (past.waiter object history) }
     {
         match self.waiter(object) {
@@ -161,21 +199,42 @@ impl Suspensions {
     /// Whether an actor that was suspended on it may go on: an accepted Set_True has released it,
     /// which is so exactly where it isn't the one that waits.
     pub fn is_released(&self, actor: usize, object: usize) -> bool
-        ensures { (h : History) → Legal h → AreSuspensions h.past self.now →
-            past.stance actor h.past ≡ Stance.WaitsOn object →
+        ensures { (h : History) → Legal h → AreSuspensions h.shapes h.past self.now →
+            past.stance h.shapes actor h.past ≡ Stance.WaitsOn object →
             result ≡ past.released actor object h.past }
     {
         !self.is_waiter(actor, object)
     }
 
-    /// One entry more.
-    pub fn note(&mut self, entry: &EntryRef)
+    // What an entry more does to the object that it is a call of.
+    fn carry(&mut self, entry: &EntryRef)
         requires { (object : ℕ) → suspensions.called (whole entry.now) ≡ Some object → object < most_places }
-        ensures { (history : List Entry) → AreSuspensions history self.old →
-            AreSuspensions (whole entry.now ∷ history) self.new }
+        ensures { (shapes : List Shape) (history : List Entry) → AreSuspensions shapes history self.old → (object : ℕ) →
+            slice_index_or self.new object initially ≡ touched_at shapes object history (whole entry.now) }
     {
         if let Some(object) = called(entry) {
             carry_out(&mut self.items[object], deed_of(entry));
         }
+    }
+
+    // The objects of a unit that is restarted are False, if one is.
+    #[tactic(auto, using(crate::proofs::Suspending::renewed_collected))]
+    fn renew(&mut self, catalogue: &Catalogue, unit: Option<usize>)
+        requires { length (all_objects catalogue.now) < most_places }
+        ensures { AreRenewed catalogue.now unit self.old self.new }
+    {
+        renew(&mut self.items, catalogue, unit);
+    }
+
+    /// One entry more.
+    #[tactic(auto, using(crate::proofs::Suspending::renewed_are))]
+    pub fn note(&mut self, catalogue: &Catalogue, entry: &EntryRef)
+        requires called { (object : ℕ) → suspensions.called (whole entry.now) ≡ Some object → object < most_places }
+        requires room { length (all_objects catalogue.now) < most_places }
+        ensures { (history : List Entry) → AreSuspensions catalogue.now history self.old →
+            AreSuspensions catalogue.now (whole entry.now ∷ history) self.new }
+    {
+        self.carry(entry);
+        self.renew(catalogue, restarts(entry));
     }
 }

@@ -5,6 +5,7 @@ pub mod room_again;
 mod tasks;
 pub mod told_revoke;
 pub mod two_readers;
+mod unit_restarted;
 
 use crate::stage::closed::tell;
 use crate::stage::hands::Hands;
@@ -16,5 +17,6 @@ use std::thread::Threads;
 pub fn play_all<R: Threads + Wait + AllocGlobal + Print>(rt: &R, hands: &Hands) -> io::Result<()> {
     tell(rt, "told_revoke_is_seen", told_revoke::play(rt, hands))?;
     tell(rt, "two_readers_at_once", two_readers::play(rt, hands))?;
-    tell(rt, "room_comes_again", room_again::play(rt, hands))
+    tell(rt, "room_comes_again", room_again::play(rt, hands))?;
+    tell(rt, "unit_is_restarted", unit_restarted::play(rt, hands))
 }

@@ -23,9 +23,9 @@ pub fn scalars_stay_during_exclusive_bodies()
         scalars h.shapes body.object h.past ≡ scalars h.shapes body.object (start ∷ past) }
 {}
 
-/// Entries that are neither an actor's own nor name it leave what it holds, its innermost body and
-/// its mode as they were.
+/// Entries that are neither an actor's own nor name it, nor restart its unit, leave what it holds, its innermost body
+/// and its mode as they were.
 pub fn other_entries_move_nobody()
     ensures { (shapes : List Shape) (actor : ℕ) (later past : List Entry) →
-        list_all (is_apart actor) later ≡ true → Unmoved shapes actor (later ++ past) past }
+        list_all (is_apart shapes actor) later ≡ true → Unmoved shapes actor (later ++ past) past }
 {}

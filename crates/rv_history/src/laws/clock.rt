@@ -49,7 +49,7 @@ pub fn clock_is_told()
 /// One that is delayed is woken exactly where the clock has come to its time.
 pub fn delays_end_exactly_in_time()
     ensures { (h : History) (actor : ℕ) (time : ℤ) → Legal h → IsSolvent h →
-        stance actor h.past ≡ WaitsUntil time →
+        stance h.shapes actor h.past ≡ WaitsUntil time →
         (out h actor Resume ≡ Woken None) ↔ (int_le time (pos (clock h.past)) ≡ true) }
 {}
 

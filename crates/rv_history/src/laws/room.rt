@@ -1,17 +1,20 @@
 //! Room: what is under way can always end.
 
 ghost use Rattle.std.specs.List.{list_any};
-ghost use Rattle.std.specs.Prelude.{◌≡◌, ◌≢◌, ◌<◌, ◌≤◌, ◌+◌, ◌^◌, ◌↔◌, ◌∷◌, ◌++◌, ℕ, List, [], ℤ, false, is_some, length, true};
+ghost use Rattle.std.specs.Prelude.{◌≡◌, ◌≢◌, ◌<◌, ◌≤◌, ◌+◌, ◌^◌, ◌↔◌, ◌∷◌, ◌++◌, ℕ, List, [], ℤ, false, is_some, length, true, Some};
+ghost use Rattle.rv_shape.specs.Catalogue.{numbered};
 ghost use Rattle.rv_shape.specs.Shape.{Shape};
 ghost use Rattle.rv_event.specs.Past.{archived, archives};
 ghost use Rattle.rv_event.specs.declared.entry.Answer.TheVariants.{Full, OutOfMemory};
-ghost use Rattle.rv_event.specs.declared.entry.Entry.TheVariants.{ListChange, Load};
+ghost use Rattle.rv_event.specs.declared.entry.Entry.TheVariants.{Asked, ListChange, Load};
+ghost use Rattle.rv_event.specs.declared.entry.Recorded.TheVariants.{Accepted};
 ghost use Rattle.rv_event.specs.declared.entry.Entry.{Entry};
 ghost use Rattle.rv_event.specs.declared.entry.Exit.{Exit};
-ghost use Rattle.rv_event.specs.declared.entry.Request.TheVariants.{Archive, Complete, Halt, Quit, Resume, Settle};
+ghost use Rattle.rv_event.specs.declared.entry.Request.TheVariants.{Archive, Complete, Halt, Quit, Restart, Resume, Settle};
 ghost use Rattle.rv_event.specs.declared.entry.Request.{Request};
 ghost use Rattle.rv_history.specs.Due.{due, out};
 ghost use Rattle.rv_history.specs.History.{History};
+ghost use Rattle.rv_history.specs.InUse.{in_use};
 ghost use Rattle.rv_history.specs.Legal.{Legal};
 ghost use Rattle.rv_history.specs.Owed.{IsSolvent, has_room, is_paid, owed, room};
 
@@ -36,6 +39,15 @@ pub fn cost_is_one_and_the_change_of_owed()
 pub fn loads_cost_one_and_their_tasks()
     ensures { (h : History) (shape : Shape) → Legal h → IsSolvent h →
         (has_room h.limits.capacity (h.shapes ++ shape ∷ []) (Load ∷ h.past) ≡ true)
+        ↔ (1 + length shape.tasks ≤ room h) }
+{}
+
+/// A restart of a unit that nobody uses costs one and the tasks of its unit, each of which owes its quit again.
+#[tactic(auto, using(crate::proofs::Renewing::restart_costs))]
+pub fn restarts_cost_one_and_their_tasks()
+    ensures { (h : History) (unit : ℕ) (value : ℤ) (shape : Shape) → Legal h → IsSolvent h →
+        numbered h.shapes unit ≡ Some shape → in_use h unit ≡ false →
+        (has_room h.limits.capacity h.shapes (Asked 0 (Restart unit) (Accepted value) ∷ h.past) ≡ true)
         ↔ (1 + length shape.tasks ≤ room h) }
 {}
 

@@ -2,6 +2,7 @@
 
 ghost use Rattle.std.specs.Prelude.{◌≡◌, ◌↔◌, ℕ, ℤ, List, None, false, is_some, not, pos, true};
 ghost use Rattle.rv_shape.specs.Catalogue.{OnSuspension, target};
+ghost use Rattle.rv_shape.specs.Shape.{Shape};
 ghost use Rattle.rv_shape.specs.declared.suspension.SuspensionOperation.TheVariants.{SetTrue};
 ghost use Rattle.rv_event.specs.Past.{released, stance, state, waiter};
 ghost use Rattle.rv_event.specs.declared.entry.Answer.TheVariants.{Accepted, Woken};
@@ -18,8 +19,8 @@ ghost use Rattle.rv_history.specs.Suspension.{IsReleased};
 /// it waited.
 pub fn woken_exactly_when_set_true()
     ensures { (h : History) (actor object : ℕ) → Legal h → IsSolvent h →
-        stance actor h.past ≡ WaitsOn object →
-        (out h actor Resume ≡ Woken None) ↔ IsReleased actor object h.past }
+        stance h.shapes actor h.past ≡ WaitsOn object →
+        (out h actor Resume ≡ Woken None) ↔ IsReleased h.shapes actor object h.past }
 {}
 
 /// After an accepted Set_True nobody waits, and the object is False where one waited, else True.
@@ -28,14 +29,14 @@ pub fn set_true_is_taken_by_the_waiter()
     ensures { (h : History) (actor object operation : ℕ) (values : List ℤ) (unit name : List ℕ) →
         target h.shapes object operation ≡ OnSuspension unit name SetTrue →
         let next = (after h actor (Call object operation values) (Accepted (pos 0))).past in
-        (waiter object next ≡ None) × (state object next ≡ not (is_some (waiter object h.past))) }
+        (waiter object next ≡ None) × (state h.shapes object next ≡ not (is_some (waiter object h.past))) }
 {}
 
 /// At most one waits on a suspension object and isn't released.
 #[tactic(auto, using(crate::proofs::Released::one_waits))]
 pub fn one_waits_at_a_time()
     ensures { (h : History) (actor other object : ℕ) → Legal h →
-        stance actor h.past ≡ WaitsOn object → stance other h.past ≡ WaitsOn object →
+        stance h.shapes actor h.past ≡ WaitsOn object → stance h.shapes other h.past ≡ WaitsOn object →
         released actor object h.past ≡ false → released other object h.past ≡ false →
         actor ≡ other }
 {}
@@ -43,6 +44,6 @@ pub fn one_waits_at_a_time()
 /// While one waits the object is False.
 #[tactic(auto, using(crate::proofs::Released::waited_false))]
 pub fn waited_objects_are_false()
-    ensures { (object : ℕ) (past : List Entry) →
-        is_some (waiter object past) ≡ true → state object past ≡ false }
+    ensures { (shapes : List Shape) (object : ℕ) (past : List Entry) →
+        is_some (waiter object past) ≡ true → state shapes object past ≡ false }
 {}

@@ -82,7 +82,7 @@ fn suspension_facts(
     ensures denied { result.denied ≡ not decided.0 }
     ensures blocking { result.blocking ≡ (rules.holds_any (history_of seen.now) asked.0 && asked.2) }
     ensures waited { result.waited ≡ ((asked.1 && rules.waits operation) && is_some (past.waiter object (history_of seen.now).past)) }
-    ensures state { result.state ≡ past.state object (history_of seen.now).past }
+    ensures state { result.state ≡ past.state (history_of seen.now).shapes object (history_of seen.now).past }
 {
     let (actor, call, may_block) = asked;
     let (granted, line) = decided;

@@ -74,7 +74,7 @@ fn version_then(seen: &Seen, actor: usize) -> usize
 // At what an actor was left.
 fn stance_of(seen: &Seen, actor: usize) -> Stance
     requires { IsSeen seen.now }
-    ensures { result ≡ past.stance actor (history_of seen.now).past }
+    ensures { result ≡ past.stance (history_of seen.now).shapes actor (history_of seen.now).past }
 {
     seen.present.stance(actor)
 }
@@ -83,7 +83,7 @@ fn stance_of(seen: &Seen, actor: usize) -> Stance
 pub fn resume_facts(seen: &Seen, actor: usize) -> ResumeFacts
     requires { IsSeen seen.now }
     ensures { resumed (scalars_of_body (history_of seen.now) (past.innermost (history_of seen.now).shapes actor (history_of seen.now).past)) result
-        ≡ due.due_resume (history_of seen.now) actor (past.stance actor (history_of seen.now).past) }
+        ≡ due.due_resume (history_of seen.now) actor (past.stance (history_of seen.now).shapes actor (history_of seen.now).past) }
 {
     match stance_of(seen, actor) {
         Stance::Free => ResumeFacts::Nothing,

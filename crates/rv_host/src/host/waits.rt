@@ -34,4 +34,11 @@ impl Host {
     {
         self.waiting.waiter(object)
     }
+
+    /// Whether a suspension object is True (Current_State, D.10).
+    pub fn state(&self, object: usize) -> bool
+        ensures { result ≡ past.state self.now.shapes object self.now.past }
+    {
+        self.waiting.state(object)
+    }
 }

@@ -7,6 +7,7 @@ ghost use Rattle.rv_history.specs.Owed.{actors};
 ghost use Rattle.rv_host.specs.Seen.{IsSeen, history_of};
 ghost use Rattle.rv_shape.specs.Catalogue as catalogues;
 ghost use Rattle.rv_shape.specs.Readers.{target_of};
+ghost use Rattle.rv_shape.specs.Units as units;
 
 use crate::rules::blocking::count_held;
 use crate::rules::values::{fit_exit, fit_parameters, fit_scalars};
@@ -178,6 +179,13 @@ fn is_archive(seen: &Seen, number: usize) -> bool
     seen.limits.capacity + number < MOST_ENTRIES
 }
 
+// Whether there is a unit of this number.
+fn is_loaded(catalogue: &Catalogue, unit: usize) -> bool
+    ensures { result ≡ units.is_loaded catalogue.now unit }
+{
+    catalogue.unit(unit).is_some()
+}
+
 // Whether a request fits an actor that there is, in this mode.
 fn fits_mode(seen: &Seen, actor: usize, request: &Request, mode: Mode) -> bool
     requires seen { IsSeen seen.now }
@@ -202,6 +210,8 @@ fn fits_mode(seen: &Seen, actor: usize, request: &Request, mode: Mode) -> bool
         Request::Tick(ticks) => is_operator(seen.catalogue, actor) && is_tick(*ticks),
         Request::Halt => is_operator(seen.catalogue, actor),
         Request::Archive(number) => is_operator(seen.catalogue, actor) && is_archive(seen, *number),
+        Request::Restart(unit) => is_operator(seen.catalogue, actor)
+            && is_loaded(seen.catalogue, *unit),
     }
 }
 

@@ -10,7 +10,7 @@ use crate::seen::Seen;
 /// Whether the object is True.
 pub fn state_of(seen: &Seen, object: usize) -> bool
     requires { IsSeen seen.now }
-    ensures { result ≡ past.state object (history_of seen.now).past }
+    ensures { result ≡ past.state (history_of seen.now).shapes object (history_of seen.now).past }
 {
     seen.waiting.state(object)
 }
@@ -26,7 +26,7 @@ pub fn has_waiter(seen: &Seen, object: usize) -> bool
 /// Whether an actor that was suspended on the object was released.
 pub fn is_released(seen: &Seen, actor: usize, object: usize) -> bool
     requires seen { IsSeen seen.now }
-    requires waits { past.stance actor (history_of seen.now).past ≡ Stance.WaitsOn object }
+    requires waits { past.stance (history_of seen.now).shapes actor (history_of seen.now).past ≡ Stance.WaitsOn object }
     ensures { result ≡ past.released actor object (history_of seen.now).past }
 {
     seen.waiting.is_released(actor, object)

@@ -1,15 +1,16 @@
 //! The control gives out ports.
 
 ghost use Rattle.std.specs.Prelude.{◌≡◌, ◌<◌, ◌∷◌, false, IfOk, IfErr, OnErr, vec_len};
+ghost use Rattle.rv_turn.specs.Passes.{Meets};
 ghost use Rattle.std.specs.Vec.{vec_capacity};
-ghost use Rattle.rv_behind.specs.Events.{catalogue_of};
+ghost use Rattle.rv_behind.specs.Events.{by, catalogue_of};
 ghost use Rattle.rv_port.specs.Actors.{is_performer};
 ghost use Rattle.rv_port.specs.Ports.{pass_of};
 ghost use Rattle.rv_port.specs.Controls.{listed, IsGiven, IsPortFault};
 
 use super::{Control, PORT_ACTS};
 use crate::fault::PortFault;
-use crate::port::Port;
+use crate::port::{Finished, Port};
 use rv_shape::actor::Actor;
 use rv_shape::catalogue::Catalogue;
 use rv_turn::SplitFault;
@@ -48,6 +49,20 @@ fn is_performer(catalogue: &Catalogue, actor: u64) -> bool
 }
 
 impl Control {
+    /// The port of a task whose unit was restarted, once more: it goes on where it was done, and has seen all that the control has, the
+    /// restart with it. It takes no memory. The port is of this control.
+    pub fn port_again(&mut self, finished: Finished) -> Port
+        requires turn { finished.turn ≡ self.old.turn }
+        ensures meets { Meets by (pass_of finished) self.old.seen (pass_of result) }
+        ensures mark { result.refused ≡ finished.refused }
+        ensures same { self.new ≡ self.old }
+    {
+        let mut port = finished.into_port();
+        let note = self.note();
+        port.told(note);
+        port
+    }
+
     /// The port of an actor that may have one, and had none. It takes all memory that any run of the loaded bodies takes.
     pub fn port(&mut self, actor: u64) -> Result<Port, PortFault>
         ensures ok { IfOk result (λ p. IsGiven self.old actor self.new (pass_of p) × (p.refused ≡ false)) }

@@ -58,15 +58,7 @@ fn finished(asker: Asker) -> Finished
     ensures same { result ≡ porting asker.pass asker.is_refused }
     ensures explained { IsExplained result }
 {
-    let Asker {
-        pass,
-        bell: _,
-        is_refused,
-        held: _,
-        course: _,
-        stack: _,
-    } = asker;
-    Finished { pass, is_refused }
+    Finished { asker }
 }
 
 impl Port {

@@ -26,6 +26,13 @@ returns-in-Ok-Raise-clause-commands g c = λ line read.
       goes = c.said.ensures.goes;
     })
 
+pub returns-in-Ok-Restart-clause-commands : goal.returns-in-Ok-Restart-clause-commands
+returns-in-Ok-Restart-clause-commands g c = λ line read.
+    let is : c.carry_out-next.result ≡ Ok (Nexts.Restart c.in-Ok-Restart.unit) = search rules in
+    commands_by _ c.carry_out-next.new.self (g.W.Write.contents c.carry_out-next.new.writer) _ line c.carry_out-next.result c.restart.result
+    (read_serves _ _ _ _ (words line) c.args.read c.carry_out-next.result read c.carry_out-next.ensures.carries) c.carry_out-next.ensures.crew
+    (rw is record { unread = record { input = refl; left = refl }; restarts = c.restart.ensures })
+
 pub returns-in-Ok-Go-clause-commands : goal.returns-in-Ok-Go-clause-commands
 returns-in-Ok-Go-clause-commands g c = λ line read.
     let is : c.carry_out-next.result ≡ Ok Nexts.Go = search rules in

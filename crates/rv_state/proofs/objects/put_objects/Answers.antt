@@ -12,8 +12,8 @@ returns c =
     let old = string_bytes c.args.text.now in
     let objects = objects_below h (length (all_objects h.shapes)) in
     on_ok_weaker c.put_handlers.result
-    (λ e keeps. e
-    ∙ ap (λ (t : List ℕ). t ++ handlers_below c.catalogue.result.now 10) (c.in_ok-put_all.ensures keeps)
+    (λ e. e
+    ∙ ap (λ (t : List ℕ). t ++ handlers_below c.catalogue.result.now 10) c.in_ok-put_all.ensures
     ∙ append_assoc old objects (handlers_below c.catalogue.result.now 10)
     ∙ ap (λ (ss : List Shape). old ++ (objects ++ handlers_below ss 10)) c.catalogue.ensures)
     c.put_handlers.ensures

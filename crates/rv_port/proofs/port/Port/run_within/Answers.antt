@@ -18,7 +18,7 @@ returns-clause-explained g c = text_explained c.self.inside.asker.pass c.go_on.n
 
 pub returns-clause-followed : goal.returns-clause-followed
 returns-clause-followed g c = subst (λ (z : Porting). FollowsUnless c.go_on.new.self.is_refused c.args.budget (pass_of z) c.go_on.new.self.pass) c.self.view_is
-    (text_follows c.self.inside.asker.pass c.go_on.new.self.pass c.self.inside.asker.is_refused c.go_on.new.self.is_refused c.args.budget c.go_on.result.0 c.self.inside.asker.owns c.go_on.new.self.owns c.self.inside.asker.fresh c.self.inside.asker.handles c.self.inside.asker.fits c.go_on.ensures.ran)
+    (text_follows c.self.inside.asker.pass c.go_on.new.self.pass c.self.inside.asker.is_refused c.go_on.new.self.is_refused c.args.budget c.go_on.result.0 c.self.inside.asker.owns c.go_on.new.self.owns c.self.inside.asker.handles c.self.inside.asker.fits c.go_on.ensures.ran)
 
 pub invariant_of-self : goal.invariant_of-self
 invariant_of-self g c = text_explained c.self.inside.asker.pass c.go_on.new.self.pass c.self.inside.asker.is_refused c.go_on.new.self.is_refused c.args.budget c.go_on.result.0 c.self.inside.asker.owns c.go_on.new.self.owns c.go_on.ensures.ran c.self.invariant

@@ -21,6 +21,6 @@ sum_of-requires c = omega (arith, all_little c)
 pub returns : goal.returns
 returns c = λ h was.
     let ss = c.args.self.now.stances in
-    let due : c.dues-dues.result ≡ each (actors h.shapes) (dues h.past) = c.dues-dues.ensures ∙ dues_are h.past ss.stances ss.actors was.stances_are ∙ ap (λ n. each n (dues h.past)) was.actors_are in
+    let due : c.dues-dues.result ≡ each (actors h.shapes) (dues h.shapes h.past) = c.dues-dues.ensures ∙ dues_are h.shapes h.past ss.stances ss.actors was.stances_are ∙ ap (λ n. each n (dues h.shapes h.past)) was.actors_are in
     let halt : c.halt_due-halt.result ≡ halt_due (halted h.past) = c.halt_due-halt.ensures.value ∙ ap halt_due was.counts_are.halted_is in
     omega (arith, c.sum_of.ensures.value, due, halt, was.counts_are.entries_are, was.bodies_are.count, c.number-unsettled.ensures, was.unsettled_are.count)

@@ -6,6 +6,6 @@ pub returns-clause-begins : goal.returns-clause-begins
 returns-clause-begins c = λ limits. record {
   number = refl;
   used = refl;
-  kept = record { each = c.new.ensures; lasts = c.new-2.ensures.begins limits };
+  lasts = c.new.ensures.begins limits;
   said = c.first_said.ensures ∙ at_start c.args.number limits;
 }

@@ -1,0 +1,49 @@
+-- A thread is taken out of a crew.
+use Rattle.std.proofs.Common.{◌≡◌, ◌∙◌, ℕ, suc, List, [], ◌∷◌, ◌++◌, map, take, drop, Some, sym, subst}
+use Rattle.std.specs.Prelude.{remove, slice_get}
+use Rattle.std.proofs.lemmas.List.{map-append, take-map, drop-map, take-append-drop}
+use Rattle.atomic_table.specs.Seated.{TableId}
+use Rattle.rv_port.specs.Ports.{Porting}
+use Rattle.rv_turn.specs.Histories.{Each}
+use Rattle.rv_crew.specs.Crews.{Takes}
+use Rattle.rv_crew.specs.Teams.{IsOfTurn, Owed, Pays, Team}
+
+pub map_removed : {X Y : Type 0} (f : X → Y) (xs : List X) (i : ℕ) → map f (remove xs i) ≡ remove (map f xs) i
+map_removed f xs i = map-append f (take i xs) (drop (suc i) xs) ∙ (λ j. sym (take-map f i xs) j ++ sym (drop-map f (suc i) xs) j)
+
+pub each_split : {X : Type 0} (P : X → Type 0) (xs ys : List X) → Each P (xs ++ ys) → Each P xs × Each P ys
+each_split P [] ys e = (tt, e)
+each_split P (x ∷ xs) ys e = let rest = each_split P xs ys e.1 in ((e.0, rest.0), rest.1)
+
+each_joined : {X : Type 0} (P : X → Type 0) (xs ys : List X) → Each P xs → Each P ys → Each P (xs ++ ys)
+each_joined P [] ys p q = q
+each_joined P (x ∷ xs) ys p q = (p.0, each_joined P xs ys p.1 q)
+
+each_removed : {X : Type 0} (P : X → Type 0) (xs : List X) (i : ℕ) → Each P xs → Each P (remove xs i)
+each_removed P xs i e =
+    each_joined P (take i xs) (drop (suc i) xs)
+    (each_split P (take i xs) (drop i xs) (subst (Each P) (sym (take-append-drop i xs)) e)).0
+    (each_split P (take (suc i) xs) (drop (suc i) xs) (subst (Each P) (sym (take-append-drop (suc i) xs)) e)).1
+
+-- a thread that is there
+each_there : {X : Type 0} (P : X → Type 0) (xs : List X) (i : ℕ) (x : X) → slice_get xs i ≡ Some x → Each P xs → P x
+each_there P [] i x at e = absurd (cc at)
+each_there P (y ∷ xs) 0 x at e = subst P (cc at) e.0
+each_there P (y ∷ xs) (suc i) x at e = each_there P xs i x at e.1
+
+-- the crew keeps to its turn
+pub taken_of_turn : {D : Type 0} (does : D → Porting → Porting → Type 0) (turn : TableId) (crew after : Team D) (actor : ℕ) (back : Porting)
+    → IsOfTurn turn crew → Takes does crew after actor back → IsOfTurn turn after
+taken_of_turn {D} does turn crew after actor back of takes =
+    let left : IsOfTurn turn (record crew { running = remove crew.running takes.place }) = record {
+      out = each_removed (λ (owed : Owed D). owed.port.turn ≡ turn) crew.running takes.place of.out;
+      back = of.back;
+      gone = of.gone;
+    } in
+    subst (IsOfTurn turn) (sym takes.is) left
+
+-- and so is the port that came back
+pub back_of_turn : {D : Type 0} (does : D → Porting → Porting → Type 0) (turn : TableId) (crew after : Team D) (actor : ℕ) (back : Porting)
+    → IsOfTurn turn crew → Takes does crew after actor back → back.turn ≡ turn
+back_of_turn {D} does turn crew after actor back of takes =
+    takes.pays.0 ∙ each_there (λ (owed : Owed D). owed.port.turn ≡ turn) crew.running takes.place takes.thread takes.there of.out

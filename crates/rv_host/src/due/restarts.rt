@@ -1,0 +1,125 @@
+//! Whether a unit is in use, so that it isn't restarted (own).
+
+ghost use Rattle.std.specs.Prelude.{◌≡◌, ◌&&◌, ◌-◌, if◌then◌else◌};
+ghost use Rattle.rv_event.specs.declared.entry.Answer.TheVariants as answers;
+ghost use Rattle.rv_history.specs.Due as due;
+ghost use Rattle.rv_history.specs.InUse as uses;
+ghost use Rattle.rv_history.specs.Owed.{actors};
+ghost use Rattle.rv_host.specs.Decisions.{answer_with};
+ghost use Rattle.rv_host.specs.InUse.{any_object, has_use, opens_at_first};
+ghost use Rattle.rv_host.specs.Seen.{IsSeen, history_of};
+ghost use Rattle.rv_shape.specs.Units.{is_unit, object_unit, task_unit};
+
+use crate::decision::Decision;
+use crate::rules::exclusion::{is_busy, opens_among};
+use crate::rules::queue::is_due;
+use crate::seen::Seen;
+use rv_event::entry::Stance;
+use rv_present::initial_of;
+use rv_shape::catalogue::Catalogue;
+use rv_shape::object::Object as DeclaredObject;
+
+// Whether an actor is a task of a unit.
+fn is_task_of(catalogue: &Catalogue, actor: usize, unit: usize) -> bool
+    ensures { result ≡ is_unit unit (task_unit catalogue.now actor) }
+{
+    match catalogue.unit_of_task(actor) {
+        Some(of) => of == unit,
+        None => false,
+    }
+}
+
+// Whether an object is of a unit.
+fn is_object_of(catalogue: &Catalogue, object: usize, unit: usize) -> bool
+    ensures { result ≡ is_unit unit (object_unit catalogue.now object) }
+{
+    match catalogue.unit_of_object(object) {
+        Some(of) => of == unit,
+        None => false,
+    }
+}
+
+// Whether a task has quit, and its unit wasn't restarted since.
+fn is_gone(stance: Stance) -> bool
+    ensures { result ≡ uses.is_gone stance }
+{
+    match stance {
+        Stance::Gone => true,
+        _ => false,
+    }
+}
+
+// Whether an actor is a task of a unit that isn't gone.
+fn is_there(seen: &Seen, unit: usize, actor: usize) -> bool
+    requires { IsSeen seen.now }
+    ensures { result ≡ uses.is_there (history_of seen.now) unit actor }
+{
+    is_task_of(seen.catalogue, actor, unit) && !is_gone(seen.present.stance(actor))
+}
+
+// Whether a task of a unit isn't gone.
+#[tactic(auto, using(crate::proofs::Used::none_more, crate::proofs::Used::one_found))]
+fn has_tasks(seen: &Seen, unit: usize) -> bool
+    requires { IsSeen seen.now }
+    ensures { result ≡ uses.any_below (actors (history_of seen.now).shapes) (uses.is_there (history_of seen.now) unit) }
+{
+    for actor in 0..seen.present.actors() {
+        if is_there(seen, unit, actor) {
+            return true;
+        }
+    }
+    false
+}
+
+// Whether the barrier of an object's entry is open on its initial components (9.4, 9.5.3).
+fn opens_at_first(catalogue: &Catalogue, object: usize) -> bool
+    ensures { result ≡ opens_at_first catalogue.now object }
+{
+    match catalogue.object(object) {
+        Some((_, DeclaredObject::Protected(found))) => {
+            opens_among(found.operations(), &initial_of(catalogue, object))
+        }
+        _ => false,
+    }
+}
+
+// Whether somebody is in an object or it is unsettled, or it has a queue that its initial components would open.
+fn is_used(seen: &Seen, object: usize) -> bool
+    requires { IsSeen seen.now }
+    ensures { result ≡ has_use (history_of seen.now) object }
+{
+    if is_busy(seen, object, false) {
+        return true;
+    }
+    is_due(seen, object, opens_at_first(seen.catalogue, object))
+}
+
+// Whether an object of a unit is so.
+#[tactic(auto, using(crate::proofs::Used::none_more, crate::proofs::Used::one_found))]
+fn has_objects(seen: &Seen, unit: usize) -> bool
+    requires { IsSeen seen.now }
+    ensures { result ≡ any_object (history_of seen.now) unit }
+{
+    for object in 0..seen.catalogue.objects() + 1 {
+        if is_object_of(seen.catalogue, object, unit) && is_used(seen, object) {
+            return true;
+        }
+    }
+    false
+}
+
+/// What is decided of a restart that fits.
+#[tactic(auto, using(crate::proofs::Used::used_by_tasks, crate::proofs::Used::used_so))]
+pub fn due_restart(seen: &Seen, unit: usize) -> Decision
+    requires { IsSeen seen.now }
+    ensures { answer_with None result ≡ (if uses.in_use (history_of seen.now) unit then answers.Busy else due.nothing_more) }
+{
+    if has_tasks(seen, unit) {
+        return Decision::Busy;
+    }
+    if has_objects(seen, unit) {
+        Decision::Busy
+    } else {
+        Decision::Accepted(0)
+    }
+}
