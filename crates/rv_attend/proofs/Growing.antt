@@ -26,7 +26,7 @@ use Rattle.rv_shell.specs.declared.shell.LineFault.TheVariants as Faults
 use Rattle.rv_shell.specs.declared.shell.Next.{Next}
 use Rattle.rv_shell.specs.declared.shell.Next.TheVariants as Nexts
 use Rattle.rv_staff.specs.Ending.{Halts}
-use Rattle.rv_shape.specs.Units.{is_unit, task_unit}
+use Rattle.rv_units.specs.Units.{is_unit, task_unit}
 use Rattle.rv_staff.specs.Giving.{EachUpTo, GivesOne, GivesUpTo, Starts}
 use Rattle.rv_staff.specs.Restarting.{Restarts, TakesUpIf, TakesUpOne}
 use Rattle.rv_staff.specs.Saying.{Known}

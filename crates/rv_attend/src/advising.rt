@@ -16,6 +16,7 @@ use rv_shell::Order;
 use rv_staff::say;
 use rv_step::reading::StepError;
 use rv_text::next_word;
+use rv_units::unit_of_task;
 use rv_view::View;
 use std::alloc::{AllocError, Global};
 use std::io::Write;
@@ -148,7 +149,7 @@ fn tell_raise<E: Write>(
 
 // Whether an actor is a task of this unit.
 fn is_task_of(catalogue: &Catalogue, actor: usize, unit: usize) -> bool {
-    match catalogue.unit_of_task(actor) {
+    match unit_of_task(catalogue, actor) {
         Some(of) => of == unit,
         None => false,
     }

@@ -21,6 +21,7 @@ use rv_shell::Order;
 use rv_staff::{Session, Staff, say};
 use rv_step::reading::StepError;
 use rv_tally::grouped;
+use rv_units::unit_numbered;
 use rv_view::View;
 use std::alloc::{AllocError, Global};
 use std::io::Write;
@@ -293,7 +294,7 @@ fn renewed(catalogue: &Catalogue, view: &View, unit: &Name) -> Option<usize> {
     if is_there(catalogue, view, unit) {
         return None;
     }
-    match catalogue.unit(unit) {
+    match unit_numbered(catalogue, unit) {
         Some(shape) => Some(tasks_in(shape)),
         None => None,
     }

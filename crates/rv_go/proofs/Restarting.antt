@@ -5,7 +5,7 @@ use Rattle.std.proofs.lemmas.Bool.{cases_eq}
 use Rattle.std.proofs.lemmas.Bool.Decides.{nat_tests}
 use Rattle.rv_event.specs.declared.entry.Answer.{Answer}
 use Rattle.rv_shape.specs.Shape.{Shape}
-use Rattle.rv_shape.specs.Units.{is_unit, task_unit}
+use Rattle.rv_units.specs.Units.{is_unit, task_unit}
 use Rattle.rv_go.specs.declared.texts.Heard.{Heard}
 use Rattle.rv_go.specs.Answers.{heard_answer, heard_restart}
 use Rattle.rv_go.specs.Runs.{heard_by}

@@ -1,7 +1,7 @@
 -- Texts that begin anew one after another, as those of the tasks of a unit do (own).
 use Rattle.std.specs.Prelude.{ℕ, ◌==◌, ◌&&◌, nat_lt, if◌then◌else◌, List, []}
 use Rattle.rv_shape.specs.Shape.{Shape}
-use Rattle.rv_shape.specs.Units.{is_unit, task_unit}
+use Rattle.rv_units.specs.Units.{is_unit, task_unit}
 use Rattle.rv_go.specs.Texts.{TextsView}
 
 -- the text of one actor begins anew

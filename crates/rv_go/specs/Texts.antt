@@ -1,7 +1,7 @@
 -- The texts of actors: the bodies of the loaded units, and what actors were answered since their texts began (own).
 use Rattle.std.specs.Prelude.{ℕ, ◌==◌, Bool, true, false, not, ◌&&◌, if◌then◌else◌, List, [], ◌∷◌, ◌++◌, reverse, Option, Some, None}
 use Rattle.rv_shape.specs.Shape.{Shape}
-use Rattle.rv_shape.specs.Units.{is_unit, task_unit}
+use Rattle.rv_units.specs.Units.{is_unit, task_unit}
 use Rattle.rv_event.specs.declared.entry.Request.{Request}
 use Rattle.rv_event.specs.declared.entry.Request.TheVariants.{Fire, Settle, Restart}
 use Rattle.rv_event.specs.declared.entry.Answer.{Answer}

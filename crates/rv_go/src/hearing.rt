@@ -5,7 +5,7 @@ ghost use Rattle.rv_code.specs.BodyView.{unit_view};
 ghost use Rattle.rv_exec.specs.Bodies.{bodies_view, no_bodies, with_unit};
 ghost use Rattle.rv_go.specs.Restarted.{forgets};
 ghost use Rattle.rv_go.specs.Texts.{texts_view, no_texts, with_bodies, is_started, is_fire, is_heard, is_settle, hears, hears_one, restarts, begin_anew, behind};
-ghost use Rattle.rv_shape.specs.Units.{is_unit, task_unit};
+ghost use Rattle.rv_units.specs.Units.{is_unit, task_unit};
 
 use crate::places::{begin_anew, hear, stop};
 use crate::texts::{Heard, Texts};
@@ -15,6 +15,7 @@ use rv_exec::bodies::{Bodies, SharedUnit};
 use rv_exec::outward::stands;
 use rv_ring::past::Past;
 use rv_shape::catalogue::Catalogue;
+use rv_units::unit_of_task;
 use rv_value::Scalars;
 use std::alloc::{AllocError, Global};
 
@@ -72,7 +73,7 @@ fn restarts(request: &Request, answer: &Answer) -> Option<usize>
 fn is_task_of(catalogue: &Catalogue, actor: usize, unit: usize) -> bool
     ensures { result ≡ is_unit unit (task_unit catalogue.now actor) }
 {
-    match catalogue.unit_of_task(actor) {
+    match unit_of_task(catalogue, actor) {
         Some(of) => of == unit,
         None => false,
     }

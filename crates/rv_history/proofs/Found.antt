@@ -5,7 +5,8 @@ use Rattle.std.specs.List.{list_any}
 use Rattle.rv_access.specs.Words.{Words}
 use Rattle.rv_shape.specs.Catalogue.{OnProtected, Site, UnitObject, all_objects, at_object, at_operation, at_suspension, at_unit_object, numbered, objects_of, place, suspension_operations, target}
 use Rattle.rv_shape.specs.Fits.{bad_object, crowded, fault, shape_fits}
-use Rattle.rv_shape.specs.Found.{AreDistinct, AreFound}
+use Rattle.rv_shape.specs.Found.{AreDistinct}
+use Rattle.rv_units.specs.Found.{AreAllFound}
 use Rattle.rv_shape.specs.Objects.{OperationShape, ProtectedShape}
 use Rattle.rv_shape.specs.Shape.{Shape}
 use Rattle.rv_shape.specs.declared.fault.ShapeFault.{ShapeFault}
@@ -13,7 +14,8 @@ use Rattle.rv_shape.specs.declared.object.Object.{Object}
 use Rattle.rv_shape.specs.declared.object.Object.TheVariants.{Protected, Suspension}
 use Rattle.rv_shape.specs.declared.suspension.SuspensionOperation.{SuspensionOperation}
 use Rattle.rv_shape.proofs.Faultless.{no_fault}
-use Rattle.rv_shape.proofs.FoundByName.{distinct_found, distinct_more, distinct_none}
+use Rattle.rv_shape.proofs.FoundByName.{distinct_more, distinct_none}
+use Rattle.rv_units.proofs.ByName.{distinct_all_found}
 use Rattle.rv_shape.proofs.Stay.{objects_append}
 use Rattle.rv_event.specs.Past.{halted}
 use Rattle.rv_event.specs.declared.entry.Answer.{Answer}
@@ -43,8 +45,8 @@ distinct c (Load ∷ past) shapes lists l =
     subst AreDistinct (sym l.2) (distinct_more l.0 l.1 (distinct c past l.0 lists l.3) none)
 distinct c (ListChange ∷ past) shapes lists l = distinct c past shapes l.0 l.3
 
-pub legal_found : (h : History) → Legal h → AreFound h.shapes
-legal_found h l = distinct_found h.shapes (distinct h.limits h.past h.shapes h.lists l)
+pub legal_found : (h : History) → Legal h → AreAllFound h.shapes
+legal_found h l = distinct_all_found h.shapes (distinct h.limits h.past h.shapes h.lists l)
 
 -- Tests over a list
 

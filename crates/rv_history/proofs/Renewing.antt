@@ -8,10 +8,10 @@ use Rattle.std.proofs.lemmas.List.{length-map}
 use Rattle.rv_shape.specs.Catalogue.{all_tasks, numbered, tasks_of}
 use Rattle.rv_shape.specs.Places.{places, places_from}
 use Rattle.rv_shape.specs.Shape.{Shape}
-use Rattle.rv_shape.specs.Units.{is_unit, task_unit}
+use Rattle.rv_units.specs.Units.{is_unit, task_unit}
 use Rattle.rv_shape.specs.declared.catalogue.places.Place.{Place}
 use Rattle.rv_shape.proofs.Indexed.{counted}
-use Rattle.rv_shape.proofs.UnitsStay.{task_below}
+use Rattle.rv_units.proofs.UnitsStay.{task_below}
 use Rattle.rv_event.specs.Past.{archived, halted, or_else, renews_task, stance, under_way, unsettled, waiting}
 use Rattle.rv_event.specs.declared.entry.Entry.{Entry}
 use Rattle.rv_event.specs.declared.entry.Entry.TheVariants.{Asked}

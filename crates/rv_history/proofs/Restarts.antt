@@ -6,8 +6,8 @@ use Rattle.std.proofs.lemmas.Bool.Decides.{nat_tests}
 use Rattle.rv_access.specs.Words.{Words}
 use Rattle.rv_shape.specs.Catalogue.{initial, place, who}
 use Rattle.rv_shape.specs.Shape.{Shape}
-use Rattle.rv_shape.specs.Units.{is_loaded, is_unit, object_unit}
-use Rattle.rv_shape.proofs.UnitsStay.{object_stays, task_below, task_stays}
+use Rattle.rv_units.specs.Units.{is_loaded, is_unit, object_unit}
+use Rattle.rv_units.proofs.UnitsStay.{object_stays, task_below, task_stays}
 use Rattle.rv_event.specs.Past.{is_unsettled, or_else, queue, renews_object, renews_task, said, stance, state, state_after, touch, under_way, unsettled, waiter, waiting}
 use Rattle.rv_event.specs.Recorded.{recorded}
 use Rattle.rv_event.specs.declared.entry.Answer.TheVariants.{Busy}

@@ -10,7 +10,7 @@ use Rattle.rv_shape.specs.Fits.{bad_component, bad_object, bad_operation, bad_ra
 use Rattle.rv_shape.specs.Kinds.{goes_in, goes_out, holds, is_entry, is_function}
 use Rattle.rv_shape.specs.Objects.{OperationShape}
 use Rattle.rv_shape.specs.Shape.{Shape}
-use Rattle.rv_shape.specs.Units.{is_loaded}
+use Rattle.rv_units.specs.Units.{is_loaded}
 use Rattle.rv_shape.specs.declared.kind.Component.{Component}
 use Rattle.rv_shape.specs.declared.kind.Kind.{Kind}
 use Rattle.rv_shape.specs.declared.kind.Kind.TheVariants.{Function, Procedure, Entry as EntryKind, Handler}

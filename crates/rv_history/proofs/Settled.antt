@@ -6,7 +6,7 @@ use Rattle.std.specs.List.{filter, list_any}
 use Rattle.rv_access.specs.Words.{Words}
 use Rattle.rv_shape.specs.Shape.{Shape}
 use Rattle.rv_event.specs.Recorded.{recorded}
-use Rattle.rv_shape.specs.Units.{is_unit, object_unit}
+use Rattle.rv_units.specs.Units.{is_unit, object_unit}
 use Rattle.rv_shape.specs.Catalogue.{OperationNumber, initial, place, target, shares, is_function, is_entry, handler}
 use Rattle.rv_event.specs.Past.{under_way, unsettled, is_unsettled, to_settle, left_by, waiting, queue, queued_by, next_of, named_in, joined, left, begun, handed, fired, without, innermost, writes, scalars, halted, halts}
 use Rattle.rv_shape.specs.declared.kind.Kind.{Kind}

@@ -5,7 +5,7 @@ use Rattle.std.specs.List.{filter}
 use Rattle.std.proofs.lemmas.Bool.Decides.{nat_tests}
 use Rattle.rv_shape.specs.Shape.{Shape}
 use Rattle.rv_shape.specs.Catalogue.{OperationNumber, first_of, handler}
-use Rattle.rv_shape.specs.Units.{task_unit}
+use Rattle.rv_units.specs.Units.{task_unit}
 use Rattle.rv_event.specs.Past.{if_named, is_restarted, next_of, named_in, or_else, renews_task, restarts, said, stance, stance_of, if_of, queued_by, last_queued, under_way, held, begun, fired, without, innermost, left_by, leaves_some, mode, mode_by, or_settling, queue, to_settle, unsettled}
 use Rattle.rv_event.specs.declared.entry.Stance.{Stance}
 use Rattle.rv_event.specs.declared.entry.Stance.TheVariants.{Free, InQueue, HandedOver, DroppedBy, WaitsOn, WaitsUntil, Gone}

@@ -40,7 +40,7 @@ use Rattle.rv_history.proofs.Settled.{begun_stays, open_at, open_stays, or_right
 use Rattle.rv_history.proofs.Standing.{legal_standing}
 use Rattle.rv_history.proofs.Stances.{itself, left_is, same_number, some_is}
 use Rattle.rv_history.proofs.Waits.{joins}
-use Rattle.rv_shape.specs.Units.{is_unit, object_unit}
+use Rattle.rv_units.specs.Units.{is_unit, object_unit}
 use Rattle.rv_history.proofs.Restarts.{left_unrenewed}
 
 -- The queue of an unsettled object that an entry doesn't serve

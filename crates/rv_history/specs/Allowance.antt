@@ -3,7 +3,7 @@
 use Rattle.std.specs.Prelude.{ℕ, suc, ◌-◌, nat_le, not, Bool, true, false, if◌then◌else◌, List, [], ◌∷◌, Option, Some, None}
 use Rattle.rv_shape.specs.Catalogue.{OperationNumber, handler}
 use Rattle.rv_shape.specs.Shape.{Shape}
-pub use Rattle.rv_shape.specs.Units.{is_unit, object_unit, task_unit}
+pub use Rattle.rv_units.specs.Units.{is_unit, object_unit, task_unit}
 use Rattle.rv_event.specs.Past.{innermost, restarts}
 use Rattle.rv_event.specs.declared.entry.Body.{Body}
 use Rattle.rv_event.specs.declared.entry.Entry.{Entry}

@@ -6,7 +6,7 @@ use Rattle.rv_shape.specs.Shape.{Shape}
 use Rattle.rv_shape.specs.Kinds.{holds}
 use Rattle.rv_shape.specs.Catalogue.{Who, Operator, Line, Task, who, Target, Nowhere, OnProtected, OnSuspension}
 use Rattle.rv_shape.specs.Catalogue.{target, is_function, goes_in, goes_out}
-use Rattle.rv_shape.specs.Units.{is_loaded}
+use Rattle.rv_units.specs.Units.{is_loaded}
 use Rattle.rv_event.specs.Past.{archived, held, innermost, mode}
 use Rattle.rv_shape.specs.declared.kind.Range.{Range}
 use Rattle.rv_shape.specs.declared.kind.Parameter.{Parameter}

@@ -3,7 +3,7 @@ use Rattle.std.specs.Prelude.{ℕ, zero, suc, Bool, true, false, ◌&&◌, ◌||
 use Rattle.std.specs.List.{list_any}
 use Rattle.rv_shape.specs.Catalogue.{initial, place}
 use Rattle.rv_shape.specs.Shape.{Shape}
-use Rattle.rv_shape.specs.Units.{is_unit, object_unit, task_unit}
+use Rattle.rv_units.specs.Units.{is_unit, object_unit, task_unit}
 use Rattle.rv_event.specs.Past.{stance, under_way, unsettled, waiting}
 use Rattle.rv_event.specs.declared.entry.Body.{Body}
 use Rattle.rv_event.specs.declared.entry.Stance.{Stance}

@@ -4,8 +4,8 @@ use Rattle.std.specs.Prelude.{◌==◌, ◌&&◌, ◌||◌, nat_lt, cond, filter
 use Rattle.std.specs.List.{list_any}
 use Rattle.std.proofs.lemmas.Bool.Decides.{nat_tests}
 use Rattle.rv_shape.specs.Catalogue.{all_objects}
-use Rattle.rv_shape.specs.Units.{is_unit, object_unit}
-use Rattle.rv_shape.proofs.UnitsStay.{object_within}
+use Rattle.rv_units.specs.Units.{is_unit, object_unit}
+use Rattle.rv_units.proofs.UnitsStay.{object_within}
 use Rattle.rv_event.specs.Past.{is_unsettled, under_way, unsettled, waiting}
 use Rattle.rv_event.specs.declared.entry.Body.{Body}
 use Rattle.rv_history.specs.Exclusion.{conflicts}

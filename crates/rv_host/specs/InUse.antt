@@ -2,7 +2,7 @@
 use Rattle.std.specs.Prelude.{ℕ, suc, ◌&&◌, ◌||◌, Bool, false, List, length, nat_lt}
 use Rattle.rv_shape.specs.Catalogue.{all_objects, initial, place}
 use Rattle.rv_shape.specs.Shape.{Shape}
-use Rattle.rv_shape.specs.Units.{is_unit, object_unit}
+use Rattle.rv_units.specs.Units.{is_unit, object_unit}
 use Rattle.rv_event.specs.Past.{queue}
 use Rattle.rv_history.specs.Exclusion.{barrier_at, excluded, opens_on}
 use Rattle.rv_history.specs.History.{History}

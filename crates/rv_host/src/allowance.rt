@@ -11,6 +11,7 @@ use crate::rules::fitting::innermost;
 use crate::seen::Seen;
 use rv_event::entry::Request;
 use rv_shape::catalogue::Catalogue;
+use rv_units::{unit_of_object, unit_of_task};
 
 // The unit of the task that an actor is.
 #[tactic(auto, using(crate::proofs::Charging::task_placed))]
@@ -20,7 +21,7 @@ fn task_unit(catalogue: &Catalogue, actor: usize) -> Option<usize>
 {
     // There are so few units.
     let _ = catalogue.shapes();
-    catalogue.unit_of_task(actor)
+    unit_of_task(catalogue, actor)
 }
 
 // The unit of an object.
@@ -31,7 +32,7 @@ fn object_unit(catalogue: &Catalogue, object: usize) -> Option<usize>
 {
     // There are so few units.
     let _ = catalogue.shapes();
-    catalogue.unit_of_object(object)
+    unit_of_object(catalogue, object)
 }
 
 // The unit of a line's handler, if it has one (C.3.1).

@@ -6,7 +6,7 @@ use Rattle.std.proofs.lemmas.Bool.Decides.{nat_tests}
 use Rattle.rv_access.specs.Words.{Words}
 use Rattle.rv_shape.specs.Shape.{Shape}
 use Rattle.rv_shape.specs.Catalogue.{OperationNumber, UnitTask, Who, Operator, Line, Task, Nobody, Nowhere, Target, all_tasks, first_of, handler, target, task_of, who}
-use Rattle.rv_shape.specs.Units.{is_loaded}
+use Rattle.rv_units.specs.Units.{is_loaded}
 use Rattle.rv_event.proofs.Matching.{by, filter_without}
 use Rattle.rv_event.specs.Past.{begun, clock, closed, ended, fired, halted, handed, held, innermost, last_queued, mode, mode_by, named_in, next_of, or_else, released, renews_task, scalars, stance, stance_of, started, state, to_settle, under_way, without}
 use Rattle.rv_event.specs.Recorded.{recorded}

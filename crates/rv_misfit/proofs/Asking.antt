@@ -11,7 +11,7 @@ use Rattle.rv_event.specs.declared.entry.Request.TheVariants.{Call, Complete, Se
 use Rattle.rv_history.specs.Fitting.{awaits, call_fits, end_fits, fits_actor, idle_line, idle_task, in_body, is_archive, is_operator, is_settling, is_time, may_call, most_entries}
 use Rattle.rv_history.specs.History.{History}
 use Rattle.rv_shape.specs.Catalogue.{Who, Operator, Line, Task, Nobody, target, who}
-use Rattle.rv_shape.specs.Units.{is_loaded}
+use Rattle.rv_units.specs.Units.{is_loaded}
 use Rattle.rv_misfit.specs.Misfits.{finishes, fires, has_bodies, may_ask}
 
 -- who is in bodies at no time is idle

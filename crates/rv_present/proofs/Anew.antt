@@ -7,8 +7,8 @@ use Rattle.std.proofs.lemmas.List.{get_or-set_other, length-set}
 use Rattle.rv_object.specs.Actions.{ObjectView}
 use Rattle.rv_shape.specs.Catalogue.{all_objects, initial}
 use Rattle.rv_shape.specs.Shape.{Shape}
-use Rattle.rv_shape.specs.Units.{is_unit, object_unit}
-use Rattle.rv_shape.proofs.UnitsStay.{object_within}
+use Rattle.rv_units.specs.Units.{is_unit, object_unit}
+use Rattle.rv_units.proofs.UnitsStay.{object_within}
 use Rattle.rv_event.specs.declared.entry.Stance.{Stance}
 use Rattle.rv_event.specs.declared.entry.Stance.TheVariants.{Free}
 use Rattle.rv_present.specs.Holdings.{idle}
@@ -52,22 +52,22 @@ same_lists (x ∷ xs) (y ∷ ys) long each =
     let tails : xs ≡ ys = same_lists xs ys rest (λ j. each (suc j)) in
     λ i. each 0 i ∷ tails i
 
-pub all_renewed : (shapes : List Shape) (unit : Option ℕ) (upto : ℕ) (old new : List Stance) → length old ≤ upto → AreRenewedTo shapes unit upto old new → new ≡ renewed shapes unit 0 old
+pub all_renewed : (shapes : List Shape) (unit : Option ℕ) (upto : ℕ) (old new : List Stance) → length old ≤ upto → AreRenewedTo shapes unit upto old new → new ≡ renewed shapes unit old
 all_renewed shapes unit upto old new all k =
-    same_lists new (renewed shapes unit 0 old) (k.long ∙ sym (renewed_long shapes unit 0 old)) (λ j. by_place j (nat_lt j upto) refl)
+    same_lists new (renewed shapes unit old) (k.long ∙ sym (renewed_long shapes unit old)) (λ j. by_place j (nat_lt j upto) refl)
   where
     past_end : (ss : List Stance) (j : ℕ) → length ss ≤ j → get_or ss j Free ≡ Free
     past_end [] j out = refl
     past_end (s ∷ ss) zero out = absurd (omega (arith, out))
     past_end (s ∷ ss) (suc j) out = past_end ss j (omega (arith, out))
 
-    by_place : (j : ℕ) (t : Bool) → nat_lt j upto ≡ t → get_or new j Free ≡ get_or (renewed shapes unit 0 old) j Free
+    by_place : (j : ℕ) (t : Bool) → nat_lt j upto ≡ t → get_or new j Free ≡ get_or (renewed shapes unit old) j Free
     by_place j true e =
         let less : j < upto = grind (arith, nat_tests) in
         k.done j less ∙ sym (renewed_first shapes unit old j)
     by_place j false e =
         let out : upto ≤ j = grind (arith, nat_tests) in
-        past_end new j (omega (arith, all, out, k.long)) ∙ sym (past_end (renewed shapes unit 0 old) j (omega (arith, all, out, renewed_long shapes unit 0 old)))
+        past_end new j (omega (arith, all, out, k.long)) ∙ sym (past_end (renewed shapes unit old) j (omega (arith, all, out, renewed_long shapes unit old)))
 
 -- the objects below a number are as at first again, the others are as they were
 pub record AreResetTo (shapes : List Shape) (unit : Option ℕ) (upto : ℕ) (old new : List ObjectView) : Type 0 where

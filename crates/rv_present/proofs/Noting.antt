@@ -16,8 +16,12 @@ use Rattle.rv_history.proofs.Sums.{each_same}
 use Rattle.rv_present.specs.Stances.{AreStances, due_at, due_by, dues_by, noted, settled}
 use Rattle.rv_present.proofs.Arrays.{set_at}
 use Rattle.rv_shape.specs.Shape.{Shape}
-use Rattle.rv_shape.specs.Units.{task_unit}
-use Rattle.rv_present.specs.Restarts.{renewed, renewed_at}
+use Rattle.rv_units.specs.Units.{task_unit}
+use Rattle.rv_present.specs.Restarts.{renewed, renewed_at, renewed_from}
+use Rattle.rv_event.specs.declared.entry.Recorded.{Recorded}
+use Rattle.rv_event.specs.declared.entry.Recorded.TheVariants.{Accepted}
+use Rattle.rv_event.specs.declared.entry.Request.{Request}
+use Rattle.rv_event.specs.declared.entry.Request.TheVariants.{Restart}
 
 own_or : (t : Bool) (s u : Stance) → (if t then s else u) ≡ or_else (if t then Some s else None) u
 own_or true s u = refl
@@ -44,22 +48,35 @@ unmoved : (b : Bool) → (if b then Free else Free) ≡ Free
 unmoved true = refl
 unmoved false = refl
 
-pub renewed_get : (shapes : List Shape) (unit : Option ℕ) (n : ℕ) (ss : List Stance) (j : ℕ) → get_or (renewed shapes unit n ss) j Free ≡ renewed_at shapes unit (n + j) (get_or ss j Free)
-renewed_get shapes unit n [] j = sym (unmoved (is_restarted unit (task_unit shapes (n + j))))
-renewed_get shapes unit n (s ∷ ss) zero = ap (λ k. renewed_at shapes unit k s) (let same : n ≡ n + 0 = omega arith in same)
-renewed_get shapes unit n (s ∷ ss) (suc j) =
-    renewed_get shapes unit (n + 1) ss j ∙ ap (λ k. renewed_at shapes unit k (get_or ss j Free)) (let next : n + 1 + j ≡ n + suc j = omega arith in next)
+from_get : (shapes : List Shape) (unit n : ℕ) (ss : List Stance) (j : ℕ) → get_or (renewed_from shapes unit n ss) j Free ≡ renewed_at shapes (Some unit) (n + j) (get_or ss j Free)
+from_get shapes unit n [] j = sym (unmoved (is_restarted (Some unit) (task_unit shapes (n + j))))
+from_get shapes unit n (s ∷ ss) zero = ap (λ k. renewed_at shapes (Some unit) k s) (let same : n ≡ n + 0 = omega arith in same)
+from_get shapes unit n (s ∷ ss) (suc j) =
+    from_get shapes unit (n + 1) ss j ∙ ap (λ k. renewed_at shapes (Some unit) k (get_or ss j Free)) (let next : n + 1 + j ≡ n + suc j = omega arith in next)
 
-pub renewed_first : (shapes : List Shape) (unit : Option ℕ) (ss : List Stance) (j : ℕ) → get_or (renewed shapes unit 0 ss) j Free ≡ renewed_at shapes unit j (get_or ss j Free)
-renewed_first shapes unit ss j = renewed_get shapes unit 0 ss j ∙ ap (λ k. renewed_at shapes unit k (get_or ss j Free)) (let same : 0 + j ≡ j = omega arith in same)
+pub renewed_first : (shapes : List Shape) (unit : Option ℕ) (ss : List Stance) (j : ℕ) → get_or (renewed shapes unit ss) j Free ≡ renewed_at shapes unit j (get_or ss j Free)
+renewed_first shapes None ss j = refl
+renewed_first shapes (Some unit) ss j =
+    from_get shapes unit 0 ss j ∙ ap (λ k. renewed_at shapes (Some unit) k (get_or ss j Free)) (let same : 0 + j ≡ j = omega arith in same)
 
-pub renewed_long : (shapes : List Shape) (unit : Option ℕ) (n : ℕ) (ss : List Stance) → length (renewed shapes unit n ss) ≡ length ss
-renewed_long shapes unit n [] = refl
-renewed_long shapes unit n (s ∷ ss) = ap suc (renewed_long shapes unit (n + 1) ss)
+from_long : (shapes : List Shape) (unit n : ℕ) (ss : List Stance) → length (renewed_from shapes unit n ss) ≡ length ss
+from_long shapes unit n [] = refl
+from_long shapes unit n (s ∷ ss) = ap suc (from_long shapes unit (n + 1) ss)
 
-pub renewed_none : (shapes : List Shape) (n : ℕ) (ss : List Stance) → renewed shapes None n ss ≡ ss
-renewed_none shapes n [] = refl
-renewed_none shapes n (s ∷ ss) = ap (λ rest. s ∷ rest) (renewed_none shapes (n + 1) ss)
+pub renewed_long : (shapes : List Shape) (unit : Option ℕ) (ss : List Stance) → length (renewed shapes unit ss) ≡ length ss
+renewed_long shapes None ss = refl
+renewed_long shapes (Some unit) ss = from_long shapes unit 0 ss
+
+-- an entry that restarts no unit, and one that does
+pub noted_plain : (shapes : List Shape) (a : ℕ) (r : Request) (w : Recorded) (ss : List Stance) → None ≡ restarts (Asked a r w) →
+    settled (next_of (Asked a r w)) (set ss a (stance_of (Asked a r w))) ≡ noted shapes (Asked a r w) ss
+noted_plain shapes a r w ss calm = ap (λ u. renewed shapes u (settled (next_of (Asked a r w)) (set ss a (stance_of (Asked a r w))))) calm
+
+pub noted_restart : (shapes : List Shape) (a : ℕ) (r : Request) (w : Recorded) (unit : ℕ) (ss : List Stance) → Some unit ≡ restarts (Asked a r w) →
+    renewed shapes (Some unit) (set ss a Free) ≡ noted shapes (Asked a r w) ss
+noted_restart shapes a (Restart u) (Accepted v) unit ss is = ap (λ n. renewed shapes n (set ss a Free)) is
+noted_restart shapes a (Restart u) w unit ss is = absurd (cc)
+noted_restart shapes a r w unit ss is = absurd (cc)
 
 -- what is noted of an actor is what it is at after the entry
 noted_at : (shapes : List Shape) (past : List Entry) (e : Entry) (ss : List Stance) (j : ℕ) → OfEach (λ a. a ≡ j → j < length ss) e → AreStances shapes past ss → get_or (noted shapes e ss) j Free ≡ stance shapes j (e ∷ past)
@@ -125,7 +142,7 @@ pub noted_long : (shapes : List Shape) (e : Entry) (ss : List Stance) → length
 noted_long shapes Load ss = refl
 noted_long shapes ListChange ss = refl
 noted_long shapes (Asked a r w) ss =
-    renewed_long shapes (restarts (Asked a r w)) 0 (settled (next_of (Asked a r w)) (set ss a (stance_of (Asked a r w)))) ∙ by_next (next_of (Asked a r w))
+    renewed_long shapes (restarts (Asked a r w)) (settled (next_of (Asked a r w)) (set ss a (stance_of (Asked a r w)))) ∙ by_next (next_of (Asked a r w))
   where
     by_next : (next : Next) → length (settled next (set ss a (stance_of (Asked a r w)))) ≡ length ss
     by_next Nothing = length-set ss a (stance_of (Asked a r w))

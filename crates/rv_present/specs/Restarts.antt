@@ -1,9 +1,9 @@
 -- The fields before and after a unit is restarted (own).
-use Rattle.std.specs.Prelude.{◌≡◌, ℕ, ◌+◌, ◌≢◌, if◌then◌else◌, List, [], ◌∷◌, Option, Some, length, slice_index_or}
+use Rattle.std.specs.Prelude.{◌≡◌, ℕ, ◌+◌, ◌≢◌, if◌then◌else◌, List, [], ◌∷◌, Option, Some, None, length, slice_index_or}
 use Rattle.rv_object.specs.Actions.{ObjectView}
 use Rattle.rv_shape.specs.Catalogue.{initial}
 use Rattle.rv_shape.specs.Shape.{Shape}
-use Rattle.rv_shape.specs.Units.{object_unit, task_unit}
+use Rattle.rv_units.specs.Units.{object_unit, task_unit}
 use Rattle.rv_event.specs.Past.{is_restarted}
 use Rattle.rv_event.specs.declared.entry.Stance.{Stance}
 use Rattle.rv_event.specs.declared.entry.Stance.TheVariants.{Free}
@@ -29,7 +29,13 @@ pub record HasOneReset (shapes : List Shape) (unit object : ℕ) (old new : List
 abbrev pub renewed_at : List Shape → Option ℕ → ℕ → Stance → Stance
 renewed_at shapes unit actor before = if is_restarted unit (task_unit shapes actor) then Free else before
 
--- the stances, the first of which is this actor's, after a unit was restarted, if one was
-abbrev pub renewed : List Shape → Option ℕ → ℕ → List Stance → List Stance
-renewed shapes unit actor [] = []
-renewed shapes unit actor (before ∷ stances) = renewed_at shapes unit actor before ∷ renewed shapes unit (actor + 1) stances
+-- the stances, the first of which is this actor's, after a unit was restarted
+abbrev pub renewed_from : List Shape → ℕ → ℕ → List Stance → List Stance
+renewed_from shapes unit actor [] = []
+renewed_from shapes unit actor (before ∷ stances) =
+    renewed_at shapes (Some unit) actor before ∷ renewed_from shapes unit (actor + 1) stances
+
+-- the stances of all, the operator's first, after a unit was restarted, if one was
+abbrev pub renewed : List Shape → Option ℕ → List Stance → List Stance
+renewed shapes None stances = stances
+renewed shapes (Some unit) stances = renewed_from shapes unit 0 stances

@@ -42,7 +42,7 @@ settled (Dropped actor line) stances = slice_set stances actor (DroppedBy line)
 -- the stances after one more entry
 abbrev pub noted : List Shape → Entry → List Stance → List Stance
 noted shapes (Asked actor request answer) stances =
-    renewed shapes (restarts (Asked actor request answer)) 0
+    renewed shapes (restarts (Asked actor request answer))
     (settled (next_of (Asked actor request answer)) (slice_set stances actor (stance_of (Asked actor request answer))))
 noted shapes Load stances = stances
 noted shapes ListChange stances = stances

@@ -9,13 +9,14 @@ ghost use Rattle.rv_present.specs.Limits.{most_actors};
 ghost use Rattle.rv_present.specs.Stances.{due_at, dues_by, noted, settled};
 ghost use Rattle.rv_present.specs.Restarts.{renewed, renewed_at};
 ghost use Rattle.rv_shape.specs.Catalogue.{first_task};
-ghost use Rattle.rv_shape.specs.Units.{is_unit, task_unit};
+ghost use Rattle.rv_units.specs.Units.{is_unit, task_unit};
 
 use crate::stacks::MOST_ACTORS;
-use rv_event::entry::{EntryRef, Next, Recorded, Request, Stance};
+use rv_event::entry::{EntryRef, Next, Stance};
 use rv_event::one_entry::{next_of, restarts, stance_of};
 use rv_shape::actor::FIRST_TASK;
 use rv_shape::catalogue::Catalogue;
+use rv_units::unit_of_task;
 use std::alloc::{AllocError, Global};
 use std::marker::Model;
 
@@ -77,7 +78,7 @@ fn dues_by(stances: &[Stance], actors: usize) -> usize
 fn is_of(catalogue: &Catalogue, actor: usize, unit: usize) -> bool
     ensures { result ≡ is_unit unit (task_unit catalogue.now actor) }
 {
-    match catalogue.unit_of_task(actor) {
+    match unit_of_task(catalogue, actor) {
         Some(of) => of == unit,
         None => false,
     }
@@ -95,9 +96,9 @@ fn renewed_at(catalogue: &Catalogue, unit: usize, actor: usize, before: Stance) 
 }
 
 // What each is at once a unit was restarted, if one was (own).
-#[tactic(auto, using(crate::proofs::Noting::renewed_none, crate::proofs::Anew::none_renewed, crate::proofs::Anew::one_renewed, crate::proofs::Anew::all_renewed))]
+#[tactic(auto, using(crate::proofs::Anew::none_renewed, crate::proofs::Anew::one_renewed, crate::proofs::Anew::all_renewed))]
 fn renew(stances: &mut Vec<Stance>, catalogue: &Catalogue, unit: Option<usize>)
-    ensures { stances.new.items ≡ renewed catalogue.now unit 0 stances.old.items }
+    ensures { stances.new.items ≡ renewed catalogue.now unit stances.old.items }
 {
     let Some(unit) = unit else {
         return;
@@ -243,11 +244,25 @@ impl Stances {
         dues - due_at(named, was) + due_at(named, becomes)
     }
 
+    // What all would owe if one were at something else, and then this became of a queue.
+    #[inline(always)]
+    fn dues_settled(&self, actor: usize, stance: Stance, next: Next) -> usize
+        ensures { result ≡ dues_by (settled next (slice_set self.now.stances actor stance)) self.now.actors }
+    {
+        match next {
+            Next::Nothing => self.dues_with(actor, stance),
+            Next::HandedTo(named) => self.dues_with_both(actor, stance, named, Stance::HandedOver),
+            Next::Dropped(named, line) => {
+                self.dues_with_both(actor, stance, named, Stance::DroppedBy(line))
+            }
+        }
+    }
+
     // What all would owe if one waited for nothing, and then a unit were restarted (own).
     #[tactic(auto, using(crate::proofs::Noting::renewed_first))]
     fn dues_restarted(&self, catalogue: &Catalogue, actor: usize, unit: usize) -> usize
         ensures { result ≡ dues_by
-            (renewed catalogue.now (Some unit) 0 (slice_set self.now.stances actor Stance.Free)) self.now.actors }
+            (renewed catalogue.now (Some unit) (slice_set self.now.stances actor Stance.Free)) self.now.actors }
     {
         let mut dues: usize = 0;
         for other in 0..self.actors {
@@ -259,29 +274,16 @@ impl Stances {
 
     /// What all would owe after one more entry.
     #[inline(always)]
+    #[tactic(auto, using(crate::proofs::Noting::noted_plain, crate::proofs::Noting::noted_restart))]
     pub fn dues_after(&self, catalogue: &Catalogue, entry: &EntryRef) -> usize
         ensures { result ≡ dues_by (noted catalogue.now (whole entry.now) self.now.stances) self.now.actors }
     {
         let EntryRef::Asked(actor, _, _) = *entry else {
             return self.dues;
         };
-        if let EntryRef::Asked(_, Request::Restart(unit), Recorded::Accepted(_)) = *entry {
-            return self.dues_restarted(catalogue, actor, *unit);
-        }
-        match next_of(entry) {
-            Next::Nothing => self.dues_with(actor, stance_of(entry)),
-            Next::HandedTo(named) => self.dues_with_both(
-                actor,
-                stance_of(entry),
-                named,
-                Stance::HandedOver,
-            ),
-            Next::Dropped(named, line) => self.dues_with_both(
-                actor,
-                stance_of(entry),
-                named,
-                Stance::DroppedBy(line),
-            ),
+        match restarts(entry) {
+            Some(unit) => self.dues_restarted(catalogue, actor, unit),
+            None => self.dues_settled(actor, stance_of(entry), next_of(entry)),
         }
     }
 

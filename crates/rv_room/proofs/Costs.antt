@@ -3,7 +3,7 @@ use Rattle.std.proofs.Common.{◌≡◌, ◌∙◌, ℕ, ℤ, ◌+◌, ◌-◌, 
 use Rattle.std.specs.Prelude.{is_some, nat_lt, pos, if◌then◌else◌}
 use Rattle.rv_shape.specs.Catalogue.{handler, numbered, target, who}
 use Rattle.rv_shape.specs.Shape.{Shape}
-use Rattle.rv_shape.specs.Units.{is_loaded}
+use Rattle.rv_units.specs.Units.{is_loaded}
 use Rattle.rv_event.specs.Past.{archived, begun, fired, halted, held, innermost, mode, next_of, renews_task, stance, stance_of, to_settle, under_way, unsettled}
 use Rattle.rv_event.specs.Recorded.{recorded}
 use Rattle.rv_event.specs.declared.entry.Answer.TheVariants.{Busy}

@@ -9,8 +9,8 @@ use Rattle.rv_access.specs.Words.{Words}
 use Rattle.rv_access.specs.declared.change.Change.{Change}
 use Rattle.rv_shape.specs.Catalogue.{all_tasks, numbered, target, who}
 use Rattle.rv_shape.specs.Shape.{Shape}
-use Rattle.rv_shape.specs.Units.{is_loaded}
-use Rattle.rv_shape.proofs.UnitsStay.{numbered_stays}
+use Rattle.rv_units.specs.Units.{is_loaded}
+use Rattle.rv_units.proofs.UnitsStay.{numbered_stays}
 use Rattle.rv_event.specs.Past.{halted, held, mode, restarts}
 use Rattle.rv_event.specs.Recorded.{recorded}
 use Rattle.rv_event.specs.declared.entry.Answer.{Answer}

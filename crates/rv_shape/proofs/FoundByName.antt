@@ -249,10 +249,6 @@ all_clear_objects : (ss : List Shape) → AreClear ss → Each IsClearObject (al
 all_clear_objects [] clear = tt
 all_clear_objects (s ∷ ss) clear = each_append IsClearObject (objects_of s) (all_objects ss) (clear_objects s clear.0) (all_clear_objects ss clear.1)
 
-all_clear_units : (ss : List Shape) → AreClear ss → Each (λ (s : Shape). is_identifier s.name ≡ true) ss
-all_clear_units [] clear = tt
-all_clear_units (s ∷ ss) clear = (unit_spelled s clear.0, all_clear_units ss clear.1)
-
 -- numbers from 1
 
 record IsAt {X : Type 0} (xs : List X) (first n : ℕ) (x : X) : Type 0 where
@@ -272,10 +268,6 @@ found_at full xs first n x e at =
 
 pub distinct_found : (ss : List Shape) → AreDistinct ss → AreFound ss
 distinct_found ss d = record {
-  units = λ unit shape is.
-      let here = at_number ss 1 unit shape is in
-      let clear = each_get (λ (s : Shape). is_identifier s.name ≡ true) ss (unit - 1) shape (all_clear_units ss d.each) here.at in
-      record { name = clear; number = found_at unit_name ss 1 unit shape d.units here };
   tasks = λ actor at is.
       let here = at_number (all_tasks ss) first_task actor at is in
       let clear = each_get IsClearTask (all_tasks ss) (actor - first_task) at (all_clear_tasks ss d.each) here.at in

@@ -12,7 +12,6 @@ use Rattle.rv_shape.specs.declared.object.Object.{Object}
 use Rattle.rv_shape.specs.Shape.{Shape}
 use Rattle.rv_shape.specs.Catalogue.{UnitTask, UnitObject, OperationNumber, numbered, place, tasks_of, objects_of, all_tasks}
 use Rattle.rv_shape.specs.Readers.{actor_task, unit_named}
-use Rattle.rv_shape.specs.Units.{object_unit as object_unit_of, task_unit as task_unit_of}
 use Rattle.rv_shape.specs.Places.{operation_of, part_at, part_in, places, places_from}
 use Rattle.rv_shape.specs.declared.catalogue.places.Place.{Place}
 
@@ -168,19 +167,6 @@ task_unit shapes at p None is e = absurd (differ (sym (ap (option_map (part_at t
     differ : Some (part_at tasks_of shapes p) ≡ None → ⊥
     differ e = absurd (cc)
 task_unit shapes at p (Some x) is e = ap (λ n. Some n) (task_unit_in p.part (numbered shapes p.unit) x (found tasks_of shapes at p (Some x) is e))
-
--- the number of the unit of what is found
-
-pub object_unit_at : (shapes : List Shape) (objects : List Place) (n : ℕ) → objects ≡ places objects_of 1 shapes →
-    option_map (λ place. place.unit) (numbered objects n) ≡ object_unit_of shapes n
-object_unit_at shapes objects n is = ap (λ ps. option_map (λ place. place.unit) (numbered ps n)) is
-
-pub task_unit_at : (shapes : List Shape) (tasks : List Place) (actor : ℕ) → 11 ≤ actor → tasks ≡ places tasks_of 1 shapes →
-    option_map (λ place. place.unit) (numbered tasks (actor - 11 + 1)) ≡ task_unit_of shapes actor
-task_unit_at shapes tasks actor h is =
-    let some : nat_lt actor 11 ≡ false = grind (arith, nat_tests, h) in
-    ap (option_map (λ place. place.unit)) (ap (λ ps. numbered ps (actor - 11 + 1)) is ∙ numbered_next (places tasks_of 1 shapes) (actor - 11 + 1) (actor - 11) refl)
-    ∙ (λ i. if sym some i then None else option_map (λ place. place.unit) (slice_get (places tasks_of 1 shapes) (actor - 11)))
 
 -- a part of a unit
 pub object_of_unit : (s : Shape) (k : ℕ) → slice_get (objects_of s) k ≡ option_map (λ o. record { unit = s.name; object = o }) (slice_get s.objects k)

@@ -9,4 +9,3 @@ pub mod Added
 pub mod FitsLemmas
 pub mod FoundByName
 pub mod Again
-pub mod UnitsStay

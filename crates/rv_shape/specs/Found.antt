@@ -7,7 +7,7 @@ use Rattle.rv_shape.specs.Catalogue.{UnitTask, UnitObject, numbered, place, oper
 use Rattle.rv_shape.specs.Forms.{ill_formed}
 use Rattle.rv_shape.specs.Readers.{actor_task}
 use Rattle.rv_shape.specs.Fits.{object_name, twice}
-use Rattle.rv_shape.specs.Names.{unit_name, unit_number, task_name, unit_object_name, operation_names, task_number, object_number, operation_number}
+use Rattle.rv_shape.specs.Names.{unit_name, task_name, unit_object_name, operation_names, task_number, object_number, operation_number}
 
 -- a task's names are identifiers (2.3), and `Unit.Task` is this actor
 pub record IsFoundTask (shapes : List Shape) (actor : ℕ) (at : UnitTask) : Type 0 where
@@ -21,14 +21,8 @@ pub record IsFoundObject (shapes : List Shape) (object : ℕ) (at : UnitObject) 
   pub name : IsTrue (is_identifier (object_name at.object))
   pub number : object_number shapes (unit_object_name at) ≡ Some object
 
--- a unit's name is an identifier, and it has this number
-pub record IsFoundUnit (shapes : List Shape) (unit : ℕ) (shape : Shape) : Type 0 where
-  pub name : IsTrue (is_identifier shape.name)
-  pub number : unit_number shapes shape.name ≡ Some unit
-
--- all units, tasks, objects and operations are found so
+-- all tasks, objects and operations are found so
 pub record AreFound (shapes : List Shape) : Type 0 where
-  pub units : (unit : ℕ) (shape : Shape) → numbered shapes unit ≡ Some shape → IsFoundUnit shapes unit shape
   pub tasks : (actor : ℕ) (at : UnitTask) → actor_task shapes actor ≡ Some at → IsFoundTask shapes actor at
   pub objects : (object : ℕ) (at : UnitObject) → place shapes object ≡ Some at → IsFoundObject shapes object at
   pub operations : (object operation : ℕ) (at : UnitObject) (name : List ℕ) → place shapes object ≡ Some at →

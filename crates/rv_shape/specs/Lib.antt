@@ -11,6 +11,5 @@ pub mod ShapeText
 pub mod Drafts
 pub mod Names
 pub mod Places
-pub mod Units
 pub mod Found
 pub mod Printed

@@ -2,7 +2,7 @@
 use Rattle.std.specs.Prelude.{◌≡◌, ◌⊎◌, ℕ, Bool, true, false, List, [], Result, Ok, Err}
 use Rattle.std.specs.Io.KnownBytes.{Appends}
 use Rattle.rv_script.specs.Prefixes.{WritesPrefix}
-use Rattle.rv_shape.specs.Units.{is_unit, task_unit}
+use Rattle.rv_units.specs.Units.{is_unit, task_unit}
 use Rattle.rv_turn.specs.Passes.{Meets}
 use Rattle.rv_behind.specs.Events.{by, catalogue_of}
 use Rattle.rv_port.specs.Ports.{Porting, pass_of}

@@ -1,7 +1,7 @@
 //! Threads for the tasks of a unit that was restarted.
 
 ghost use Rattle.std.specs.Prelude.{◌≡◌, ℕ, List};
-ghost use Rattle.rv_shape.specs.Units.{is_unit, task_unit};
+ghost use Rattle.rv_units.specs.Units.{is_unit, task_unit};
 ghost use Rattle.rv_staff.specs.Restarting.{Restarts, TakesUpIf, TakesUpOne};
 ghost use Rattle.rv_staff.specs.Saying.{Says};
 
@@ -9,6 +9,7 @@ use crate::hires::Hires;
 use crate::session::Session;
 use crate::staffing::{end_of_actors, explain, hire};
 use rv_shape::catalogue::Catalogue;
+use rv_units::unit_of_task;
 use std::io;
 use std::io::Write;
 use std::thread::Threads;
@@ -17,7 +18,7 @@ use std::thread::Threads;
 fn is_task_of(catalogue: &Catalogue, actor: usize, unit: usize) -> bool
     ensures { result ≡ is_unit unit (task_unit catalogue.now actor) }
 {
-    match catalogue.unit_of_task(actor) {
+    match unit_of_task(catalogue, actor) {
         Some(of) => of == unit,
         None => false,
     }

@@ -9,6 +9,7 @@ use rv_shape::actor::Callee;
 use rv_shape::catalogue::Catalogue;
 use rv_shape::shape::UnitShape;
 use rv_text::{dotted_parts, is_identifier, next_word};
+use rv_units::unit_numbered;
 
 const NO_REQUEST: &str =
     "{0} is no request: those are call, end, delay, tick, archive, restart, resume, settle, clock, fire, finish, halt, load and list";
@@ -46,7 +47,7 @@ fn of_loaded<'a>(loaded: &'a Catalogue, name: &'a str) -> Option<Reason<'a>> {
     let Some(number) = loaded.find_unit(name) else {
         return Some(Reason::NotLoaded(name));
     };
-    match loaded.unit(number) {
+    match unit_numbered(loaded, number) {
         Some(shape) => of_name(name, shape.name()),
         None => None,
     }

@@ -15,7 +15,7 @@ use Rattle.rv_waiting.specs.Versions.{AreVersions, asker, with_version}
 use Rattle.rv_waiting.specs.Waiting.{IsPlain}
 use Rattle.rv_waiting.proofs.Telling.{told}
 use Rattle.rv_shape.specs.Shape.{Shape}
-use Rattle.rv_shape.specs.Units.{object_unit}
+use Rattle.rv_units.specs.Units.{object_unit}
 
 some_same : (a b : ℕ) → (let q : Option ℕ = Some a in q ≡ Some b) → a ≡ b
 some_same a b e = cc

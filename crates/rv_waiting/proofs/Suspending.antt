@@ -7,8 +7,8 @@ use Rattle.rv_suspend.specs.Suspension.{Suspension, initially}
 use Rattle.rv_waiting.specs.Limits.{most_places}
 use Rattle.rv_shape.specs.Catalogue.{all_objects}
 use Rattle.rv_shape.specs.Shape.{Shape}
-use Rattle.rv_shape.specs.Units.{is_unit, object_unit}
-use Rattle.rv_shape.proofs.UnitsStay.{object_within}
+use Rattle.rv_units.specs.Units.{is_unit, object_unit}
+use Rattle.rv_units.proofs.UnitsStay.{object_within}
 use Rattle.rv_event.specs.Past.{is_restarted, renews_object, restarts, state, state_after, touch, waiter}
 use Rattle.rv_event.specs.declared.entry.Entry.{Entry}
 use Rattle.rv_waiting.specs.Suspensions.{AreCollected, AreRenewed, AreSuspensions, HasOneRenewed, suspension_renewed, touched_at}

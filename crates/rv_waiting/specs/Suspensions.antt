@@ -1,7 +1,7 @@
 -- Suspension objects as rv_suspend keeps them, and the history that they stand for (D.10).
 use Rattle.std.specs.Prelude.{◌≡◌, ◌≢◌, ℕ, false, if◌then◌else◌, List, Option, Some, None, length, slice_index_or}
 use Rattle.rv_shape.specs.Shape.{Shape}
-use Rattle.rv_shape.specs.Units.{object_unit}
+use Rattle.rv_units.specs.Units.{object_unit}
 use Rattle.rv_event.specs.Past.{Touch, Waits, Sets, Clears, Untouched, is_restarted, state, state_after, touch, waiter, waiter_after}
 use Rattle.rv_event.specs.declared.entry.Entry.{Entry}
 use Rattle.rv_event.specs.declared.entry.Entry.TheVariants.{Asked}

@@ -11,15 +11,15 @@ ghost use Rattle.rv_suspend.specs.Suspension.{Suspension, initially};
 ghost use Rattle.rv_waiting.specs.Limits.{most_places};
 ghost use Rattle.rv_waiting.specs.Suspensions as suspensions;
 ghost use Rattle.rv_waiting.specs.Suspensions.{AreRenewed, AreSuspensions, HasOneRenewed, suspension_after, touch_of_deed, touched_at};
-ghost use Rattle.rv_shape.specs.Catalogue.{all_objects};
 ghost use Rattle.rv_shape.specs.Shape.{Shape};
-ghost use Rattle.rv_shape.specs.Units.{is_unit, object_unit};
+ghost use Rattle.rv_units.specs.Units.{is_unit, object_unit};
 
 use rv_event::entry::{EntryRef, Recorded, Request};
 use rv_event::one_entry::restarts;
 use rv_shape::catalogue::{Catalogue, MOST_OBJECTS, suspension_operation};
 use rv_shape::suspension::SuspensionOperation;
 use rv_suspend::SuspensionObject;
+use rv_units::unit_of_object;
 use std::alloc::{AllocError, Global};
 use std::marker::Model;
 
@@ -96,7 +96,7 @@ fn carry_out(suspension: &mut SuspensionObject, deed: Deed)
 fn is_of(catalogue: &Catalogue, object: usize, unit: usize) -> bool
     ensures { result ≡ is_unit unit (object_unit catalogue.now object) }
 {
-    match catalogue.unit_of_object(object) {
+    match unit_of_object(catalogue, object) {
         Some(of) => of == unit,
         None => false,
     }
@@ -112,18 +112,28 @@ fn renew_one(items: &mut Vec<SuspensionObject>, catalogue: &Catalogue, unit: usi
     }
 }
 
-// The objects of a unit that is restarted are False, if one is (own). Who waits goes on waiting.
-#[tactic(auto, using(crate::proofs::Suspending::none_renewed, crate::proofs::Suspending::first_renewed, crate::proofs::Suspending::one_renewed, crate::proofs::Suspending::all_renewed))]
+// The objects of a unit are False. Who waits goes on waiting.
+#[tactic(auto, using(crate::proofs::Suspending::first_renewed, crate::proofs::Suspending::one_renewed))]
+fn renew_unit(items: &mut Vec<SuspensionObject>, catalogue: &Catalogue, unit: usize)
+    requires { length items.old.items ≡ most_places }
+    ensures { AreRenewed catalogue.now (Some unit) items.old.items items.new.items }
+{
+    let last = catalogue.objects();
+    for object in 0..last + 1 {
+        renew_one(items, catalogue, unit, object);
+    }
+}
+
+// The objects of a unit that is restarted are False, if one is (own).
+#[tactic(auto, using(crate::proofs::Suspending::none_renewed))]
 fn renew(items: &mut Vec<SuspensionObject>, catalogue: &Catalogue, unit: Option<usize>)
-    requires { length (all_objects catalogue.now) < length items.old.items }
+    requires { length items.old.items ≡ most_places }
     ensures { AreRenewed catalogue.now unit items.old.items items.new.items }
 {
     let Some(unit) = unit else {
         return;
     };
-    for object in 0..catalogue.objects() + 1 {
-        renew_one(items, catalogue, unit, object);
-    }
+    renew_unit(items, catalogue, unit);
 }
 
 // A suspension object for each number of an object.
@@ -220,17 +230,14 @@ impl Suspensions {
     // The objects of a unit that is restarted are False, if one is.
     #[tactic(auto, using(crate::proofs::Suspending::renewed_collected))]
     fn renew(&mut self, catalogue: &Catalogue, unit: Option<usize>)
-        requires { length (all_objects catalogue.now) < most_places }
         ensures { AreRenewed catalogue.now unit self.old self.new }
     {
         renew(&mut self.items, catalogue, unit);
     }
 
     /// One entry more.
-    #[tactic(auto, using(crate::proofs::Suspending::renewed_are))]
     pub fn note(&mut self, catalogue: &Catalogue, entry: &EntryRef)
-        requires called { (object : ℕ) → suspensions.called (whole entry.now) ≡ Some object → object < most_places }
-        requires room { length (all_objects catalogue.now) < most_places }
+        requires { (object : ℕ) → suspensions.called (whole entry.now) ≡ Some object → object < most_places }
         ensures { (history : List Entry) → AreSuspensions catalogue.now history self.old →
             AreSuspensions catalogue.now (whole entry.now ∷ history) self.new }
     {

@@ -9,9 +9,8 @@ ghost use Rattle.rv_event.specs.declared.entry.Stance.{Stance};
 ghost use Rattle.rv_history.specs.Exclusion.{full_queue};
 ghost use Rattle.rv_history.specs.History.{History, changes};
 ghost use Rattle.rv_history.specs.Legal.{Legal};
-ghost use Rattle.rv_shape.specs.Catalogue.{all_objects};
 ghost use Rattle.rv_shape.specs.Shape.{Shape};
-ghost use Rattle.rv_waiting.specs.Limits.{most_actors, most_places};
+ghost use Rattle.rv_waiting.specs.Limits.{most_actors};
 ghost use Rattle.rv_waiting.specs.Queues.{call_of, callers};
 ghost use Rattle.rv_waiting.specs.Versions.{version_then};
 ghost use Rattle.rv_waiting.specs.Waiting.{IsNext, IsPlain, IsWaiting};
@@ -171,8 +170,7 @@ impl Waiting {
         named: Option<Body>,
         version: usize,
     )
-        requires next { (h : History) × IsNext h (whole entry.now) named version self.old }
-        requires room { length (all_objects catalogue.now) < most_places }
+        requires { (h : History) × IsNext h (whole entry.now) named version self.old }
         ensures { (h : History) → h.shapes ≡ catalogue.now → IsNext h (whole entry.now) named version self.old →
             IsWaiting h.shapes (whole entry.now ∷ h.past) self.new }
     {

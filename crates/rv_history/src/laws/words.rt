@@ -2,7 +2,7 @@
 
 ghost use Rattle.std.specs.Prelude.{◌≡◌, ◌≤◌, ◌^◌, ℕ, List, Some};
 ghost use Rattle.rv_text.specs.Words.{words};
-ghost use Rattle.rv_shape.specs.Found.{AreFound};
+ghost use Rattle.rv_units.specs.Found.{AreAllFound};
 ghost use Rattle.rv_event.specs.ReadBack.{IsSaidEntry};
 ghost use Rattle.rv_event.specs.Reading.{request_of};
 ghost use Rattle.rv_event.specs.Recorded.{recorded};
@@ -19,7 +19,7 @@ ghost use Rattle.rv_history.specs.Spelled.{AreSpelled};
 /// Each task, object and operation of a legal history is found by its name.
 #[tactic(auto, using(crate::proofs::Found::legal_found))]
 pub fn names_are_found()
-    ensures { (h : History) → Legal h → AreFound h.shapes }
+    ensures { (h : History) → Legal h → AreAllFound h.shapes }
 {}
 
 /// The words of a recorded request are read back as that request.

@@ -8,7 +8,7 @@ ghost use Rattle.rv_history.specs.Owed.{actors};
 ghost use Rattle.rv_host.specs.Decisions.{answer_with};
 ghost use Rattle.rv_host.specs.InUse.{any_object, has_use, opens_at_first};
 ghost use Rattle.rv_host.specs.Seen.{IsSeen, history_of};
-ghost use Rattle.rv_shape.specs.Units.{is_unit, object_unit, task_unit};
+ghost use Rattle.rv_units.specs.Units.{is_unit, object_unit, task_unit};
 
 use crate::decision::Decision;
 use crate::rules::exclusion::{is_busy, opens_among};
@@ -18,12 +18,13 @@ use rv_event::entry::Stance;
 use rv_present::initial_of;
 use rv_shape::catalogue::Catalogue;
 use rv_shape::object::Object as DeclaredObject;
+use rv_units::{unit_of_object, unit_of_task};
 
 // Whether an actor is a task of a unit.
 fn is_task_of(catalogue: &Catalogue, actor: usize, unit: usize) -> bool
     ensures { result ≡ is_unit unit (task_unit catalogue.now actor) }
 {
-    match catalogue.unit_of_task(actor) {
+    match unit_of_task(catalogue, actor) {
         Some(of) => of == unit,
         None => false,
     }
@@ -33,7 +34,7 @@ fn is_task_of(catalogue: &Catalogue, actor: usize, unit: usize) -> bool
 fn is_object_of(catalogue: &Catalogue, object: usize, unit: usize) -> bool
     ensures { result ≡ is_unit unit (object_unit catalogue.now object) }
 {
-    match catalogue.unit_of_object(object) {
+    match unit_of_object(catalogue, object) {
         Some(of) => of == unit,
         None => false,
     }

@@ -7,7 +7,7 @@ ghost use Rattle.rv_history.specs.Owed.{actors};
 ghost use Rattle.rv_host.specs.Seen.{IsSeen, history_of};
 ghost use Rattle.rv_shape.specs.Catalogue as catalogues;
 ghost use Rattle.rv_shape.specs.Readers.{target_of};
-ghost use Rattle.rv_shape.specs.Units as units;
+ghost use Rattle.rv_units.specs.Units as units;
 
 use crate::rules::blocking::count_held;
 use crate::rules::values::{fit_exit, fit_parameters, fit_scalars};
@@ -17,6 +17,7 @@ use rv_history::limits::MOST_ENTRIES;
 use rv_prio::MOST_HELD;
 use rv_shape::actor::{Actor, Callee, FIRST_TASK};
 use rv_shape::catalogue::Catalogue;
+use rv_units::unit_numbered;
 
 /// The actor's innermost body.
 pub fn innermost(seen: &Seen, actor: usize) -> Option<Body>
@@ -183,7 +184,7 @@ fn is_archive(seen: &Seen, number: usize) -> bool
 fn is_loaded(catalogue: &Catalogue, unit: usize) -> bool
     ensures { result ≡ units.is_loaded catalogue.now unit }
 {
-    catalogue.unit(unit).is_some()
+    unit_numbered(catalogue, unit).is_some()
 }
 
 // Whether a request fits an actor that there is, in this mode.

@@ -74,8 +74,8 @@ impl Places {
     }
 }
 
-/// The unit of a number, from 1.
-pub(crate) fn unit_at(shapes: &[UnitShape], number: usize) -> Option<&UnitShape>
+// The unit of a number, from 1.
+fn unit_at(shapes: &[UnitShape], number: usize) -> Option<&UnitShape>
     ensures { option_copied result ≡ numbered shapes.now number }
 {
     if number < 1 {

@@ -6,4 +6,4 @@ use Rattle.rv_present.proofs.stances.Stances.dues_restarted.Given as goal
 
 abbrev pub invariant-loop-other : goal.invariant-loop-other
 invariant-loop-other l =
-    (l.dues ≡ dues_by (renewed l.catalogue (Some l.unit) 0 (slice_set l.self.stances l.actor Free)) l.other) × (l.dues ≤ 3 * l.other)
+    (l.dues ≡ dues_by (renewed l.catalogue (Some l.unit) (slice_set l.self.stances l.actor Free)) l.other) × (l.dues ≤ 3 * l.other)

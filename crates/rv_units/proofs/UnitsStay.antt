@@ -8,7 +8,7 @@ use Rattle.std.proofs.lemmas.List.Folds.{list_any-append}
 use Rattle.rv_shape.specs.Catalogue.{all_objects, all_tasks, first_task, numbered, objects_of, tasks_of}
 use Rattle.rv_shape.specs.Places.{places, places_from}
 use Rattle.rv_shape.specs.Shape.{Shape}
-use Rattle.rv_shape.specs.Units.{is_loaded, is_unit, object_unit, task_unit}
+use Rattle.rv_units.specs.Units.{is_loaded, is_unit, object_unit, task_unit}
 use Rattle.rv_shape.specs.declared.catalogue.places.Place.{Place}
 use Rattle.rv_shape.proofs.Indexed.{counted}
 

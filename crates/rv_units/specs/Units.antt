@@ -1,5 +1,5 @@
 -- Of which units tasks and objects are (own).
-use Rattle.std.specs.Prelude.{ℕ, ◌-◌, ◌==◌, nat_lt, Bool, false, if◌then◌else◌, List, Some, None, Option, is_some, slice_get}
+use Rattle.std.specs.Prelude.{ℕ, ◌-◌, ◌==◌, nat_lt, Bool, false, if◌then◌else◌, List, Some, None, Option, is_some, slice_get, codes}
 use Rattle.std.specs.Option.{option_map}
 use Rattle.rv_shape.specs.Catalogue.{first_task, numbered, objects_of, tasks_of}
 use Rattle.rv_shape.specs.Places.{places}
@@ -23,3 +23,8 @@ is_unit number (Some other) = other == number
 -- there is a unit of this number
 abbrev pub is_loaded : List Shape → ℕ → Bool
 is_loaded shapes unit = is_some (numbered shapes unit)
+
+-- the name of a unit, as a journal has it; `?` for one that there isn't
+abbrev pub unit_text : Option Shape → List ℕ
+unit_text None = codes "?"
+unit_text (Some shape) = shape.name

@@ -1,0 +1,2 @@
+pub mod UnitsStay
+pub mod ByName
