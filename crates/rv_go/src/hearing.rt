@@ -176,6 +176,16 @@ impl Texts {
         }
     }
 
+    // So they do of the unit that was restarted, if one was.
+    fn begin_anew_where(&mut self, catalogue: &Catalogue, restarted: Option<usize>)
+        ensures { texts_view self.new ≡ begin_anew catalogue.now restarted (texts_view self.old) }
+    {
+        let Some(unit) = restarted else {
+            return;
+        };
+        self.begin_anew(catalogue, unit);
+    }
+
     // An actor has heard an answer more, by which its text starts, or not.
     fn keep_one(
         &mut self,
@@ -236,9 +246,7 @@ impl Texts {
         ensures err { OnErr result (texts_view self.new ≡ texts_view self.old) }
     {
         self.keep(alloc, actor, goes, request, answer)?;
-        if let Some(unit) = restarts(request, answer) {
-            self.begin_anew(catalogue, unit);
-        }
+        self.begin_anew_where(catalogue, restarts(request, answer));
         Ok(())
     }
 }

@@ -1,5 +1,5 @@
 -- Object by object it is asked whether a unit is in use, and so it is.
-use Rattle.std.proofs.Common.{◌≡◌, ℕ, zero, suc, ◌+◌, ◌<◌, List, [], ◌∷◌, length, Bool, true, false, arith, ap, sym, ◌∙◌, refl}
+use Rattle.std.proofs.Common.{◌≡◌, ℕ, zero, suc, ◌+◌, ◌<◌, ◌≤◌, List, [], ◌∷◌, length, Bool, true, false, arith, ap, sym, ◌∙◌, refl}
 use Rattle.std.specs.Prelude.{◌==◌, ◌&&◌, ◌||◌, nat_lt, cond, filter}
 use Rattle.std.specs.List.{list_any}
 use Rattle.std.proofs.lemmas.Bool.Decides.{nat_tests}
@@ -15,27 +15,6 @@ use Rattle.rv_history.specs.Owed.{actors}
 use Rattle.rv_host.specs.InUse.{any_object, has_use_at, opens_at_first}
 
 -- numbers below one
-
-pub none_more : (n : ℕ) (test : ℕ → Bool) → any_below n test ≡ false → test n ≡ false → any_below (n + 1) test ≡ false
-none_more n test none here =
-    let next : n + 1 ≡ suc n = omega arith in
-    ap (λ m. any_below m test) next ∙ (rw (here, none) refl)
-
-pub one_found : (n m : ℕ) (test : ℕ → Bool) → n < m → test n ≡ true → any_below m test ≡ true
-one_found n zero test less here = absurd (omega (arith, less))
-one_found n (suc m) test less here = by_test (n == m) refl (one_found n m test)
-  where
-    by_test : (b : Bool) → (n == m) ≡ b → (n < m → test n ≡ true → any_below m test ≡ true) → (test m || any_below m test) ≡ true
-    by_test true is before =
-        let same : m ≡ n = grind (arith, nat_tests, is) in
-        ap (λ t. t || any_below m test) (ap test same ∙ here)
-    by_test false is before =
-        let behind : n < m = grind (arith, nat_tests, is, less) in
-        ap (λ t. test m || t) (before behind here) ∙ either (test m)
-
-    either : (t : Bool) → (t || true) ≡ true
-    either true = refl
-    either false = refl
 
 any_same : (n : ℕ) (f g : ℕ → Bool) → ((o : ℕ) → f o ≡ g o) → any_below n f ≡ any_below n g
 any_same n f g same i = any_below n (λ o. same o i)
@@ -90,7 +69,10 @@ any_key : (n k : ℕ) (p : ℕ → Bool) → (p k ≡ true → k < n) → any_be
 any_key n k p known = any_at n k p ∙ by_test (p k) known
   where
     by_test : (a : Bool) → (a ≡ true → k < n) → (a && nat_lt k n) ≡ a
-    by_test true known = let less = known refl in grind (arith, nat_tests, less)
+    by_test true known =
+        let less : k < n = known refl in
+        let here : nat_lt k n ≡ true = grind (arith, nat_tests, less) in
+        here
     by_test false known = refl
 
 any_listed : {X : Type 0} (n : ℕ) (p : ℕ → Bool) (key : X → ℕ) (xs : List X) → ((x : X) → p (key x) ≡ true → key x < n) →
@@ -135,7 +117,7 @@ objects_so h unit =
     || any_listed n enters (λ (b : Body). b.object) (waiting h.past) known_enters i)
   where
     n : ℕ
-    n = suc (length (all_objects h.shapes))
+    n = length (all_objects h.shapes) + 1
 
     of : ℕ → Bool
     of o = is_unit unit (object_unit h.shapes o)
@@ -147,7 +129,10 @@ objects_so h unit =
     on o bodies = list_any (λ (b : Body). b.object == o) bodies
 
     known : (b : Body) → of b.object ≡ true → b.object < n
-    known b is = omega (arith, object_within h.shapes unit b.object is)
+    known b is =
+        let least : b.object ≤ length (all_objects h.shapes) = object_within h.shapes unit b.object is in
+        let less : b.object < length (all_objects h.shapes) + 1 = omega (arith, least) in
+        less
 
     first : (a b : Bool) → (a && b) ≡ true → a ≡ true
     first true b e = refl
@@ -167,11 +152,11 @@ objects_so h unit =
 
 -- whether a unit is in use, by its tasks and by its objects
 
-pub used_by_tasks : (h : History) (unit : ℕ) (tasks : Bool) → tasks ≡ any_below (actors h.shapes) (is_there h unit) → tasks ≡ true → in_use h unit ≡ true
-used_by_tasks h unit tasks are some =
-    ap (λ t. ((t || list_any (is_at h.shapes unit) (under_way h.shapes h.past)) || list_any (is_at h.shapes unit) (unsettled h.shapes h.past)) || list_any (would_enter h.shapes unit) (waiting h.past)) (sym are ∙ some)
-
-pub used_so : (h : History) (unit : ℕ) (tasks objects : Bool) → tasks ≡ any_below (actors h.shapes) (is_there h unit) → tasks ≡ false → objects ≡ any_object h unit → in_use h unit ≡ objects
-used_so h unit tasks objects are none so =
-    ap (λ t. ((t || list_any (is_at h.shapes unit) (under_way h.shapes h.past)) || list_any (is_at h.shapes unit) (unsettled h.shapes h.past)) || list_any (would_enter h.shapes unit) (waiting h.past)) (sym are ∙ none)
-    ∙ sym (objects_so h unit) ∙ sym so
+pub used_so : (h : History) (unit : ℕ) (tasks objects : Bool) → tasks ≡ any_below (actors h.shapes) (is_there h unit) → objects ≡ any_object h unit → (tasks || objects) ≡ in_use h unit
+used_so h unit tasks objects are so =
+    (λ i. are i || (so ∙ objects_so h unit) i)
+    ∙ apart (any_below (actors h.shapes) (is_there h unit)) (list_any (is_at h.shapes unit) (under_way h.shapes h.past)) (list_any (is_at h.shapes unit) (unsettled h.shapes h.past)) (list_any (would_enter h.shapes unit) (waiting h.past))
+  where
+    apart : (a b c d : Bool) → (a || ((b || c) || d)) ≡ (((a || b) || c) || d)
+    apart true b c d = refl
+    apart false b c d = refl

@@ -1,5 +1,5 @@
 -- Whether a unit is in use, object by object (own).
-use Rattle.std.specs.Prelude.{ℕ, suc, ◌&&◌, ◌||◌, Bool, false, List, length, nat_lt}
+use Rattle.std.specs.Prelude.{ℕ, ◌+◌, ◌&&◌, ◌||◌, Bool, false, List, length, nat_lt}
 use Rattle.rv_shape.specs.Catalogue.{all_objects, initial, place}
 use Rattle.rv_shape.specs.Shape.{Shape}
 use Rattle.rv_units.specs.Units.{is_unit, object_unit}
@@ -23,4 +23,4 @@ has_use_at h unit object = is_unit unit (object_unit h.shapes object) && has_use
 
 -- an object of the unit is so
 abbrev pub any_object : History → ℕ → Bool
-any_object h unit = any_below (suc (length (all_objects h.shapes))) (has_use_at h unit)
+any_object h unit = any_below (length (all_objects h.shapes) + 1) (has_use_at h unit)

@@ -9,7 +9,8 @@ use Rattle.rv_shape.specs.Readers.{actor_task}
 use Rattle.rv_shape.specs.Shape.{Shape}
 use Rattle.rv_units.specs.Units.{is_loaded, object_unit, task_unit}
 use Rattle.rv_shape.specs.declared.catalogue.places.Place.{Place}
-use Rattle.rv_shape.proofs.Indexed.{Stands, found, object_stands, object_unit_at, task_stands, task_unit_at}
+use Rattle.rv_shape.proofs.Indexed.{Stands, found, object_stands, task_stands}
+use Rattle.rv_units.proofs.Placed.{object_unit_at, task_unit_at}
 use Rattle.rv_units.proofs.UnitsStay.{loaded_within}
 use Rattle.rv_event.specs.Past.{held, holds_some, innermost, mode, mode_by, mode_with, stance, to_settle, under_way}
 use Rattle.rv_event.specs.Recorded.{recorded}

@@ -18,6 +18,7 @@ use Rattle.rv_shape.proofs.FoundByName.{distinct_found, first_number}
 use Rattle.rv_shape.proofs.Indexed.{Stands, missing, object_stands, object_unit as stands_object_unit, task_stands, task_unit as stands_task_unit}
 use Rattle.rv_units.specs.Found.{AreAllFound, IsFoundUnit}
 use Rattle.rv_units.specs.Units.{object_unit, task_unit}
+use Rattle.rv_units.proofs.Placed.{task_unit_at}
 
 -- a unit's name is an identifier
 
@@ -95,24 +96,22 @@ objects_place : (shapes : List Shape) (at : Option Place) (x : Option UnitObject
 objects_place shapes None x stands = ap (option_map (λ (o : UnitObject). Some o.unit)) (sym (missing objects_of shapes None x refl stands))
 objects_place shapes (Some p) x stands = stands_object_unit shapes (Some p) p x refl stands
 
-next_number : {X : Type 0} (xs : List X) (k : ℕ) → numbered xs (k + 1) ≡ slice_get xs k
-next_number xs k =
-    let some : nat_lt (k + 1) 1 ≡ false = grind (arith, nat_tests) in
-    let before : k + 1 - 1 ≡ k = omega arith in
-    λ i. if some i then None else slice_get xs (before i)
-
 task_unit_named : (shapes : List Shape) (actor : ℕ) →
     option_map (unit_named shapes) (task_unit shapes actor) ≡ option_map (λ (t : UnitTask). Some t.unit) (actor_task shapes actor)
 task_unit_named shapes actor = by_test (nat_lt actor first_task) refl
   where
     by_test : (b : Bool) → nat_lt actor first_task ≡ b →
-        option_map (unit_named shapes) (if b then None else option_map (λ (p : Place). p.unit) (slice_get (places tasks_of 1 shapes) (actor - first_task)))
-        ≡ option_map (λ (t : UnitTask). Some t.unit) (actor_task shapes actor)
-    by_test true t = let none : actor_task shapes actor ≡ None = ap (λ b. if b then None else slice_get (all_tasks shapes) (actor - first_task)) t in ap (option_map (λ (t : UnitTask). Some t.unit)) (sym none)
+        option_map (unit_named shapes) (task_unit shapes actor) ≡ option_map (λ (t : UnitTask). Some t.unit) (actor_task shapes actor)
+    by_test true t =
+        let none : task_unit shapes actor ≡ None =
+        ap (λ b. if b then None else option_map (λ (p : Place). p.unit) (slice_get (places tasks_of 1 shapes) (actor - first_task))) t in
+        let nobody : actor_task shapes actor ≡ None = ap (λ b. if b then None else slice_get (all_tasks shapes) (actor - first_task)) t in
+        ap (option_map (unit_named shapes)) none ∙ ap (option_map (λ (t : UnitTask). Some t.unit)) (sym nobody)
     by_test false t =
         let from_first : 11 ≤ actor = grind (arith, nat_tests, t) in
-        ap (λ at. option_map (unit_named shapes) (option_map (λ (p : Place). p.unit) at)) (sym (next_number (places tasks_of 1 shapes) (actor - 11)))
-        ∙ tasks_place shapes _ _ (task_stands shapes (places tasks_of 1 shapes) actor from_first refl)
+        let tasks : List Place = places tasks_of 1 shapes in
+        ap (option_map (unit_named shapes)) (sym (task_unit_at shapes tasks actor from_first refl))
+        ∙ tasks_place shapes (numbered tasks (actor - 11 + 1)) (actor_task shapes actor) (task_stands shapes tasks actor from_first refl)
 
 pub task_unit_is : (shapes : List Shape) (actor : ℕ) (unit : Option ℕ) → AreDistinct shapes →
     option_map (unit_named shapes) unit ≡ option_map (λ (t : UnitTask). Some t.unit) (actor_task shapes actor) → unit ≡ task_unit shapes actor
@@ -122,4 +121,4 @@ pub object_unit_is : (shapes : List Shape) (object : ℕ) (unit : Option ℕ) �
     option_map (unit_named shapes) unit ≡ option_map (λ (o : UnitObject). Some o.unit) (place shapes object) → unit ≡ object_unit shapes object
 object_unit_is shapes object unit d is =
     same_unit (λ (o : UnitObject). o.unit) shapes unit (object_unit shapes object) (place shapes object) d is
-    (objects_place shapes _ _ (object_stands shapes (places objects_of 1 shapes) object refl))
+    (objects_place shapes (numbered (places objects_of 1 shapes) object) (place shapes object) (object_stands shapes (places objects_of 1 shapes) object refl))

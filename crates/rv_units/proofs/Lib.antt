@@ -1,2 +1,3 @@
 pub mod UnitsStay
+pub mod Placed
 pub mod ByName

@@ -71,8 +71,8 @@ fn version_then(seen: &Seen, actor: usize) -> usize
     seen.waiting.version_then(actor)
 }
 
-// At what an actor was left.
-fn stance_of(seen: &Seen, actor: usize) -> Stance
+/// At what an actor was left.
+pub fn stance_of(seen: &Seen, actor: usize) -> Stance
     requires { IsSeen seen.now }
     ensures { result ≡ past.stance (history_of seen.now).shapes actor (history_of seen.now).past }
 {
