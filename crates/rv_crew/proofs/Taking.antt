@@ -1,5 +1,5 @@
 -- A thread is taken out of a crew.
-use Rattle.std.proofs.Common.{◌≡◌, ◌∙◌, ℕ, suc, List, [], ◌∷◌, ◌++◌, map, take, drop, Some, sym, subst}
+use Rattle.std.proofs.Common.{◌≡◌, ◌∙◌, ℕ, zero, suc, List, [], ◌∷◌, ◌++◌, map, take, drop, Some, sym, subst}
 use Rattle.std.specs.Prelude.{remove, slice_get}
 use Rattle.std.proofs.lemmas.List.{map-append, take-map, drop-map, take-append-drop}
 use Rattle.atomic_table.specs.Seated.{TableId}
@@ -28,7 +28,7 @@ each_removed P xs i e =
 -- a thread that is there
 each_there : {X : Type 0} (P : X → Type 0) (xs : List X) (i : ℕ) (x : X) → slice_get xs i ≡ Some x → Each P xs → P x
 each_there P [] i x at e = absurd (cc at)
-each_there P (y ∷ xs) 0 x at e = subst P (cc at) e.0
+each_there P (y ∷ xs) zero x at e = let same : y ≡ x = cc in subst P same e.0
 each_there P (y ∷ xs) (suc i) x at e = each_there P xs i x at e.1
 
 -- the crew keeps to its turn
