@@ -1,7 +1,7 @@
 //! What is kept for the operator's list changes, where each unit has an allowance: looked at before the run, and told where ticks or a
 //! command leave less.
 
-ghost use Rattle.std.specs.Prelude.{◌≡◌, None, is_some, true};
+ghost use Rattle.std.specs.Prelude.{◌≡◌, ◌≤◌, IfSome, None, is_some, true};
 ghost use Rattle.rv_attend.specs.Chores.{Chores};
 ghost use Rattle.rv_attend.specs.Reserving.{fit_if};
 
@@ -287,7 +287,9 @@ pub(crate) fn keep_books<E: Write>(
 }
 
 // How many tasks begin anew with a unit of this name, if there is one and it has none that is still there.
-fn renewed(catalogue: &Catalogue, view: &View, unit: &Name) -> Option<usize> {
+fn renewed(catalogue: &Catalogue, view: &View, unit: &Name) -> Option<usize>
+    ensures { IfSome result (λ tasks. tasks ≤ 64) }
+{
     let Some(unit) = catalogue.find_unit(unit.as_str()) else {
         return None;
     };
@@ -303,6 +305,7 @@ fn renewed(catalogue: &Catalogue, view: &View, unit: &Name) -> Option<usize> {
 // The same over what is shown of the host.
 #[tactic(auto, using(crate::proofs::Chores::no_chores))]
 fn renewed_by<T: Wait>(rt: &T, staff: &mut Staff, unit: &Name) -> Option<usize>
+    ensures few { IfSome result (λ tasks. tasks ≤ 64) }
     ensures chores { Chores staff.old.control staff.new.control }
     ensures crew { staff.new.crew ≡ staff.old.crew }
 {

@@ -1,4 +1,4 @@
-use Rattle.std.proofs.Common.{arith, sym}
+use Rattle.std.proofs.Common.{◌≡◌, arith, length, sym}
 use Rattle.rv_go.specs.Texts.{texts_view}
 use Rattle.rv_go.proofs.Restarting.{all_anew, none_anew, passed_other, passed_task}
 use Rattle.rv_go.proofs.texts.Texts.begin_anew.Goals as goal
@@ -18,5 +18,6 @@ actors-preserved-else-is_task_of c =
 pub returns : goal.returns
 returns c =
     let old = c.args.self.now in
+    let last : c.actors.actor ≡ length old.listeners.items = omega arith in
     all_anew c.args.catalogue.now c.args.unit c.actors.actor (texts_view old) (texts_view c.actors.self)
-    (λ actor beyond. old.kept.kept.numbered.others actor (omega (arith, beyond, c.actors-test.false, c.len.ensures))) c.actors.invariant
+    (λ actor beyond. old.kept.kept.numbered.others actor (omega (arith, last, beyond))) c.actors.invariant
