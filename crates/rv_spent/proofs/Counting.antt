@@ -55,20 +55,20 @@ pub none_spent : AreSpent [] [] (replicate 65 0)
 none_spent = record { counted = λ unit lt. get_or-replicate 65 unit 0 0 lt }
 
 -- an entry that restarts no unit counts as it is charged
-plain : (shapes : List Shape) (past : List Entry) (a : ℕ) (r : Request) (w : Recorded) (unit : ℕ) → restarts (Asked a r w) ≡ None
+plain : (shapes : List Shape) (past : List Entry) (a : ℕ) (r : Request) (w : Recorded) (unit : ℕ) → None ≡ restarts (Asked a r w)
     → spent shapes unit (Asked a r w ∷ past) ≡ (if is_unit unit (charged shapes past a r) then suc (spent shapes unit past) else spent shapes unit past)
 plain shapes past a r w unit calm =
-    ap (λ (u : Option ℕ). if is_unit unit u then 0 else if is_unit unit (charged shapes past a r) then suc (spent shapes unit past) else spent shapes unit past) calm
+    ap (λ (u : Option ℕ). if is_unit unit u then 0 else if is_unit unit (charged shapes past a r) then suc (spent shapes unit past) else spent shapes unit past) (sym calm)
 
 pub unnoted : (shapes : List Shape) (past : List Entry) (a : ℕ) (r : Request) (w : Recorded) (counts : List ℕ) → None ≡ charged shapes past a r → AreSpent shapes past counts
-    → restarts (Asked a r w) ≡ None → AreSpent shapes (Asked a r w ∷ past) counts
+    → None ≡ restarts (Asked a r w) → AreSpent shapes (Asked a r w ∷ past) counts
 unnoted shapes past a r w counts none are calm = record {
   counted = λ unit lt. are.counted unit lt ∙ ap (λ (u : Option ℕ). if is_unit unit u then suc (spent shapes unit past) else spent shapes unit past) none
       ∙ sym (plain shapes past a r w unit calm);
 }
 
 pub noted : (shapes : List Shape) (past : List Entry) (a : ℕ) (r : Request) (w : Recorded) (unit : ℕ) (counts new : List ℕ) → length past < 10 ^ 12
-    → Some unit ≡ charged shapes past a r → AreSpent shapes past counts → restarts (Asked a r w) ≡ None → Notes counts unit new → AreSpent shapes (Asked a r w ∷ past) new
+    → Some unit ≡ charged shapes past a r → AreSpent shapes past counts → None ≡ restarts (Asked a r w) → Notes counts unit new → AreSpent shapes (Asked a r w ∷ past) new
 noted shapes past a r w unit counts new short paid are calm notes = record {
   counted = λ other lt.
       notes.counts other lt ∙ ap (more_of unit other) (are.counted other lt) ∙ by other (unit == other) refl

@@ -67,7 +67,7 @@ impl Spent {
     fn charge_to(&mut self, unit: usize)
         ensures { (shapes : List Shape) (past : List Entry) (actor : ℕ) (request : Request) (word : Recorded) →
             length past < 10 ^ 12 → AreSpent shapes past self.old → Some unit ≡ charged shapes past actor request →
-            restarts (Asked actor request word) ≡ None → AreSpent shapes (Asked actor request word ∷ past) self.new }
+            None ≡ restarts (Asked actor request word) → AreSpent shapes (Asked actor request word ∷ past) self.new }
     {
         self.count(unit);
     }
@@ -77,14 +77,14 @@ impl Spent {
     fn charge_to_none(&self)
         ensures { (shapes : List Shape) (past : List Entry) (actor : ℕ) (request : Request) (word : Recorded) →
             None ≡ charged shapes past actor request → AreSpent shapes past self.now →
-            restarts (Asked actor request word) ≡ None → AreSpent shapes (Asked actor request word ∷ past) self.now }
+            None ≡ restarts (Asked actor request word) → AreSpent shapes (Asked actor request word ∷ past) self.now }
     {}
 
     // One entry more, of a request that is charged to this unit, if it is to one, and restarts none.
     fn charge(&mut self, unit: Option<usize>)
         ensures { (shapes : List Shape) (past : List Entry) (actor : ℕ) (request : Request) (word : Recorded) →
             length past < 10 ^ 12 → AreSpent shapes past self.old → unit ≡ charged shapes past actor request →
-            restarts (Asked actor request word) ≡ None → AreSpent shapes (Asked actor request word ∷ past) self.new }
+            None ≡ restarts (Asked actor request word) → AreSpent shapes (Asked actor request word ∷ past) self.new }
     {
         match unit {
             Some(unit) => self.charge_to(unit),
