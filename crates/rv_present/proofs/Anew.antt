@@ -1,5 +1,5 @@
 -- The loops by which a unit's tasks and objects are as at first again.
-use Rattle.std.proofs.Common.{◌≡◌, ◌≢◌, ℕ, zero, suc, ◌+◌, ◌<◌, ◌≤◌, List, [], ◌∷◌, length, get_or, set, Some, Option, Bool, true, false, arith, ap, sym, ◌∙◌, refl}
+use Rattle.std.proofs.Common.{◌≡◌, ◌≢◌, ℕ, zero, suc, ◌+◌, ◌<◌, ◌≤◌, List, [], ◌∷◌, length, get_or, set, Some, None, Option, Bool, true, false, arith, ap, sym, ◌∙◌, refl}
 use Rattle.std.specs.Prelude.{nat_lt, ◌==◌, if◌then◌else◌}
 use Rattle.std.proofs.lemmas.Bool.Decides.{nat_tests}
 use Rattle.std.proofs.lemmas.Grind.{get_or-set_at}
@@ -93,6 +93,10 @@ one_reset shapes unit i old new last one k = record {
     by_place o less false e =
         let other : o ≢ i = grind (arith, nat_tests) in
         one.others o other ∙ k.done o (omega (arith, less, other))
+
+-- where no unit was restarted
+pub nothing_reset : (shapes : List Shape) (xs : List ObjectView) → AreReset shapes None xs xs
+nothing_reset shapes xs = record { long = refl; each = λ o. refl }
 
 -- what has no place is of no unit
 pub all_reset : (shapes : List Shape) (unit upto : ℕ) (old new : List ObjectView) → length (all_objects shapes) < upto → AreResetTo shapes (Some unit) upto old new → AreReset shapes (Some unit) old new
