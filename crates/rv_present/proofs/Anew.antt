@@ -1,6 +1,6 @@
 -- The loops by which a unit's tasks and objects are as at first again.
 use Rattle.std.proofs.Common.{◌≡◌, ◌≢◌, ℕ, zero, suc, ◌+◌, ◌<◌, ◌≤◌, List, [], ◌∷◌, length, get_or, set, Some, None, Option, Bool, true, false, arith, ap, sym, ◌∙◌, refl}
-use Rattle.std.specs.Prelude.{nat_lt, ◌==◌, if◌then◌else◌}
+use Rattle.std.specs.Prelude.{ℤ, nat_lt, ◌==◌, if◌then◌else◌}
 use Rattle.std.proofs.lemmas.Bool.Decides.{nat_tests}
 use Rattle.std.proofs.lemmas.Grind.{get_or-set_at}
 use Rattle.std.proofs.lemmas.List.{get_or-set_other, length-set}
@@ -77,6 +77,26 @@ pub record AreResetTo (shapes : List Shape) (unit : Option ℕ) (upto : ℕ) (ol
 
 pub none_reset : (shapes : List Shape) (unit : Option ℕ) (xs : List ObjectView) → AreResetTo shapes unit 0 xs xs
 none_reset shapes unit xs = record { long = refl; done = λ o less. absurd (omega (arith, less)); kept = λ o at. refl }
+
+-- one object, which is of the unit or not
+pub reset_there : (shapes : List Shape) (unit object : ℕ) (old new : List ObjectView) (starts : List ℤ) → object < length old → is_unit unit (object_unit shapes object) ≡ true → starts ≡ initial shapes object →
+    new ≡ set old object (record (get_or old object idle) { scalars = starts }) → HasOneReset shapes unit object old new
+reset_there shapes unit object old new starts inside own first is =
+    let before : ObjectView = get_or old object idle in
+    let after : ObjectView = record before { scalars = starts } in
+    record {
+      long = ap (λ (xs : List ObjectView). length xs) is ∙ length-set old object after;
+      one = ap (λ xs. get_or xs object idle) is ∙ get_or-set_at old object object after idle refl inside ∙ ap (λ (vs : List ℤ). record before { scalars = vs }) first
+          ∙ sym (ap (λ b. if b then record before { scalars = initial shapes object } else before) own);
+      others = λ other not. ap (λ xs. get_or xs other idle) is ∙ get_or-set_other old object other after idle not;
+    }
+
+pub reset_not : (shapes : List Shape) (unit object : ℕ) (xs : List ObjectView) → is_unit unit (object_unit shapes object) ≡ false → HasOneReset shapes unit object xs xs
+reset_not shapes unit object xs other = record {
+  long = refl;
+  one = sym (ap (λ b. if b then record (get_or xs object idle) { scalars = initial shapes object } else get_or xs object idle) other);
+  others = λ o not. refl;
+}
 
 pub one_reset : (shapes : List Shape) (unit i : ℕ) (old new last : List ObjectView) → HasOneReset shapes unit i new last → AreResetTo shapes (Some unit) i old new → AreResetTo shapes (Some unit) (i + 1) old last
 one_reset shapes unit i old new last one k = record {

@@ -1,8 +1,9 @@
 -- The suspension objects, at first and as an entry is added.
-use Rattle.std.proofs.Common.{◌≡◌, ◌≢◌, ◌∙◌, ℕ, ◌+◌, ◌<◌, ◌≤◌, List, [], ◌∷◌, length, get_or, replicate, Some, None, Option, Bool, true, false, arith, ap, sym, refl}
+use Rattle.std.proofs.Common.{◌≡◌, ◌≢◌, ◌∙◌, ℕ, ◌+◌, ◌<◌, ◌≤◌, List, [], ◌∷◌, length, get_or, set, replicate, Some, None, Option, Bool, true, false, arith, ap, sym, refl}
 use Rattle.std.specs.Prelude.{nat_lt, ◌==◌, if◌then◌else◌}
 use Rattle.std.proofs.lemmas.Bool.Decides.{nat_tests}
-use Rattle.std.proofs.lemmas.List.{length-replicate}
+use Rattle.std.proofs.lemmas.Grind.{get_or-set_at}
+use Rattle.std.proofs.lemmas.List.{get_or_default, get_or-set_other, length-replicate, length-set}
 use Rattle.rv_suspend.specs.Suspension.{Suspension, initially}
 use Rattle.rv_waiting.specs.Limits.{most_places}
 use Rattle.rv_shape.specs.Catalogue.{all_objects}
@@ -55,6 +56,26 @@ pub record AreRenewedTo (shapes : List Shape) (unit upto : ℕ) (old new : List 
 
 pub first_renewed : (shapes : List Shape) (unit : ℕ) (xs : List Suspension) → AreRenewedTo shapes unit 0 xs xs
 first_renewed shapes unit xs = record { long = refl; done = λ o less. absurd (omega (arith, less)); kept = λ o at. refl }
+
+-- one object, which is of the unit or not
+pub renewed_there : (shapes : List Shape) (unit object : ℕ) (old new : List Suspension) (before after : Suspension) → object < length old → is_unit unit (object_unit shapes object) ≡ true → before ≡ get_or old object before →
+    after ≡ record before { state = false } → new ≡ set old object after → HasOneRenewed shapes unit object old new
+renewed_there shapes unit object old new before after inside own at false_now is =
+    let was : before ≡ get_or old object initially = at ∙ get_or_default old object before initially inside in
+    record {
+      long = ap (λ (xs : List Suspension). length xs) is ∙ length-set old object after;
+      one = ap (λ xs. get_or xs object initially) is ∙ get_or-set_at old object object after initially refl inside ∙ false_now
+          ∙ ap (λ (s : Suspension). record s { state = false }) was
+          ∙ sym (ap (λ b. if b then record (get_or old object initially) { state = false } else get_or old object initially) own);
+      others = λ other not. ap (λ xs. get_or xs other initially) is ∙ get_or-set_other old object other after initially not;
+    }
+
+pub renewed_not : (shapes : List Shape) (unit object : ℕ) (items : List Suspension) → is_unit unit (object_unit shapes object) ≡ false → HasOneRenewed shapes unit object items items
+renewed_not shapes unit object items other = record {
+  long = refl;
+  one = sym (ap (λ b. if b then record (get_or items object initially) { state = false } else get_or items object initially) other);
+  others = λ o not. refl;
+}
 
 pub one_renewed : (shapes : List Shape) (unit i : ℕ) (old new last : List Suspension) → HasOneRenewed shapes unit i new last → AreRenewedTo shapes unit i old new → AreRenewedTo shapes unit (i + 1) old last
 one_renewed shapes unit i old new last one k = record {

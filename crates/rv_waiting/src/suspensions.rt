@@ -103,6 +103,7 @@ fn is_of(catalogue: &Catalogue, object: usize, unit: usize) -> bool
 }
 
 // An object is False, if it is of a unit.
+#[tactic(auto, using(crate::proofs::Suspending::renewed_there, crate::proofs::Suspending::renewed_not))]
 fn renew_one(items: &mut Vec<SuspensionObject>, catalogue: &Catalogue, unit: usize, object: usize)
     requires { object < length items.old.items }
     ensures { HasOneRenewed catalogue.now unit object items.old.items items.new.items }
