@@ -67,6 +67,16 @@ pub renewed_long : (shapes : List Shape) (unit : Option ℕ) (ss : List Stance) 
 renewed_long shapes None ss = refl
 renewed_long shapes (Some unit) ss = from_long shapes unit 0 ss
 
+-- what all owe once a unit was restarted, with one actor more
+pub dues_more : (shapes : List Shape) (unit : ℕ) (ss : List Stance) (n owe due : ℕ) (before now : Stance) → owe ≡ dues_by (renewed shapes (Some unit) ss) n → before ≡ get_or ss n Free →
+    now ≡ renewed_at shapes (Some unit) n before → due ≡ due_at n now → owe + due ≡ dues_by (renewed shapes (Some unit) ss) (n + 1)
+dues_more shapes unit ss n owe due before now so_far was is value =
+    let after : List Stance = renewed shapes (Some unit) ss in
+    let one : due ≡ due_by after n = value ∙ ap (due_at n) (is ∙ ap (renewed_at shapes (Some unit) n) was ∙ sym (renewed_first shapes (Some unit) ss n)) in
+    let sum : owe + due ≡ due_by after n + dues_by after n = omega (arith, so_far, one) in
+    let next : suc n ≡ n + 1 = omega arith in
+    sum ∙ ap (dues_by after) next
+
 -- an entry that restarts no unit, and one that does
 pub noted_plain : (shapes : List Shape) (a : ℕ) (r : Request) (w : Recorded) (ss : List Stance) → None ≡ restarts (Asked a r w) →
     settled (next_of (Asked a r w)) (set ss a (stance_of (Asked a r w))) ≡ noted shapes (Asked a r w) ss

@@ -259,7 +259,7 @@ impl Stances {
     }
 
     // What all would owe if one waited for nothing, and then a unit were restarted (own).
-    #[tactic(auto, using(crate::proofs::Noting::renewed_first))]
+    #[tactic(auto, using(crate::proofs::Noting::dues_more))]
     fn dues_restarted(&self, catalogue: &Catalogue, actor: usize, unit: usize) -> usize
         ensures { result ≡ dues_by
             (renewed catalogue.now (Some unit) (slice_set self.now.stances actor Stance.Free)) self.now.actors }
