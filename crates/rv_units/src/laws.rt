@@ -33,7 +33,6 @@ pub fn unit_numbers_stay()
 {}
 
 /// Where shapes are distinct, each unit, task, object and operation is found by its name.
-#[tactic(auto, using(crate::proofs::ByName::distinct_all_found))]
 pub fn distinct_units_are_found()
     ensures { (shapes : List Shape) → AreDistinct shapes → AreAllFound shapes }
 {}
