@@ -95,17 +95,24 @@ fn renewed_at(catalogue: &Catalogue, unit: usize, actor: usize, before: Stance) 
     }
 }
 
-// What each is at once a unit was restarted, if one was (own).
+// What each is at once a unit was restarted (own).
 #[tactic(auto, using(crate::proofs::Anew::none_renewed, crate::proofs::Anew::one_renewed, crate::proofs::Anew::all_renewed))]
+fn renew_tasks(stances: &mut Vec<Stance>, catalogue: &Catalogue, unit: usize)
+    ensures { stances.new.items ≡ renewed catalogue.now (Some unit) stances.old.items }
+{
+    for actor in 0..stances.len() {
+        stances[actor] = renewed_at(catalogue, unit, actor, stances[actor]);
+    }
+}
+
+// The same, if one was.
 fn renew(stances: &mut Vec<Stance>, catalogue: &Catalogue, unit: Option<usize>)
     ensures { stances.new.items ≡ renewed catalogue.now unit stances.old.items }
 {
     let Some(unit) = unit else {
         return;
     };
-    for actor in 0..stances.len() {
-        stances[actor] = renewed_at(catalogue, unit, actor, stances[actor]);
-    }
+    renew_tasks(stances, catalogue, unit);
 }
 
 // What an entry does to a queue.
