@@ -189,6 +189,8 @@ def misuses(asked: Asked) -> None:
     is_told("'--lasting' needs '--journal <FILE>'", "run", "--lasting")
     is_told("'--lasting' goes without '--halt-below <N>'", "run", "--lasting", "--journal", "kept", "--halt-below", "9")
     is_told("'--lasting' goes without '--quota <N>'", "run", "--journal", "kept", "--quota", "9", "--lasting")
+    is_told("'--lasting' needs '--explain'", "audit", "--lasting")
+    is_told("'--lasting' goes without '--quota <N>'", "audit", "--explain", "--quota", "9", "--lasting")
     is_told("'--operator-room <K>' needs '--quota <N>'", "run", "--operator-room", "9")
     is_told("'--quota <N>' needs '--explain'", "audit", "--quota", "9")
     is_told("'--quota <N>' needs '--explain'", "audit", "--journal", "nowhere", "--quota", "9")

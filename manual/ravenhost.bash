@@ -16,7 +16,7 @@ _ravenhost_flags() {
         play) echo "--all --explain --no-explain --notes --warnings-are-errors --color -h --help" ;;
         check) echo "--explain --no-explain --script --notes --warnings-are-errors --color -h --help" ;;
         run) echo "--journal --sync --explain --no-explain --halt-below --quota --operator-room --tick --stop-by --console --end-status --sections-end --grace --lasting --actor --rotate --keep-units --times --notes --warnings-are-errors --color -h --help" ;;
-        audit) echo "--journal --torn --quota --explain --notes --color -h --help" ;;
+        audit) echo "--journal --torn --quota --lasting --explain --notes --color -h --help" ;;
         manual) echo "-h --help" ;;
     esac
 }

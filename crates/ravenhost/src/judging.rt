@@ -24,18 +24,33 @@ pub struct AuditedFile<'a> {
     pub explains: bool,
     /// How many entries each unit of the run could spend, where that was bounded.
     pub allowance: Option<u32>,
+    /// Whether the run lasted.
+    pub lasting: bool,
     /// Whether somebody waits at a terminal.
     pub is_watched: bool,
 }
 
-/// Stops where it is said how many entries each unit could spend, and no end is explained, by which alone that is asked.
-pub fn unless_idle<R: Eprint>(rt: &R, explains: bool, allowance: Option<u32>) -> Result<(), Stop> {
-    if explains || allowance.is_none() {
-        return Ok(());
+// What is wrong with the flags of an audit that are a run's: they are for ends alone, and no run has both.
+fn unfit_words(explains: bool, allowance: Option<u32>, lasting: bool) -> Option<&'static str> {
+    match (explains, allowance, lasting) {
+        (false, Some(_), _) => Some("'--quota <N>' needs '--explain'"),
+        (false, None, true) => Some("'--lasting' needs '--explain'"),
+        (true, Some(_), true) => Some("'--lasting' goes without '--quota <N>'"),
+        _ => None,
     }
-    let _ = eprintln!(rt;
-        "error: '--quota <N>' needs '--explain'\n\nFor more information, try '--help'."
-    );
+}
+
+/// Stops where the flags of an audit don't go together: what is said of the run is asked only where ends are explained.
+pub fn unless_idle<R: Eprint>(
+    rt: &R,
+    explains: bool,
+    allowance: Option<u32>,
+    lasting: bool,
+) -> Result<(), Stop> {
+    let Some(unfit) = unfit_words(explains, allowance, lasting) else {
+        return Ok(());
+    };
+    let _ = eprintln!(rt; "error: {unfit}\n\nFor more information, try '--help'.");
     Err(Stop::Usage)
 }
 
@@ -80,12 +95,13 @@ fn judged_section<W: Write>(
     alloc: Global,
     explains: bool,
     allowance: Option<u32>,
+    lasting: bool,
     script: &[u8],
     writer: &mut W,
 ) -> Result<(bool, bool), Failure> {
     let mut bytes = script;
     if explains {
-        let told = audit_explained(alloc, allowance, &mut bytes, writer)?;
+        let told = audit_explained(alloc, allowance, lasting, &mut bytes, writer)?;
         return Ok((told.is_legal && told.is_explained, told.is_legal));
     }
     let is_legal = audit(alloc, &mut bytes, writer)?;
@@ -99,11 +115,19 @@ pub fn judge<R: Eprint, I: Read, W: Write>(
     telling: Telling,
     explains: bool,
     allowance: Option<u32>,
+    lasting: bool,
     reader: &mut I,
     writer: &mut W,
 ) -> Result<(), Stop> {
     let script = script_in(alloc, reader)?;
-    match judged_section(alloc, explains, allowance, script.as_slice(), writer) {
+    match judged_section(
+        alloc,
+        explains,
+        allowance,
+        lasting,
+        script.as_slice(),
+        writer,
+    ) {
         Ok((is_right, is_legal)) => {
             let noting = noting_of(telling);
             if !is_legal {
@@ -150,6 +174,7 @@ fn judged<R: Clock + Eprint, J: Read, W: Write>(
         let told = audit_file_explained(
             alloc,
             file.allowance,
+            file.lasting,
             &mut bytes,
             journal,
             file.takes_torn,

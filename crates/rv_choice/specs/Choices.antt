@@ -2,7 +2,7 @@
 -- given `--journal FILE` and, with it, `--sync HOW`, `--halt-below N`, `--quota N`, `--tick MS`, `--stop-by PIPE`, `--console`,
 -- `--end-status`, `--sections-end`, `--lasting`, with `--journal` `--rotate MIB`, `--keep-units FILE` and `--times FILE`, and, once or more,
 -- `--actor TASK=IN,OUT`, all three with `--no-explain` and `--warnings-are-errors`; and `audit`, which may be given `--journal FILE`, once or
--- more, and, with it, `--torn`. Each may be given `--explain`, `--notes WHEN`, `--color WHEN` and the FILE of
+-- more, and, with it, `--torn`, and `--quota N` and `--lasting`. Each may be given `--explain`, `--notes WHEN`, `--color WHEN` and the FILE of
 -- its script.
 -- Beside them `manual`, which may be given the name of one of them. What words come to is what `clap` says of this command.
 use Rattle.std.specs.Prelude.{◌≡◌, ℕ, Bool, true, false, ◌&&◌, nat_le, nat_lt, if◌then◌else◌, List, [], ◌∷◌, Option, Some, None, is_some, codes, option_map, Result, Ok, Err}
@@ -124,9 +124,12 @@ filing = with_rule (with_rule (with_rule acting (value_rule (codes "rotate"))) (
 abbrev pub running : App
 running = with_file (with_color (with_notes filing))
 
--- `audit`, which may be given the names of files and a flag that goes with them, and how many entries each unit could spend
+-- `audit`, which may be given the names of files and a flag that goes with them, how many entries each unit could spend, and whether the
+-- run lasted
 abbrev pub judging : App
-judging = with_rule (with_rule (with_rule (new_app (codes "audit")) (many_rule (codes "journal"))) (flag_rule (codes "torn"))) (value_rule (codes "quota"))
+judging =
+    with_rule (with_rule (with_rule (with_rule (new_app (codes "audit")) (many_rule (codes "journal"))) (flag_rule (codes "torn"))) (value_rule (codes "quota")))
+    (flag_rule (codes "lasting"))
 
 abbrev pub audited : App
 audited = with_file (with_color (with_rule (with_rule judging explain_rule) notes_rule))
@@ -318,11 +321,12 @@ IsRun rows run =
 abbrev pub no_run : RunWords
 no_run = record { kept = None; tick = None; halt_below = None; quota = None; operator_room = None; stop = None; console = false; tells_end = false; wants_run = false; grace = None; lasting = false }
 
--- nothing of that but how many entries each unit could spend, by what `audit` is given
+-- nothing of that but how many entries each unit could spend, and whether the run lasted, by what `audit` is given
 abbrev pub IsAllowing : List Row → RunWords → Type 0
 IsAllowing rows run =
     (quota : Option ℕ) × (number_of most_entries (first_of (codes "quota") rows) ≡ Some quota)
-    × (run ≡ record no_run { quota = quota })
+    × (lasting : Bool) × IsFlag (one_of (codes "lasting") rows) lasting
+    × (run ≡ record no_run { quota = quota; lasting = lasting })
 
 -- the same, for `run` and `audit` alone
 abbrev pub IsRunning : Text × List Row → Choice → RunWords → Type 0

@@ -9,7 +9,7 @@ ghost use Rattle.rv_choice.specs.Choices.{Chooses, Explains, IsAuditWrong, IsSel
 
 use crate::command::command;
 use crate::misuse::Misuse;
-use crate::run_words::{quota_of, run_words, with_quota};
+use crate::run_words::{has_flag, quota_of, run_words, with_quota};
 use crate::selection::{Choice, NO_RUN, RunWords, Selection, When};
 use crate::words::{audit_of, faults_of, script_of, shown_of, subject_of};
 use clap::error::ErrorKind;
@@ -115,7 +115,7 @@ fn audit_chosen<'a>(words: &ArgMatches<'a>) -> Result<Selection<'a>, Misuse<'a>>
         journal,
         faults: notes,
         ends: words.get_flag("explain"),
-        run: with_quota(quota),
+        run: with_quota(quota, has_flag(words, "lasting")),
         file: script_of(words),
         subject: None,
     })

@@ -98,8 +98,8 @@ fn stop_of<'a>(words: &ArgMatches<'a>) -> Option<&'a str>
     words.get_str("stop-by")
 }
 
-// Whether a run was given a flag.
-fn has_flag(words: &ArgMatches<'_>, name: &str) -> bool
+/// Whether a subcommand was given a flag.
+pub fn has_flag(words: &ArgMatches<'_>, name: &str) -> bool
     ensures { IsFlag (one_of name.now (rows_of (found_of words.now))) result }
 {
     words.get_flag(name)
@@ -113,9 +113,9 @@ pub fn quota_of<'a>(words: &ArgMatches<'a>) -> Result<Option<u32>, Misuse<'a>>
     given_number(words, Flag::Quota, "quota", MOST_ENTRIES)
 }
 
-/// Nothing beside commands but how many entries each unit may spend.
-pub fn with_quota(quota: Option<u32>) -> RunWords<'static>
-    ensures { words_of result ≡ record no_run { quota = quota } }
+/// Nothing beside commands but how many entries each unit could spend, and whether the run lasted.
+pub fn with_quota(quota: Option<u32>, lasting: bool) -> RunWords<'static>
+    ensures { words_of result ≡ record no_run { quota = quota; lasting = lasting } }
 {
     RunWords {
         kept: None,
@@ -128,7 +128,7 @@ pub fn with_quota(quota: Option<u32>) -> RunWords<'static>
         tells_end: false,
         wants_run: false,
         grace: None,
-        lasting: false,
+        lasting,
     }
 }
 

@@ -52,7 +52,8 @@ pub fn check_subcommand<'a>(alloc: Global) -> Result<Command<'a>, AllocError>
     with_file(alloc, command, SCRIPT_HELP)
 }
 
-// The subcommand `audit`, which may be given files and a flag that goes with them, and how many entries each unit could spend.
+// The subcommand `audit`, which may be given files and a flag that goes with them, how many entries each unit could spend, and whether
+// the run lasted.
 fn judging_subcommand<'a>(alloc: Global) -> Result<Command<'a>, AllocError>
     ensures app { IfOk result (λ c. app_of c ≡ judging) }
     ensures local { IfOk result (λ c. (fields_of c).has_globals ≡ false) }
@@ -72,13 +73,19 @@ fn judging_subcommand<'a>(alloc: Global) -> Result<Command<'a>, AllocError>
         "torn",
         "With --journal: take a last line without its line feed as cut off by a crash",
     );
-    with_value(
+    let command = with_value(
         alloc,
         command.arg(torn)?,
         "quota",
         "N",
         "With --explain: each unit of the run could spend N entries, as run --quota N has it",
-    )
+    )?;
+    let lasting = flag(
+        alloc,
+        "lasting",
+        "With --explain: the run lasted, as run --lasting has it, so that no end is stopped for want of room",
+    );
+    command.arg(lasting)
 }
 
 /// The same, which may be told to explain ends, and when to tell notes.

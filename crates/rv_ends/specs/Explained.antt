@@ -124,15 +124,20 @@ pub record IsFront (front h : History) (later : List Entry) : Type 0 where
   pub lists : (more : List (List Words)) × (h.lists ≡ front.lists ++ more)
   pub legal : Legal front
 
--- An ask of an actor is due Halted, Full or Misuse on a history since the actor's last entry, its ends by stopped and the settles
--- behind them aside; the actor had nothing to settle there, as who asks by a text has.
-pub record IsStopped (h : History) (actor : ℕ) (other : Request) : Type 0 where
+-- whether an answer stops who asked: Halted, Full or Misuse; in a run that lasts Full doesn't, since there it is asked again
+abbrev pub stops_in : (lasting : Bool) → Answer → Bool
+stops_in lasting Full = not lasting
+stops_in lasting answer = stops_bodies answer
+
+-- An ask of an actor is due such an answer on a history since the actor's last entry, its ends by stopped and the settles behind them
+-- aside; the actor had nothing to settle there, as who asks by a text has.
+pub record IsStopped (lasting : Bool) (h : History) (actor : ℕ) (other : Request) : Type 0 where
   pub front : History
   pub later : List Entry
   pub is_front : IsFront front h later
   pub since : AllLeaveOpen actor later
   pub settled : is_settling (mode front.shapes actor front.past) ≡ false
-  pub stops : stops_bodies (out front actor other) ≡ true
+  pub stops : stops_in lasting (out front actor other) ≡ true
 
 -- What explains an end
 
@@ -162,10 +167,10 @@ ByRecorded bodies shapes body request =
     (is_stopped_end request ≡ false) × (trace : Trace) × Follows shapes body.start.held body.asked trace × Ends bodies body.start trace request
 
 -- so it does with one ask that has no entry, which stopped it
-abbrev pub ByStop : UnitBodies → History → ℕ → Open → Request → Type 0
-ByStop bodies h actor body request =
+abbrev pub ByStop : (lasting : Bool) → UnitBodies → History → ℕ → Open → Request → Type 0
+ByStop lasting bodies h actor body request =
     (trace : Trace) × (other : Request) × FollowsToStop h.shapes body.start.held body.asked other trace
-    × Ends bodies body.start trace request × IsStopped h actor other
+    × Ends bodies body.start trace request × IsStopped lasting h actor other
 
 -- What else a text means
 
@@ -205,17 +210,17 @@ FitsStop bodies shapes body request asks end =
     × (end ≡ end_of_body (operation_of bodies body.start.object body.start.operation) asks.end)
 
 -- an ask would stop its actor right behind a history: one that there is, and that has nothing to settle
-abbrev pub StopsHere : History → ℕ → Request → Type 0
-StopsHere h actor ask =
+abbrev pub StopsHere : (lasting : Bool) → History → ℕ → Request → Type 0
+StopsHere lasting h actor ask =
     (nat_lt actor (actors h.shapes) ≡ true) × (is_settling (mode h.shapes actor h.past) ≡ false)
-    × (stops_bodies (out h actor ask) ≡ true)
+    × (stops_in lasting (out h actor ask) ≡ true)
 
--- This end of an actor's innermost body, behind this history, is what its text among these bodies means; and it has one, as those
--- have that it called.
-pub record IsExplained (bodies : UnitBodies) (h : History) (actor : ℕ) (request : Request) : Type 0 where
+-- This end of an actor's innermost body, behind this history, is what its text among these bodies means, in a run that lasts or in
+-- another; and it has one, as those have that it called.
+pub record IsExplained (lasting : Bool) (bodies : UnitBodies) (h : History) (actor : ℕ) (request : Request) : Type 0 where
   pub afoot : Afoot
   pub are : AreAfoot h afoot
   pub body : Open
   pub innermost_is : innermost actor afoot.bodies ≡ Some body
   pub has_text : HasNoText bodies body → ⊥
-  pub explained : ByRecorded bodies h.shapes body request ⊎ ByStop bodies h actor body request
+  pub explained : ByRecorded bodies h.shapes body request ⊎ ByStop lasting bodies h actor body request

@@ -1,5 +1,5 @@
 -- How a tally follows a history, entry by entry (own).
-use Rattle.std.specs.Prelude.{◌≡◌, ◌+◌, ◌-◌, ◌^◌, min, ℕ, suc, true, List, [], ◌∷◌, length, string_bytes, Option, None, Some, is_some}
+use Rattle.std.specs.Prelude.{◌≡◌, ◌+◌, ◌-◌, ◌^◌, min, ℕ, suc, Bool, true, List, [], ◌∷◌, length, string_bytes, Option, None, Some, is_some}
 use Rattle.rv_access.specs.Words.{Words}
 use Rattle.rv_code.specs.Bodies.{UnitBodies}
 use Rattle.rv_event.specs.declared.entry.Answer.{Answer}
@@ -46,25 +46,25 @@ words_of tally = string_bytes tally.words
 -- Behind an entry
 
 -- each end of a history, whose loads were these, was explained, or has no text, and they are counted
-pub record GoesOn (tally : Tally) (h : History) (loads : List Loaded) : Type 0 where
-  pub whole : IsWhole tally.ends h
+pub record GoesOn (lasting : Bool) (tally : Tally) (h : History) (loads : List Loaded) : Type 0 where
+  pub whole : IsWhole lasting tally.ends h
   pub none : tally.found.other ≡ None
   pub unsaid : words_of tally ≡ []
   pub texts : texts_of tally.ends ≡ texts_by loads
-  pub counts : Counts h loads tally.found.explained tally.found.without_text
+  pub counts : Counts lasting h loads tally.found.explained tally.found.without_text
 
 -- the first end whose text means another is found, behind these loads, and the words tell what its text means
-pub record HasFound (tally : Tally) (h : History) (loads : List Loaded) (other : ℕ × Meaning) : Type 0 where
+pub record HasFound (lasting : Bool) (tally : Tally) (h : History) (loads : List Loaded) (other : ℕ × Meaning) : Type 0 where
   pub shapes : List Shape
-  pub first : IsFirstOther h loads shapes other.0 other.1
+  pub first : IsFirstOther lasting h loads shapes other.0 other.1
   pub words : words_of tally ≡ meant_text shapes other.1
 
-abbrev pub FollowsBy : Tally → History → List Loaded → Option (ℕ × Meaning) → Type 0
-FollowsBy tally h loads None = GoesOn tally h loads
-FollowsBy tally h loads (Some other) = HasFound tally h loads other
+abbrev pub FollowsBy : (lasting : Bool) → Tally → History → List Loaded → Option (ℕ × Meaning) → Type 0
+FollowsBy lasting tally h loads None = GoesOn lasting tally h loads
+FollowsBy lasting tally h loads (Some other) = HasFound lasting tally h loads other
 
-abbrev pub Follows : Tally → History → List Loaded → Type 0
-Follows tally h loads = FollowsBy tally h loads tally.found.other
+abbrev pub Follows : (lasting : Bool) → Tally → History → List Loaded → Type 0
+Follows lasting tally h loads = FollowsBy lasting tally h loads tally.found.other
 
 -- Before an entry and behind it
 
@@ -73,40 +73,40 @@ abbrev pub asked : History → ℕ → Request → Recorded → History
 asked h actor request word = record h { past = Asked actor request word ∷ h.past }
 
 -- a history goes on with this request, which is counted already where it ends a body
-pub record GoesOnWith (tally : Tally) (h : History) (loads : List Loaded) (actor : ℕ) (request : Request) : Type 0 where
-  pub whole : IsWhole tally.ends h
+pub record GoesOnWith (lasting : Bool) (tally : Tally) (h : History) (loads : List Loaded) (actor : ℕ) (request : Request) : Type 0 where
+  pub whole : IsWhole lasting tally.ends h
   pub none : tally.found.other ≡ None
   pub unsaid : words_of tally ≡ []
   pub texts : texts_of tally.ends ≡ texts_by loads
-  pub counts : (word : Recorded) → Counts (asked h actor request word) loads tally.found.explained tally.found.without_text
+  pub counts : (word : Recorded) → Counts lasting (asked h actor request word) loads tally.found.explained tally.found.without_text
 
-abbrev pub AwaitsBy : Tally → History → List Loaded → ℕ → Request → Option (ℕ × Meaning) → Type 0
-AwaitsBy tally h loads actor request None = GoesOnWith tally h loads actor request
-AwaitsBy tally h loads actor request (Some other) = (word : Recorded) → HasFound tally (asked h actor request word) loads other
+abbrev pub AwaitsBy : (lasting : Bool) → Tally → History → List Loaded → ℕ → Request → Option (ℕ × Meaning) → Type 0
+AwaitsBy lasting tally h loads actor request None = GoesOnWith lasting tally h loads actor request
+AwaitsBy lasting tally h loads actor request (Some other) = (word : Recorded) → HasFound lasting tally (asked h actor request word) loads other
 
 -- what holds of a history where this request is its next entry, and was noted before it is carried out
-abbrev pub Awaits : Tally → History → List Loaded → ℕ → Request → Type 0
-Awaits tally h loads actor request = AwaitsBy tally h loads actor request tally.found.other
+abbrev pub Awaits : (lasting : Bool) → Tally → History → List Loaded → ℕ → Request → Type 0
+Awaits lasting tally h loads actor request = AwaitsBy lasting tally h loads actor request tally.found.other
 
 -- the end of a body is noted by what its text means, before it is carried out
-pub record IsNoted (old new : Tally) (h : History) (number actor : ℕ) (end : Request) : Type 0 where
+pub record IsNoted (lasting : Bool) (old new : Tally) (h : History) (number actor : ℕ) (end : Request) : Type 0 where
   pub meaning : Meaning
-  pub means : IsMeaning (texts_of old.ends) h (afoot_of old.ends) actor end meaning
+  pub means : IsMeaning lasting (texts_of old.ends) h (afoot_of old.ends) actor end meaning
   pub found : new.found ≡ noted old.found number meaning
   pub words : words_of new ≡ meant_text h.shapes meaning
-  pub whole : IsWhole new.ends h
+  pub whole : IsWhole lasting new.ends h
   pub texts : texts_of new.ends ≡ texts_of old.ends
 
 -- a request is noted behind a history, as the entry of this number
-abbrev pub NotesEnd : Tally → Tally → History → ℕ → ℕ → Request → Type 0
-NotesEnd old new h number actor request =
-    (loads : List Loaded) → Follows old h loads → number ≡ suc (length h.past) → Awaits new h loads actor request
+abbrev pub NotesEnd : (lasting : Bool) → Tally → Tally → History → ℕ → ℕ → Request → Type 0
+NotesEnd lasting old new h number actor request =
+    (loads : List Loaded) → Follows lasting old h loads → number ≡ suc (length h.past) → Awaits lasting new h loads actor request
 
 -- it is taken, where its answer was due and is recorded
 abbrev pub TakesEntry : Tally → Tally → History → ℕ → Request → Answer → Type 0
 TakesEntry old new k actor request answer =
-    (h : History) (loads : List Loaded) (word : Recorded) → Awaits old h loads actor request → answer ≡ out h actor request
-    → recorded answer ≡ Some word → k ≡ after h actor request answer → Follows new k loads
+    (lasting : Bool) (h : History) (loads : List Loaded) (word : Recorded) → Awaits lasting old h loads actor request → answer ≡ out h actor request
+    → recorded answer ≡ Some word → k ≡ after h actor request answer → Follows lasting new k loads
 
 -- Loads and lists
 
@@ -118,12 +118,12 @@ loads_behind (Some other) unit loads = loads
 -- a load of a unit is taken with the unit's bodies, where it is recorded
 abbrev pub TakesLoad : Tally → Tally → UnitBodies → Type 0
 TakesLoad old new bodies =
-    (h k : History) (loads : List Loaded) (shape : Shape) → Follows old h loads → is_some (recorded (out_load h shape)) ≡ true
+    (lasting : Bool) (h k : History) (loads : List Loaded) (shape : Shape) → Follows lasting old h loads → is_some (recorded (out_load h shape)) ≡ true
     → k ≡ after_load h shape (out_load h shape)
-    → Follows new k (loads_behind old.found.other (record { behind = h.shapes; shape = shape; bodies = bodies }) loads)
+    → Follows lasting new k (loads_behind old.found.other (record { behind = h.shapes; shape = shape; bodies = bodies }) loads)
 
 -- a list changes nothing of what is found, however it was answered
 abbrev pub TakesList : Tally → Type 0
 TakesList tally =
-    (h : History) (loads : List Loaded) (list : List Words) (answer : Answer) → Follows tally h loads
-    → Follows tally (after_list h (Some list) answer) loads
+    (lasting : Bool) (h : History) (loads : List Loaded) (list : List Words) (answer : Answer) → Follows lasting tally h loads
+    → Follows lasting tally (after_list h (Some list) answer) loads

@@ -1,11 +1,10 @@
 //! The ends of bodies, entry by entry of a journal. The host that carries the journal out is lent: before an entry that ends a
 //! body, to say what the body's text means there, and behind each entry, to keep what is afoot.
 
-ghost use Rattle.std.specs.Prelude.{◌≡◌, ◌∷◌, ◌++◌, [], ℕ, false, true, List, Some, IfOk, OnOk, nat_lt};
+ghost use Rattle.std.specs.Prelude.{◌≡◌, ◌∷◌, ◌++◌, [], ℕ, Bool, false, true, List, Some, IfOk, OnOk, nat_lt};
 ghost use Rattle.rv_access.specs.Words.{Words};
 ghost use Rattle.rv_code.specs.BodyView.{unit_view};
 ghost use Rattle.rv_exec.specs.Bodies.{no_bodies, with_unit};
-ghost use Rattle.rv_exec.specs.Stops.{stops_bodies};
 ghost use Rattle.rv_event.specs.Past.{mode};
 ghost use Rattle.rv_event.specs.Modes.{is_settling};
 ghost use Rattle.rv_history.specs.Legal.{after_list, empty};
@@ -14,7 +13,7 @@ ghost use Rattle.rv_history.specs.History.{History};
 ghost use Rattle.rv_history.specs.declared.limits.Limits.{Limits};
 ghost use Rattle.rv_ends.specs.Afoot.{answered};
 ghost use Rattle.rv_ends.specs.Ends.{IsAmong, IsFoundStop, IsMeaning, IsWhole, TakesAnswered, TakesTexts, afoot_of, left_stops, of_others, texts_of};
-ghost use Rattle.rv_ends.specs.Explained.{IsStopped, StopsHere, unwinds};
+ghost use Rattle.rv_ends.specs.Explained.{IsStopped, StopsHere, stops_in, unwinds};
 ghost use Rattle.rv_ends.specs.Texts.{AreTabled};
 
 use crate::afoot::{OpenBody, QueuedCall};
@@ -56,12 +55,13 @@ pub struct Ends {
     stops: Vec<Stop>,
 }
 
-// Whether behind such an answer nothing goes on.
-fn stops_bodies(answer: &Answer) -> bool
-    ensures { result ≡ stops_bodies answer.now }
+// Whether an answer stops who asked. In a run that lasts Full doesn't: there it is asked again.
+fn stops_in(lasting: bool, answer: &Answer) -> bool
+    ensures { result ≡ stops_in lasting answer.now }
 {
     match answer {
-        Answer::Halted | Answer::Full | Answer::Misuse => true,
+        Answer::Full => !lasting,
+        Answer::Halted | Answer::Misuse => true,
         _ => false,
     }
 }
@@ -91,15 +91,15 @@ fn has_settled(host: &Host, actor: usize) -> bool
 
 // Whether an ask, were it asked now, would stop its actor: the host says what would be due, and carries nothing out.
 #[tactic(auto, using(crate::proofs::Whole::stopped_here))]
-fn would_stop(host: &Host, actor: usize, ask: &Request) -> bool
-    ensures stops { result ≡ true → IsStopped host.now actor ask.now }
-    ensures other { result ≡ false → StopsHere host.now actor ask.now → ⊥ }
+fn would_stop(lasting: bool, host: &Host, actor: usize, ask: &Request) -> bool
+    ensures stops { result ≡ true → IsStopped lasting host.now actor ask.now }
+    ensures other { result ≡ false → StopsHere lasting host.now actor ask.now → ⊥ }
 {
     host.replays();
     if !has_settled(host, actor) {
         return false;
     }
-    stops_bodies(&host.due(actor, ask))
+    stops_in(lasting, &host.due(actor, ask))
 }
 
 // Whether this ask is among those that stopped the actor.
@@ -121,7 +121,7 @@ impl Ends {
     /// Before the first entry of a journal.
     #[tactic(auto, using(crate::proofs::Whole::whole_new))]
     pub fn new(alloc: Global) -> Ends
-        ensures whole { (limits : Limits) → IsWhole result (empty limits) }
+        ensures whole { (lasting : Bool) (limits : Limits) → IsWhole lasting result (empty limits) }
         ensures texts { texts_of result ≡ no_bodies }
     {
         Ends {
@@ -152,8 +152,8 @@ impl Ends {
 
     /// Does nothing. Its clause says that a list, however it was answered, changes nothing of what is kept.
     pub fn set_list(&self)
-        ensures { (h : History) (list : List Words) (answer : Answer) → IsWhole self.now h →
-            IsWhole self.now (after_list h (Some list) answer) }
+        ensures { (lasting : Bool) (h : History) (list : List Words) (answer : Answer) → IsWhole lasting self.now h →
+            IsWhole lasting self.now (after_list h (Some list) answer) }
     {
         let _ = &self.stops;
     }
@@ -237,35 +237,42 @@ impl Ends {
 
     // Whether an ask stopped its actor: one that would stop it now is kept.
     #[tactic(auto, using(crate::proofs::Whole::known_stop, crate::proofs::Whole::is_last))]
-    fn is_stopped(&mut self, host: &Host, actor: usize, ask: &Request) -> Result<bool, AllocError>
-        ensures stopped { IsWhole self.old host.now → IfOk result (λ is. is ≡ true → IsStopped host.now actor ask.now) }
+    fn is_stopped(
+        &mut self,
+        lasting: bool,
+        host: &Host,
+        actor: usize,
+        ask: &Request,
+    ) -> Result<bool, AllocError>
+        ensures stopped { IsWhole lasting self.old host.now → IfOk result (λ is. is ≡ true → IsStopped lasting host.now actor ask.now) }
         ensures other { IfOk result (λ is. is ≡ false →
-            (IsAmong self.old.stops.items actor ask.now → ⊥) × (StopsHere host.now actor ask.now → ⊥)) }
+            (IsAmong self.old.stops.items actor ask.now → ⊥) × (StopsHere lasting host.now actor ask.now → ⊥)) }
         ensures kept { IfOk result (λ is. is ≡ true → IsAmong self.new.stops.items actor ask.now) }
-        ensures whole { IsWhole self.old host.now → OnOk result (IsWhole self.new host.now) }
+        ensures whole { IsWhole lasting self.old host.now → OnOk result (IsWhole lasting self.new host.now) }
         ensures texts { texts_of self.new ≡ texts_of self.old }
     {
         if self.is_known_stop(actor, ask) {
             return Ok(true);
         }
-        if !would_stop(host, actor, ask) {
+        if !would_stop(lasting, host, actor, ask) {
             return Ok(false);
         }
         self.keep_stop(actor, ask)?;
         Ok(true)
     }
 
-    /// What the text of an actor's innermost body means, where this end of it is to come behind the entries of the host. After
-    /// any other answer than that it is explained, or without a text, the entries to come can't be explained.
+    /// What the text of an actor's innermost body means, where this end of it is to come behind the entries of the host, in a run that
+    /// lasts or in another. After any other answer than that it is explained, or without a text, the entries to come can't be explained.
     #[tactic(auto, using(crate::proofs::Meanings::no_body, crate::proofs::Meanings::without_text, crate::proofs::Meanings::by_found_stop, crate::proofs::Meanings::gives_other, crate::proofs::Whole::same_kept))]
     pub fn meaning(
         &mut self,
+        lasting: bool,
         host: &Host,
         actor: usize,
         end: &Request,
     ) -> Result<Meaning, AllocError>
-        ensures meaning { IsWhole self.old host.now → IfOk result (λ m. IsMeaning (texts_of self.old) host.now (afoot_of self.old) actor end.now m) }
-        ensures whole { IsWhole self.old host.now → OnOk result (IsWhole self.new host.now) }
+        ensures meaning { IsWhole lasting self.old host.now → IfOk result (λ m. IsMeaning lasting (texts_of self.old) host.now (afoot_of self.old) actor end.now m) }
+        ensures whole { IsWhole lasting self.old host.now → OnOk result (IsWhole lasting self.new host.now) }
         ensures texts { texts_of self.new ≡ texts_of self.old }
     {
         let Some(body) = innermost(self.under_way.as_slice(), actor) else {
@@ -277,22 +284,23 @@ impl Ends {
             Course::WithoutText => Ok(Meaning::WithoutText),
             Course::Gives(request) => Ok(Meaning::Gives(request)),
             Course::Asks(request) => Ok(Meaning::Asks(request)),
-            Course::Stops(ask) => self.stopped_by(host, actor, &ask),
+            Course::Stops(ask) => self.stopped_by(lasting, host, actor, &ask),
         }
     }
 
     // What an end by stopped means, where this ask is what stopped its body, if anything did.
     fn stopped_by(
         &mut self,
+        lasting: bool,
         host: &Host,
         actor: usize,
         ask: &Request,
     ) -> Result<Meaning, AllocError>
-        ensures stopped { IsWhole self.old host.now → IfOk result (λ m. IsFoundStop host.now actor ask.now m) }
-        ensures whole { IsWhole self.old host.now → OnOk result (IsWhole self.new host.now) }
+        ensures stopped { IsWhole lasting self.old host.now → IfOk result (λ m. IsFoundStop lasting host.now actor ask.now m) }
+        ensures whole { IsWhole lasting self.old host.now → OnOk result (IsWhole lasting self.new host.now) }
         ensures texts { texts_of self.new ≡ texts_of self.old }
     {
-        if self.is_stopped(host, actor, ask)? {
+        if self.is_stopped(lasting, host, actor, ask)? {
             Ok(Meaning::Explained)
         } else {
             Ok(Meaning::Asks(*ask))

@@ -1,7 +1,7 @@
 //! The ends of bodies in a journal, counted by what their texts mean. Whoever carries the journal out on a host lends it before
 //! each entry and behind it; a tally keeps no host of its own.
 
-ghost use Rattle.std.specs.Prelude.{◌≡◌, [], IfOk, OnOk, is_none, string_bytes};
+ghost use Rattle.std.specs.Prelude.{◌≡◌, [], Bool, IfOk, OnOk, is_none, string_bytes};
 ghost use Rattle.rv_code.specs.BodyView.{unit_view};
 ghost use Rattle.rv_history.specs.Legal.{empty};
 ghost use Rattle.rv_history.specs.declared.limits.Limits.{Limits};
@@ -89,7 +89,7 @@ fn meant_text(alloc: Global, catalogue: &Catalogue, meaning: &Meaning) -> Result
 impl Tally {
     /// Before the first entry of a journal.
     pub fn new(alloc: Global) -> Tally
-        ensures { (limits : Limits) → Follows result (empty limits) [] }
+        ensures { (lasting : Bool) (limits : Limits) → Follows lasting result (empty limits) [] }
     {
         Tally {
             alloc,
@@ -128,12 +128,13 @@ impl Tally {
     // Notes what the text of an end means that is to come.
     fn note(
         &mut self,
+        lasting: bool,
         host: &Host,
         number: usize,
         actor: usize,
         end: &Request,
     ) -> Result<(), AllocError>
-        ensures { OnOk result (IsWhole self.old.ends host.now → IsNoted self.old self.new host.now number actor end.now) }
+        ensures { OnOk result (IsWhole lasting self.old.ends host.now → IsNoted lasting self.old self.new host.now number actor end.now) }
     {
         // The check is told of these types only where they are named.
         let _exit: Option<Exit> = None;
@@ -142,22 +143,23 @@ impl Tally {
         let _rule: Option<Rule> = None;
         let _next: Option<Next> = None;
         let _exception: Option<Exception> = None;
-        let meaning = self.ends.meaning(host, actor, end)?;
+        let meaning = self.ends.meaning(lasting, host, actor, end)?;
         self.words = meant_text(self.alloc, host.catalogue(), &meaning)?;
         self.found = noted(self.found, number, meaning);
         Ok(())
     }
 
-    /// Notes a request, which may end a body, before the host carries it out as the entry of this number. Err where memory was
-    /// refused.
+    /// Notes a request, which may end a body, before the host carries it out as the entry of this number, in a run that lasts or in
+    /// another. Err where memory was refused.
     pub fn before(
         &mut self,
+        lasting: bool,
         host: &Host,
         number: usize,
         actor: usize,
         request: &Request,
     ) -> Result<(), AllocError>
-        ensures { OnOk result (NotesEnd self.old self.new host.now number actor request.now) }
+        ensures { OnOk result (NotesEnd lasting self.old self.new host.now number actor request.now) }
     {
         host.replays();
         if !self.goes_on() {
@@ -166,7 +168,7 @@ impl Tally {
         if !is_end(request) {
             return Ok(());
         }
-        self.note(host, number, actor, request)
+        self.note(lasting, host, number, actor, request)
     }
 
     /// Takes a request that was noted and its answer, where the host recorded it as its last entry. Err where memory was refused.

@@ -18,8 +18,8 @@ pub enum Deed<'a> {
     Audit,
     /// The journal stands in a file of its own.
     AuditFile(&'a [u8]),
-    /// Its ends are explained, where each unit could spend so many entries, if that was bounded.
-    Explain(Option<u32>),
+    /// Its ends are explained, where each unit could spend so many entries, if that was bounded, in a run that lasted or in another.
+    Explain(Option<u32>, bool),
     /// The same of one in a file of its own, where that wasn't bounded.
     ExplainFile(&'a [u8]),
 }
@@ -48,8 +48,8 @@ pub fn carry_out<R: io::Read, W: io::Write>(
             let _audited = audit_file(alloc, reader, &mut journal, false, &mut watch, written)?;
             Ok(())
         }
-        Deed::Explain(allowance) => {
-            let _told = audit_explained(alloc, allowance, reader, written)?;
+        Deed::Explain(allowance, lasting) => {
+            let _told = audit_explained(alloc, allowance, lasting, reader, written)?;
             Ok(())
         }
         Deed::ExplainFile(journal) => {
@@ -58,6 +58,7 @@ pub fn carry_out<R: io::Read, W: io::Write>(
             let _told = audit_file_explained(
                 alloc,
                 None,
+                false,
                 reader,
                 &mut journal,
                 false,

@@ -67,7 +67,7 @@ pub fn has_texts(script: &str) -> bool {
 /// What is said of the journal that a script was played to, and of its ends.
 pub fn ends_said(alloc: Global, script: &str, played: &str) -> io::Result<Vec<u8>> {
     let audited = audit_script(alloc, script, played)?;
-    given(alloc, audited.as_bytes(), Deed::Explain(None), false)
+    given(alloc, audited.as_bytes(), Deed::Explain(None, false), false)
 }
 
 /// Whether the last line that is said is that all ends are explained.

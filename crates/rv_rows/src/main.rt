@@ -13,7 +13,8 @@
 //! `NAME.notes`, where it is there, is what has to be told of the lists of the script.
 //! Where a script is played that has texts of units, and no fault, its journal is judged over its units, and each end of a body has
 //! to be what its text means, or `NAME.ends` is what has to be said. Beside a `NAME.verdict` it is what has to be said of ends
-//! below the verdict; and `NAME.quota` the entries that each unit could spend, where that was bounded.
+//! below the verdict; and `NAME.quota` the entries that each unit could spend, where that was bounded. `NAME.lasting` stands there where
+//! the run lasted.
 //!
 //! Where there is a `NAME.cuts`, the script is also checked cut at every byte: the file has a line `FIRST..LAST -> WORDS`, or
 //! `BYTES -> WORDS`, for as many bytes kept of it, from none to all, which lead to the same words (`bench/model/cuts.py
@@ -89,6 +90,8 @@ struct Wanted {
     is_explained: bool,
     // How many entries each unit could spend, where that was bounded.
     quota: Option<u32>,
+    // Whether the run lasted.
+    lasting: bool,
     is_refused: bool,
     // Whether its fault is explained.
     is_told: bool,
@@ -181,6 +184,7 @@ fn wanted_for(rt: &HostRuntime, name: &str) -> io::Result<Wanted> {
     let is_audited = add_file(rt, name, "verdict", &mut bytes)?;
     let is_explained = is_audited && add_file(rt, name, "ends", &mut bytes)?;
     let quota = quota_beside(rt, name)?;
+    let lasting = bytes_of(rt, name, "lasting")?.is_some();
     let _is_played = add_file(rt, name, "journal", &mut bytes)?;
     let is_refused = add_file(rt, name, "fault", &mut bytes)?;
     let is_told = add_file(rt, name, "explained", &mut bytes)?;
@@ -192,6 +196,7 @@ fn wanted_for(rt: &HostRuntime, name: &str) -> io::Result<Wanted> {
         is_audited,
         is_explained,
         quota,
+        lasting,
         is_refused,
         is_told,
         has_notes,
@@ -201,7 +206,7 @@ fn wanted_for(rt: &HostRuntime, name: &str) -> io::Result<Wanted> {
 // What is done with a script whose journal stands in no file of its own.
 fn deed_beside(wanted: &Wanted) -> Deed<'static> {
     if wanted.is_audited && wanted.is_explained {
-        Deed::Explain(wanted.quota)
+        Deed::Explain(wanted.quota, wanted.lasting)
     } else if wanted.is_audited {
         Deed::Audit
     } else if wanted.is_whole {

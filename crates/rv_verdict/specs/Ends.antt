@@ -16,7 +16,7 @@ use Rattle.rv_fault.specs.declared.failure.Failure.TheVariants.{Refused, Memory,
 use Rattle.rv_ends.specs.Counts.{IsFoundOf, Loaded}
 use Rattle.rv_ends.specs.Tally.{meant_text}
 use Rattle.rv_ends.specs.declared.tally.Found.{Found}
-use Rattle.rv_verdict.specs.Texts.{HaveBodies}
+use Rattle.rv_verdict.specs.Texts.{HaveBodies, Terms}
 
 -- Lines
 
@@ -49,33 +49,33 @@ AreWords shapes words None = Unit {0}
 AreWords shapes words (Some other) = words ≡ meant_text shapes other.1
 
 -- what is found of the ends of a history, whose loads brought these texts of these units
-pub record IsFound (units : List Shape) (texts : List (Option (List ℕ))) (h : History) (shapes : List Shape) (found : Found) : Type 0 where
+pub record IsFound (units : List Shape) (terms : Terms) (h : History) (shapes : List Shape) (found : Found) : Type 0 where
   pub loads : List Loaded
-  pub bodies : HaveBodies units texts loads
-  pub is : IsFoundOf h loads shapes found
+  pub bodies : HaveBodies units terms.texts loads
+  pub is : IsFoundOf terms.lasting h loads shapes found
 
 -- the line of what is found, or a prefix of it
-abbrev pub BreaksOffEnds : List Shape → List (Option (List ℕ)) → History → Known → Known → Type 0
-BreaksOffEnds units texts h old new =
-    (shapes : List Shape) × (found : Found) × IsFound units texts h shapes found × WritesPrefix old new (ends_line shapes found)
+abbrev pub BreaksOffEnds : List Shape → Terms → History → Known → Known → Type 0
+BreaksOffEnds units terms h old new =
+    (shapes : List Shape) × (found : Found) × IsFound units terms h shapes found × WritesPrefix old new (ends_line shapes found)
 
 -- The line of what is found of the ends of a history is written, and whether no end has a text that means another is told. Where
 -- memory or a write failed, nothing is written, or a prefix of it.
-abbrev pub SaysEnds : List Shape → List (Option (List ℕ)) → History → Known → Known → Result Bool Failure → Type 0
-SaysEnds units texts h old new (Ok is_explained) =
-    (shapes : List Shape) × (found : Found) × IsFound units texts h shapes found × Appends old new (ends_line shapes found)
+abbrev pub SaysEnds : List Shape → Terms → History → Known → Known → Result Bool Failure → Type 0
+SaysEnds units terms h old new (Ok is_explained) =
+    (shapes : List Shape) × (found : Found) × IsFound units terms h shapes found × Appends old new (ends_line shapes found)
     × (is_explained ≡ is_none found.other)
-SaysEnds units texts h old new (Err (Refused told)) = ⊥
-SaysEnds units texts h old new (Err Memory) = Appends old new [] ⊎ BreaksOffEnds units texts h old new
-SaysEnds units texts h old new (Err (Io error)) = Appends old new [] ⊎ BreaksOffEnds units texts h old new
+SaysEnds units terms h old new (Err (Refused told)) = ⊥
+SaysEnds units terms h old new (Err Memory) = Appends old new [] ⊎ BreaksOffEnds units terms h old new
+SaysEnds units terms h old new (Err (Io error)) = Appends old new [] ⊎ BreaksOffEnds units terms h old new
 
 -- Behind a verdict
 
 -- so it is of a journal that is legal, of whose history this holds; of another nothing more is said
-abbrev pub SaysBehind : List Shape → List (Option (List ℕ)) → (History → Type 0) → Known → Known → Bool → Result Bool Failure → Type 0
-SaysBehind units texts Of old new true result = (h : History) × Of h × SaysEnds units texts h old new result
-SaysBehind units texts Of old new false (Ok is_explained) = Appends old new [] × (is_explained ≡ false)
-SaysBehind units texts Of old new false (Err failure) = ⊥
+abbrev pub SaysBehind : List Shape → Terms → (History → Type 0) → Known → Known → Bool → Result Bool Failure → Type 0
+SaysBehind units terms Of old new true result = (h : History) × Of h × SaysEnds units terms h old new result
+SaysBehind units terms Of old new false (Ok is_explained) = Appends old new [] × (is_explained ≡ false)
+SaysBehind units terms Of old new false (Err failure) = ⊥
 
 -- this holds of the history whose journal a file holds but for a torn end
 abbrev pub IsFollowed : Known → Bool → Limits → List Shape → ℕ → (History → Type 0) → Type 0

@@ -1,5 +1,5 @@
 -- The texts of the units that a script gives, and the bodies that come of them where a journal loads a unit (own).
-use Rattle.std.specs.Prelude.{◌≡◌, ◌⊎◌, ℕ, true, false, if◌then◌else◌, List, [], ◌∷◌, map, option_map, Option, Some, None, Result, Ok, Err}
+use Rattle.std.specs.Prelude.{◌≡◌, ◌⊎◌, ℕ, Bool, true, false, if◌then◌else◌, List, [], ◌∷◌, map, option_map, Option, Some, None, Result, Ok, Err}
 use Rattle.std.specs.Borrow.{Bor}
 use Rattle.std.specs.Str.{bytes_eq}
 use Rattle.rv_text.specs.Sections.{SectionText}
@@ -36,6 +36,14 @@ texts_opened (Err line) = []
 -- of a script
 abbrev pub texts_in : List ℕ → List (Option (List ℕ))
 texts_in script = texts_opened (opened script)
+
+-- by what ends are explained: the texts of the units, in a run that lasts or in another
+pub record Terms : Type 0 where
+  pub lasting : Bool
+  pub texts : List (Option (List ℕ))
+
+abbrev pub terms : (lasting : Bool) → List (Option (List ℕ)) → Terms
+terms lasting texts = record { lasting = lasting; texts = texts }
 
 -- the text of the first unit of exactly this name; the units of devices, which come last, have none
 abbrev pub text_named : List Shape → List (Option (List ℕ)) → List ℕ → Option (List ℕ)

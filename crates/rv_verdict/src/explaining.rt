@@ -1,6 +1,6 @@
 //! What is found of the ends of bodies in a journal, by an observer of its audit.
 
-ghost use Rattle.std.specs.Prelude.{◌≡◌, [], ℕ, List, Option, IfOk, OnOk, string_bytes};
+ghost use Rattle.std.specs.Prelude.{◌≡◌, [], ℕ, Bool, List, Option, IfOk, OnOk, string_bytes};
 ghost use Rattle.rv_history.specs.History.{History};
 ghost use Rattle.rv_history.specs.Legal.{empty};
 ghost use Rattle.rv_history.specs.declared.limits.Limits.{Limits};
@@ -8,7 +8,7 @@ ghost use Rattle.rv_shape.specs.Shape.{Shape};
 ghost use Rattle.rv_ends.specs.Tally.{Follows};
 ghost use Rattle.rv_verdict.specs.Ends.{AreWords, SaysEnds, counted_line, ends_line, words_line};
 ghost use Rattle.rv_verdict.specs.Explaining.{AwaitsBy, FollowsBy, TakesLoadOf};
-ghost use Rattle.rv_verdict.specs.Texts.{texts_now};
+ghost use Rattle.rv_verdict.specs.Texts.{Terms, terms, texts_now};
 
 use crate::texts::{bodies_of, text_named};
 use rv_audit::observer::Observer;
@@ -28,6 +28,8 @@ use std::io::Write;
 #[derive(Drop)]
 pub struct Explainer<'t> {
     alloc: Global,
+    /// Whether the run lasted: then no end is stopped for want of room.
+    pub lasting: bool,
     /// For each unit, in order, its text or none; units behind those that have a place here have none.
     pub texts: &'t [Option<&'t str>],
     /// The ends so far.
@@ -84,13 +86,15 @@ fn take_load(
 }
 
 impl<'t> Explainer<'t> {
-    /// Before the first line of a journal, by these texts.
-    pub fn new(alloc: Global, texts: &'t [Option<&'t str>]) -> Explainer<'t>
+    /// Before the first line of a journal of a run that lasted or of another, by these texts.
+    pub fn new(alloc: Global, lasting: bool, texts: &'t [Option<&'t str>]) -> Explainer<'t>
+        ensures lasting { result.lasting ≡ lasting }
         ensures texts { result.texts.now ≡ texts.now }
-        ensures follows { (limits : Limits) → Follows result.tally (empty limits) [] }
+        ensures follows { (limits : Limits) → Follows lasting result.tally (empty limits) [] }
     {
         Explainer {
             alloc,
+            lasting,
             texts,
             tally: Tally::new(alloc),
         }
@@ -98,8 +102,8 @@ impl<'t> Explainer<'t> {
 
     /// Says what is found, and gives whether no end has a text that means another.
     pub fn say<W: Write>(&self, writer: &mut W) -> Result<bool, Failure>
-        ensures { (units : List Shape) (texts : List (Option (List ℕ))) (h : History) → FollowsBy units texts self.now.tally h →
-            SaysEnds units texts h (W.contents writer.old) (W.contents writer.new) result }
+        ensures { (units : List Shape) (terms : Terms) (h : History) → FollowsBy units terms self.now.tally h →
+            SaysEnds units terms h (W.contents writer.old) (W.contents writer.new) result }
     {
         let line = line_of(self.alloc, &self.tally.found(), self.tally.words())?;
         put(writer, line.as_str())?;
@@ -108,11 +112,11 @@ impl<'t> Explainer<'t> {
 }
 
 impl<'t> Observer for Explainer<'t> {
-    ghost follows = { λ begun explainer units h. (texts_now explainer.texts.now ≡ texts_now begun.texts.now)
-        × FollowsBy units (texts_now explainer.texts.now) explainer.tally h };
+    ghost follows = { λ begun explainer units h. (terms explainer.lasting (texts_now explainer.texts.now) ≡ terms begun.lasting (texts_now begun.texts.now))
+        × FollowsBy units (terms explainer.lasting (texts_now explainer.texts.now)) explainer.tally h };
 
-    ghost awaits = { λ begun explainer units h told. (texts_now explainer.texts.now ≡ texts_now begun.texts.now)
-        × AwaitsBy units (texts_now explainer.texts.now) explainer.tally h told };
+    ghost awaits = { λ begun explainer units h told. (terms explainer.lasting (texts_now explainer.texts.now) ≡ terms begun.lasting (texts_now begun.texts.now))
+        × AwaitsBy units (terms explainer.lasting (texts_now explainer.texts.now)) explainer.tally h told };
 
     // A unit's bodies are those of its text behind the units that were loaded before it.
     fn before(
@@ -123,7 +127,9 @@ impl<'t> Observer for Explainer<'t> {
         deed: &Deed<'_>,
     ) -> Result<(), AllocError> {
         match *deed {
-            Deed::Asks(actor, request, _) => self.tally.before(host, number, actor, &request),
+            Deed::Asks(actor, request, _) => {
+                self.tally.before(self.lasting, host, number, actor, &request)
+            }
             Deed::Loads(_, name, _) => take_load(
                 self.alloc,
                 &mut self.tally,

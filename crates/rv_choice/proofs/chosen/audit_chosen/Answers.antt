@@ -71,7 +71,8 @@ returns-clause-ok c =
     let explains : IsFlag (one_of (codes "explain") found.1) c.get_flag-2.result =
     (λ e. c.get_flag-2.ensures.value (one_text-rows given (codes "explain") ∙ e), λ e. c.get_flag-2.ensures.other (one_text-rows given (codes "explain") ∙ e)) in
     let is : audit_of (is_some c.get_str-journal.result) torn ≡ Some c.in-Ok.choice = ap (λ (b : Bool). audit_of b torn) (sym c.is_some.ensures) ∙ c.in-Ok.ensures.ok in
-    let allows : IsAllowing found.1 (words_of c.with_quota.result) = (c.in-Ok-quota_of.quota, c.in-Ok-quota_of.ensures.ok, c.with_quota.ensures) in
+    let allows : IsAllowing found.1 (words_of c.with_quota.result) =
+    (c.in-Ok-quota_of.quota, c.in-Ok-quota_of.ensures.ok, c.has_flag.result, c.has_flag.ensures, c.with_quota.ensures) in
     let named = audit_named found c.get_str-journal.result (λ s. s.now) torn c.in-Ok.choice refl is flag
     (sym (c.get_str-journal.ensures ∙ first_value-rows given (codes "journal"))) in (
       named.0,

@@ -8,7 +8,7 @@ use Rattle.rv_ends.proofs.ends.Ends.take.Goals as goal
 pub returns-clause-whole : goal.returns-clause-whole
 returns-clause-whole c =
     on_ok_weaker c.go_on.result
-    (λ stops h word w due is behind.
+    (λ stops lasting h word w due is behind.
     whole_asked c.args.self.now c.go_on.new.self h c.args.host.now c.args.actor c.args.request.now c.args.answer.now word w due is behind
     (c.go_on.ensures.same.0 ∙ c.in_ok-take_afoot.ensures.same.0)
     (c.go_on.ensures.same.1 ∙ c.in_ok-take_afoot.ensures.afoot)

@@ -2,4 +2,4 @@ use Rattle.std.proofs.Common.{refl}
 use Rattle.rv_ends.proofs.tally.Tally.new.Goals as goal
 
 pub returns : goal.returns
-returns c = λ limits. record { whole = c.new.ensures.whole limits; none = refl; unsaid = c.new-2.ensures.bytes; texts = c.new.ensures.texts; counts = (refl, refl, refl) }
+returns c = λ lasting limits. record { whole = c.new.ensures.whole lasting limits; none = refl; unsaid = c.new-2.ensures.bytes; texts = c.new.ensures.texts; counts = (refl, refl, refl) }
