@@ -6,12 +6,13 @@ ghost use Rattle.rv_run.specs.declared.command.Goes.TheVariants.{Out};
 
 use crate::attention::{Attention, Typing};
 use crate::follower::Follower;
-use rv_console::{Word, word_of};
+use crate::lateness::waits_text;
+use rv_console::{Word, cut_text, word_of};
 use rv_fault::Failure;
 use rv_follow::Archive;
 use rv_run::command::{Goes, after};
 use rv_run::leaving::wrote;
-use rv_shell::Order;
+use rv_shell::{LineFault, Next, Order, put_made};
 use rv_staff::{Session, say};
 use rv_step::reading::StepError;
 use std::io;
@@ -66,6 +67,29 @@ fn first_kept(asked: &Attention, archive: &Archive) -> usize {
     }
 }
 
+// Writes what the tasks wait for, behind a status that was shown.
+fn put_waits<T, W: Write, F>(session: &Session, follower: &Follower<'_, T, F>, writer: &mut W) -> Result<Next, LineFault> {
+    let alloc = follower.alloc;
+    match waits_text(alloc, session.staff.catalogue(), &follower.room.tally) {
+        Ok(text) => put_made(writer, cut_text(alloc, follower.asked.columns, text)),
+        Err(_) => Err(LineFault::NoMemory),
+    }
+}
+
+// The same, where what was shown is the status.
+fn after_word<T, W: Write, F>(
+    session: &Session,
+    follower: &Follower<'_, T, F>,
+    word: Word,
+    shown: Result<Next, LineFault>,
+    writer: &mut W,
+) -> Result<Next, LineFault> {
+    match (word, shown) {
+        (Word::Status, Ok(_)) => put_waits(session, follower, writer),
+        (_, shown) => shown,
+    }
+}
+
 // Answers a word of the console.
 #[tactic(auto, using(crate::proofs::Growing::looks_later))]
 fn show<T: Wait, W: Write, F>(
@@ -87,6 +111,7 @@ fn show<T: Wait, W: Write, F>(
     let shown = session
         .staff
         .show(rt, &mut follower.console, tally, word, writer);
+    let shown = after_word(&*session, &*follower, word, shown, writer);
     after(shown, writer)
 }
 

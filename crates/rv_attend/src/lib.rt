@@ -16,6 +16,7 @@ mod explaining;
 mod filing;
 mod follower;
 mod kept;
+mod lateness;
 mod least;
 mod letting;
 mod notes;

@@ -7,6 +7,7 @@ use Rattle.std.proofs.lemmas.List.{get_or-replicate, get_or-set_other}
 use Rattle.std.proofs.lemmas.List.Sums.{count_by-le-length, sum_by-cons}
 use Rattle.std.proofs.lemmas.Option.{slice_get_past}
 use Rattle.rv_event.specs.declared.entry.Entry.{Entry}
+use Rattle.rv_late.specs.Lateness.{Kept}
 use Rattle.rv_shape.specs.Catalogue.{all_tasks, first_task}
 use Rattle.rv_shape.specs.Shape.{Shape}
 use Rattle.rv_tally.specs.Tallying.{IsTally, Notes, added, adder, is_in, is_task_of, more_of, most_actors, task_count, times}
@@ -51,8 +52,8 @@ notes_one counts actor count within is = record { counts = λ other lt. by other
         let f : actor ≢ other = λ d. e (sym d) in
         get_or-set_other counts actor other count 0 e ∙ sym (if_other actor other (slice_index counts other) f)
 
-pub tally_none : IsTally [] (replicate 75 0)
-tally_none = record { counted = λ actor lt. get_or-replicate 75 actor 0 0 lt }
+pub tally_none : (courses : Kept) → IsTally [] (record { counts = replicate 75 0; courses = courses })
+tally_none courses = record { counted = λ actor lt. get_or-replicate 75 actor 0 0 lt }
 
 -- The tasks of a unit
 

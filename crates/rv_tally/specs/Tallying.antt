@@ -1,9 +1,10 @@
--- How many entries the tasks of a unit have added (own).
+-- How many entries the tasks of a unit have added, and what they say of waits and delays (own).
 use Rattle.std.specs.Prelude.{◌≡◌, ℕ, ◌+◌, ◌-◌, ◌<◌, ◌^◌, ◌==◌, if◌then◌else◌, Bool, false, List, map, Option, Some, None, min, slice_index, count_by}
 use Rattle.std.specs.Str.{bytes_eq}
 use Rattle.rv_event.specs.declared.entry.Entry.{Entry}
 use Rattle.rv_event.specs.declared.entry.Entry.TheVariants.{Asked, Load, ListChange}
 use Rattle.rv_host.specs.Pages.{Item}
+use Rattle.rv_late.specs.Lateness.{Kept}
 use Rattle.rv_shape.specs.Catalogue.{UnitTask}
 use Rattle.rv_shape.specs.Readers.{actor_task}
 use Rattle.rv_shape.specs.Shape.{Shape}
@@ -42,9 +43,14 @@ task_count shapes unit actor entries = if is_task_of shapes unit actor then time
 abbrev pub most_actors : ℕ
 most_actors = 75
 
+-- how many entries each actor has added, and what is kept of its waits and delays
+pub record Tallied : Type 0 where
+  pub counts : List ℕ
+  pub courses : Kept
+
 -- the counts of all actors for these entries
-pub record IsTally (entries : List Entry) (counts : List ℕ) : Type 0 where
-  pub counted : (actor : ℕ) → actor < most_actors → slice_index counts actor ≡ times actor entries
+pub record IsTally (entries : List Entry) (tally : Tallied) : Type 0 where
+  pub counted : (actor : ℕ) → actor < most_actors → slice_index tally.counts actor ≡ times actor entries
 
 -- one more of an actor is counted, up to the greatest number that a count has
 abbrev pub more_of : ℕ → ℕ → ℕ → ℕ

@@ -1,4 +1,4 @@
-//! Who fills a journal: entries are counted as pages are read, a guard says what is due, and words tell it.
+//! Who fills a journal, and who waits: entries are counted as pages are read, a guard says what is due, and words tell it.
 #![tactic(auto)]
 
 mod guard;

@@ -1,11 +1,13 @@
-//! How many entries each actor has added.
+//! How many entries each actor has added, what it waits for, and how late its delays were answered.
 
-ghost use Rattle.std.specs.Prelude.{◌≡◌, ◌+◌, ◌<◌, ◌≤◌, ◌^◌, ◌++◌, ◌∷◌, [], List, length, min, slice_index_or};
+ghost use Rattle.std.specs.Prelude.{◌≡◌, ◌+◌, ◌<◌, ◌≤◌, ◌^◌, ◌++◌, ◌∷◌, [], List, length, min, reverse, slice_index_or};
 ghost use Rattle.rv_event.specs.declared.entry.Entry.{Entry};
+ghost use Rattle.rv_late.specs.Lateness.{AreKept, course};
 ghost use Rattle.rv_tally.specs.Tallying.{IsTally, Notes, added, adder, entries_of, is_task_of, most_actors, task_count};
 
 use rv_event::entry::Entry;
 use rv_host::pages::Page;
+use rv_late::{Course, Courses};
 use rv_shape::actor::FIRST_TASK;
 use rv_shape::catalogue::{Catalogue, MOST_TASKS};
 use std::marker::Model;
@@ -13,18 +15,20 @@ use std::marker::Model;
 // How many actors there may be: the operator, ten lines, and the tasks.
 const ACTORS: usize = FIRST_TASK + MOST_TASKS;
 
-/// How many entries each actor has added, of those that were counted. Counting needs no memory.
+/// How many entries each actor has added, of those that were counted, and what they say of its waits and delays. Counting needs no
+/// memory.
 #[derive(Drop)]
 pub struct Tally {
     counts: [u64; ACTORS],
+    courses: Courses,
 }
 
 impl Model for Tally {
-    ghost use Rattle.std.specs.Prelude.{ℕ, List};
+    ghost use Rattle.rv_tally.specs.Tallying.{Tallied};
 
-    ghost Value = { List ℕ };
+    ghost Value = { Tallied };
 
-    ghost view = { λ t. t.counts };
+    ghost view = { λ t. record { counts = t.counts; courses = t.courses } };
 }
 
 // Who added an entry: loads and list changes are the operator's.
@@ -56,17 +60,20 @@ impl Default for Tally {
 impl Tally {
     /// Nothing is counted yet.
     pub fn new() -> Tally
-        ensures { IsTally [] result }
+        ensures counts { IsTally [] result }
+        ensures courses { AreKept [] result.courses }
     {
         Tally {
             counts: [0; ACTORS],
+            courses: Courses::new(),
         }
     }
 
     // One entry more of an actor.
     #[tactic(auto, using(crate::proofs::Tallies::notes_none, crate::proofs::Tallies::notes_one))]
     fn note(&mut self, actor: usize)
-        ensures { Notes self.old actor self.new }
+        ensures counts { Notes self.old.counts actor self.new.counts }
+        ensures courses { self.new.courses ≡ self.old.courses }
     {
         if actor >= ACTORS {
             return;
@@ -74,14 +81,33 @@ impl Tally {
         self.counts[actor] = self.counts[actor].saturating_add(1);
     }
 
+    // Counts an entry that follows those that were counted.
+    fn count_one(&mut self, entry: &Entry)
+        ensures counts { Notes self.old.counts (adder entry.now) self.new.counts }
+        ensures courses { (past : List Entry) → AreKept past self.old.courses → AreKept (entry.now ∷ past) self.new.courses }
+    {
+        self.note(adder(entry));
+        self.courses.note(entry);
+    }
+
     /// Counts the entries of a page, which follow those that were counted.
     pub fn count(&mut self, page: &Page)
-        ensures { (before : List Entry) → length before + length page.now < 2 ^ 64
+        ensures counts { (before : List Entry) → length before + length page.now < 2 ^ 64
             → IsTally before self.old → IsTally (before ++ entries_of page.now) self.new }
+        ensures courses { (past : List Entry) → AreKept past self.old.courses
+            → AreKept (reverse (entries_of page.now) ++ past) self.new.courses }
     {
         for item in page.items() {
-            self.note(adder(&item.entry()));
+            self.count_one(&item.entry());
         }
+    }
+
+    /// What an actor waits for, and how its delays were answered, by the number of the actor, 0 .. 74.
+    pub fn course(&self, actor: usize) -> Course
+        requires { actor < most_actors }
+        ensures { (past : List Entry) → AreKept past self.now.courses → result ≡ course actor past }
+    {
+        self.courses.of(actor)
     }
 
     // How many entries an actor has added, if it is a task of the unit.

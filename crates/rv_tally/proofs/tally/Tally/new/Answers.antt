@@ -1,5 +1,5 @@
 use Rattle.rv_tally.proofs.Tallies.{tally_none}
 use Rattle.rv_tally.proofs.tally.Tally.new.Goals as goal
 
-pub returns : goal.returns
-returns c = tally_none
+pub returns-clause-counts : goal.returns-clause-counts
+returns-clause-counts c = tally_none c.new.result

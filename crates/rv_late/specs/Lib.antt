@@ -1,0 +1,3 @@
+pub mod Lateness
+pub mod Noting
+pub mod Wording
