@@ -1,5 +1,5 @@
 -- Without a console the lines of what came are served as commands, each behind what was due.
-use Rattle.std.proofs.Common.{◌≡◌, ◌∙◌, ℕ, arith, zero, suc, Bool, true, false, List, [], Option, Some, None, Ok, Err, inl, inr, refl, sym, ap, subst, le_of_lt}
+use Rattle.std.proofs.Common.{◌≡◌, ◌∙◌, ◌≤◌, ℕ, arith, zero, suc, Bool, true, false, List, [], Option, Some, None, Ok, Err, inl, inr, refl, sym, ap, subst, le_of_lt}
 use Rattle.std.specs.Prelude.{◌⊎◌, IfOk, Result}
 use Rattle.rv_staff.specs.Staffs.{Workers}
 use Rattle.rv_feed.specs.Hearing.{HearsOn, IsStopped}
@@ -21,10 +21,10 @@ use Rattle.rv_run.specs.Staging.{Comes, Outcome, Stage}
 use Rattle.rv_run.specs.declared.command.Goes.{Goes}
 use Rattle.rv_run.specs.declared.command.Goes.TheVariants.{On, Out}
 use Rattle.rv_run.specs.declared.outputs.KeptFailure.{KeptFailure}
-use Rattle.rv_attend.specs.Attending.{AttendedAll, AttendedBy, AttendedIf, AttendedOne, AttendedUpTo, Attends, EndsFor, EndsOut, GoesAttended, Point, ServesHeard, ServesSo}
+use Rattle.rv_attend.specs.Attending.{AttendedAll, AttendedBy, AttendedIf, AttendedOne, AttendedUpTo, Attends, EndsFor, EndsOut, GoesAttended, Point, ServesHeard, ServesSo, renews}
 use Rattle.rv_attend.specs.Again.{AskedAgain, InVain, with_control}
 use Rattle.rv_attend.specs.Chores.{Chores}
-use Rattle.rv_attend.specs.Going.{CommandComes, IsLow, Terms, entries_seen}
+use Rattle.rv_attend.specs.Going.{CommandComes, IsLow, Terms, entries_seen, most_of, renewed}
 use Rattle.rv_attend.specs.Holding.{HeedsTo, Holding, IsPlain, attended, point_of, state_of}
 use Rattle.rv_attend.specs.KeepingRuns.{Stands}
 use Rattle.rv_attend.specs.Letting.{LetsIn}
@@ -226,21 +226,24 @@ if_on holds terms opened m u n (Err failure) result plain same unread hears goes
 
 one : {C : Type 0} (holds : C → Holding) (terms : Terms) (opened : Filed) (m n : Moment C) (result : Result Goes KeptFailure) → IsAttended holds terms opened m
     → ServesOneWith (attended holds) m n result → AttendedOne terms (point_of holds m) (point_of holds n) result
-one holds terms opened m n result is serves =
+one {C} holds terms opened m n result is serves =
     let tends = serves.tends in
     let same = tends.tends.3 ∙ is.same in
+    let from : Moment C = record m { stage = renews terms.asked.lasting m.stage } in
     let attends = tends.attends (is_plain holds terms opened m is) in
+    let hears = subst (λ (t : Terms). IfOk serves.tended (λ goes. HearsOn (holds m.chores).heard (holds serves.between.chores).heard (renewed t.asked.lasting m.stage.input) serves.between.stage.input)) is.same tends.hears in
     record {
       between = point_of holds serves.between;
-      attended = subst (λ (t : Terms). Attends t.asked.lasting m.stage serves.between.stage) is.same attends;
-      served = if_on holds terms opened m serves.between n serves.tended result (ap (λ (t : Terms). t.asked.console) same ∙ is.plain) same
-          (attends.left ∙ is.unread) tends.hears tends.goes (tends.tends.0 opened is.kept) serves.serves;
+      attended = subst (λ (t : Terms). Attends t.asked.lasting (renews t.asked.lasting m.stage) serves.between.stage) is.same attends;
+      served = if_on holds terms opened from serves.between n serves.tended result (ap (λ (t : Terms). t.asked.console) same ∙ is.plain) same
+          (attends.left ∙ is.unread) hears tends.goes (tends.tends.0 opened is.kept) serves.serves;
     }
 
 still_unread : (terms : Terms) (p q : Point) → AttendedOne terms p q (Ok On) → p.stage.left ≡ Some [] → q.stage.left ≡ Some []
 still_unread terms p q attends none = by_word attends.served
   where
-    by_word : ServesHeard terms p attends.between q (Ok On) ⊎ ((q ≡ attends.between) × EndsFor terms p attends.between (Ok On)) → q.stage.left ≡ Some []
+    by_word : ServesHeard terms (record p { stage = renews terms.asked.lasting p.stage }) attends.between q (Ok On)
+        ⊎ ((q ≡ attends.between) × EndsFor terms (record p { stage = renews terms.asked.lasting p.stage }) attends.between (Ok On)) → q.stage.left ≡ Some []
     by_word (inl serves) = serves.unread refl ∙ (attends.attended.left ∙ none)
     by_word (inr (same, ends)) = absurd ends
 
@@ -267,18 +270,21 @@ up_to holds terms opened (suc count) m n is serves =
 
 all : {C : Type 0} (holds : C → Holding) (terms : Terms) (opened : Filed) (m n : Moment C) (result : Ended) → IsAttended holds terms opened m
     → ServesAllWith (attended holds) m n result → AttendedAll terms (point_of holds m) (point_of holds n) result
-all holds terms opened m n (Ok x) is (inl most) = record {
-  count = most.count;
-  within = omega (arith, most.all);
-  before = point_of holds n;
-  served = (up_to holds terms opened most.count m n is most.served).0;
-  stops = inl (most.all, refl);
-}
+all holds terms opened m n (Ok x) is (inl most) =
+    let bound : most.count ≡ most_of terms = most.all ∙ ap most_of is.same in
+    let itself : most.count ≤ most.count = omega arith in
+    record {
+      count = most.count;
+      within = subst (λ (n : ℕ). most.count ≤ n) bound itself;
+      before = point_of holds n;
+      served = (up_to holds terms opened most.count m n is most.served).0;
+      stops = inl (bound, refl);
+    }
 all holds terms opened m n (Ok x) is (inr stop) =
     let before = up_to holds terms opened stop.count m stop.before is stop.served in
     record {
       count = stop.count;
-      within = le_of_lt stop.within;
+      within = subst (λ (t : Terms). stop.count ≤ most_of t) is.same (le_of_lt stop.within);
       before = point_of holds stop.before;
       served = before.0;
       stops = inr (one holds terms opened stop.before n (Ok Out) before.1 stop.last);
@@ -287,7 +293,7 @@ all holds terms opened m n (Err failure) is stop =
     let before = up_to holds terms opened stop.count m stop.before is stop.served in
     record {
       count = stop.count;
-      within = le_of_lt stop.within;
+      within = subst (λ (t : Terms). stop.count ≤ most_of t) is.same (le_of_lt stop.within);
       before = point_of holds stop.before;
       served = before.0;
       stops = one holds terms opened stop.before n (Err failure) before.1 stop.last;

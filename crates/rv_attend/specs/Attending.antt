@@ -11,11 +11,11 @@ use Rattle.rv_staff.specs.Saying.{Known}
 use Rattle.rv_staff.specs.Staffs.{Staffed}
 use Rattle.rv_attend.specs.Again.{ServesAgain}
 use Rattle.rv_attend.specs.Chores.{Chores, ChoresIn}
-use Rattle.rv_attend.specs.Going.{CommandComes, IsLow, Terms, entries_seen}
+use Rattle.rv_attend.specs.Going.{CommandComes, IsLow, Terms, entries_seen, most_of, renewed}
 use Rattle.rv_attend.specs.Letting.{LetsIn}
 use Rattle.rv_run.specs.Beside.{Ended, IsOfRun}
 use Rattle.rv_run.specs.Finishing.{Served}
-use Rattle.rv_run.specs.ServingLines.{ServesNext, most_commands}
+use Rattle.rv_run.specs.ServingLines.{ServesNext}
 use Rattle.rv_run.specs.Staging.{Outcome, ReadsNothing, Stage, stage}
 use Rattle.rv_run.specs.declared.command.Goes.{Goes}
 use Rattle.rv_run.specs.declared.command.Goes.TheVariants.{On, Out}
@@ -80,26 +80,33 @@ EndsFor terms first last (Ok On) = ⊥
 EndsFor terms first last (Ok Out) = EndsOut terms first last
 EndsFor terms first last (Err failure) = Unit {0}
 
+-- where the run lasts, the length of the input is counted anew
+abbrev pub renews : (lasting : Bool) → Stage → Stage
+renews lasting s = record s { input = renewed lasting s.input }
+
 -- The run is attended, and then either the next command is carried out, or the run doesn't go on.
-pub record AttendedOne (terms : Terms) (first last : Point) (result : Result Goes KeptFailure) : Type 0 where
+pub record AttendedFrom (terms : Terms) (first last : Point) (result : Result Goes KeptFailure) : Type 0 where
   pub between : Point
   pub attended : Attends terms.asked.lasting first.stage between.stage
   pub served : ServesHeard terms first between last result ⊎ ((last ≡ between) × EndsFor terms first between result)
+
+abbrev pub AttendedOne : Terms → Point → Point → Result Goes KeptFailure → Type 0
+AttendedOne terms first last result = AttendedFrom terms (record first { stage = renews terms.asked.lasting first.stage }) last result
 
 -- the first so many commands, behind each of which the run goes on
 abbrev pub AttendedUpTo : Terms → ℕ → Point → Point → Type 0
 AttendedUpTo terms zero p q = q ≡ p
 AttendedUpTo terms (suc count) p q = (between : Point) × AttendedUpTo terms count p between × AttendedOne terms between q (Ok On)
 
--- behind them the run goes on no more: it served all that a run serves, or ends by what comes then
+-- behind them the run goes on no more: it served all that it serves at most, or ends by what comes then
 abbrev pub StopsAfter : Terms → ℕ → Point → Point → Ended → Type 0
-StopsAfter terms count p q (Ok x) = ((count ≡ most_commands) × (q ≡ p)) ⊎ AttendedOne terms p q (Ok Out)
+StopsAfter terms count p q (Ok x) = ((count ≡ most_of terms) × (q ≡ p)) ⊎ AttendedOne terms p q (Ok Out)
 StopsAfter terms count p q (Err failure) = AttendedOne terms p q (Err failure)
 
 -- commands are served one after another, until the run goes on no more
 pub record AttendedAll (terms : Terms) (first last : Point) (result : Ended) : Type 0 where
   pub count : ℕ
-  pub within : count ≤ most_commands
+  pub within : count ≤ most_of terms
   pub before : Point
   pub served : AttendedUpTo terms count first before
   pub stops : StopsAfter terms count before last result

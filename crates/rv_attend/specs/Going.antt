@@ -1,5 +1,5 @@
 -- Why an attended run goes on, and why it ends. (own)
-use Rattle.std.specs.Prelude.{◌≡◌, ◌⊎◌, ℕ, ◌-◌, Bool, true, false, List, Option, Some, None, length, Ok, Err}
+use Rattle.std.specs.Prelude.{◌≡◌, ◌⊎◌, ℕ, ◌-◌, ◌^◌, if◌then◌else◌, Bool, true, false, List, Option, Some, None, length, Ok, Err}
 use Rattle.rv_behind.specs.Events.{history_at}
 use Rattle.rv_fault.specs.declared.failure.Failure.TheVariants.{Memory}
 use Rattle.rv_feed.specs.Hearing.{IsStopped}
@@ -9,6 +9,7 @@ use Rattle.rv_input.specs.Coming.{Reading}
 use Rattle.rv_input.specs.Whole.{HasCommand}
 use Rattle.rv_port.specs.Traces.{Passing, limits_in}
 use Rattle.rv_run.specs.Beside.{Ended}
+use Rattle.rv_run.specs.ServingLines.{most_commands}
 use Rattle.rv_run.specs.declared.command.Goes.{Goes}
 use Rattle.rv_run.specs.declared.command.Goes.TheVariants.{On, Out}
 use Rattle.rv_run.specs.declared.outputs.KeptFailure.{KeptFailure}
@@ -23,6 +24,15 @@ pub record Terms : Type 0 where
 
 abbrev pub terms : Attention → ℕ → Terms
 terms asked capacity = record { asked = asked; capacity = capacity }
+
+-- how many commands it serves at most: where it lasts as many as a number can count
+abbrev pub most_of : Terms → ℕ
+most_of terms = if terms.asked.lasting then 2 ^ 64 - 1 else most_commands
+
+-- where the run lasts the greatest length of its input is counted anew for each command
+abbrev pub renewed : (lasting : Bool) → Reading → Reading
+renewed true input = record input { given = 0 }
+renewed false input = input
 
 -- The run goes on
 

@@ -11,9 +11,9 @@ use Rattle.rv_run.specs.declared.command.Goes.{Goes}
 use Rattle.rv_run.specs.declared.command.Goes.TheVariants.{Out}
 use Rattle.rv_run.specs.declared.outputs.KeptFailure.{KeptFailure}
 use Rattle.rv_attend.specs.Again.{HeedsPlainly}
-use Rattle.rv_attend.specs.Attending.{Attends, Point, point}
+use Rattle.rv_attend.specs.Attending.{Attends, Point, point, renews}
 use Rattle.rv_attend.specs.Chores.{Chores}
-use Rattle.rv_attend.specs.Going.{ClosesAs, HurriesBy, Terms}
+use Rattle.rv_attend.specs.Going.{ClosesAs, HurriesBy, Terms, most_of, renewed}
 use Rattle.rv_attend.specs.KeepingRuns.{Leaving}
 use Rattle.rv_attend.specs.Letting.{LetsIn}
 use Rattle.rv_attend.specs.Lasting.{GoesFor, State, Tends, at}
@@ -41,11 +41,11 @@ point_of holds m = point m.stage (holds m.chores).heard (holds m.chores).told
 abbrev pub IsPlain : Holding → Type 0
 IsPlain h = h.terms.asked.console ≡ None
 
--- until the next command comes
+-- until the next command comes, for which the length of the input is counted anew where the run lasts
 pub record TendsTo {C : Type 0} (holds : C → Holding) (m n : Moment C) (result : Result Goes KeptFailure) : Type 0 where
   pub tends : Tends (state_of holds m) (state_of holds n) result
-  pub attends : IsPlain (holds m.chores) → Attends (holds m.chores).terms.asked.lasting m.stage n.stage
-  pub hears : IfOk result (λ goes. HearsOn (holds m.chores).heard (holds n.chores).heard m.stage.input n.stage.input)
+  pub attends : IsPlain (holds m.chores) → Attends (holds m.chores).terms.asked.lasting (renews (holds m.chores).terms.asked.lasting m.stage) n.stage
+  pub hears : IfOk result (λ goes. HearsOn (holds m.chores).heard (holds n.chores).heard (renewed (holds m.chores).terms.asked.lasting m.stage.input) n.stage.input)
   pub goes : IfOk result (GoesFor (state_of holds m) (state_of holds n) n.stage.input (holds n.chores).heard (holds n.chores).told)
 
 -- With a line that came: a word of a console is answered, and where the run lasts a command that takes room is carried out, behind an archive
@@ -71,6 +71,7 @@ attended holds = record {
   heeds = λ m line n answer. HeedsTo holds m n line answer;
   hears = λ chores old new. Unit {0};
   admits = λ chores. LetsIn (holds chores).terms;
+  most = λ chores. most_of (holds chores).terms;
   leaves = λ chores old new result. IsPlain (holds chores) → (new ≡ old) × (result ≡ Ok Out);
   hurries = λ chores hurried. HurriesBy (holds chores).terms hurried;
   closes = λ chores errors closed served chores' errors' kept. ClosesTo holds chores closed served chores' kept;

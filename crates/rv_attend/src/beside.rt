@@ -8,6 +8,7 @@ use crate::closing::close;
 use crate::console::leave;
 use crate::follower::Follower;
 use crate::letting::lets_in;
+use crate::serving::{most_served, renew};
 use crate::tending::{attend, heed};
 use rv_crew::crew::Closed;
 use rv_fault::{Failure, What};
@@ -34,6 +35,7 @@ impl<'a, T: Wait + Clock, W: Write, E: Write, F: Write> Chores<T, W, E> for Foll
         input: &mut Input,
         outputs: &mut Outputs<W, E>,
     ) -> Result<Goes, KeptFailure> {
+        renew(&self.asked, input);
         attend(rt, session, self, input, outputs)
     }
 
@@ -56,6 +58,10 @@ impl<'a, T: Wait + Clock, W: Write, E: Write, F: Write> Chores<T, W, E> for Foll
     fn admits(&self, catalogue: &Catalogue, shape: &UnitShape) -> bool {
         let counted = self.reserve.counted();
         lets_in(&self.asked, counted, self.room.capacity, catalogue, shape)
+    }
+
+    fn most(&self) -> usize {
+        most_served(&self.asked)
     }
 
     fn leave(&self, writer: &mut W) -> Result<Goes, Failure> {

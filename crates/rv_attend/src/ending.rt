@@ -2,6 +2,7 @@
 
 ghost use Rattle.std.specs.Prelude.{◌≡◌};
 
+use crate::attention::Attention;
 use crate::follower::Follower;
 use rv_input::{Input, MOST_BYTES};
 use rv_staff::say;
@@ -15,6 +16,9 @@ const NO_TEXT: &str = "note: the run ends, since this line isn't UTF-8\n";
 
 const TOO_LONG: &str = "note: the run ends, since its input is longer than 16777216 bytes\n";
 
+const TOO_LONG_COMMAND: &str =
+    "note: the run ends, since this command is longer than 16777216 bytes\n";
+
 // The first line of bytes, with its line feed where it has one.
 fn first_line(bytes: &[u8]) -> &[u8] {
     match bytes.iter().position(|byte| *byte == b'\n') {
@@ -24,10 +28,14 @@ fn first_line(bytes: &[u8]) -> &[u8] {
 }
 
 // Why the next line of an input is as its end, though there is one.
-fn unread_line(input: &Input) -> Option<&'static str> {
+fn unread_line(asked: &Attention, input: &Input) -> Option<&'static str> {
     let line = first_line(input.ahead());
     if line.len() > MOST_BYTES.saturating_sub(input.given()) {
-        return Some(TOO_LONG);
+        return Some(if asked.lasting {
+            TOO_LONG_COMMAND
+        } else {
+            TOO_LONG
+        });
     }
     match str::from_utf8(line) {
         Ok(_) => None,
@@ -53,7 +61,7 @@ pub(crate) fn look_at_line<T, E: Write, F>(
     ensures room { follower.new.room ≡ follower.old.room }
     ensures source { follower.new.source ≡ follower.old.source }
 {
-    if let Some(why) = unread_line(input) {
+    if let Some(why) = unread_line(&follower.asked, input) {
         follower.is_cut_off = true;
         tell(&*follower, why, errors);
     }

@@ -8,6 +8,7 @@ use crate::explaining::Given;
 use crate::filing::Filed;
 use crate::reserve::Reserve;
 use crate::room::Room;
+use crate::serving::most_served;
 use crossbeam_channel::Receiver;
 use rv_console::Console;
 use rv_crew::notice::Notice;
@@ -15,7 +16,6 @@ use rv_feed::Listening;
 use rv_follow::Archive;
 use rv_keep::Keeper;
 use rv_pace::Pace;
-use rv_run::serving::MOST_COMMANDS;
 use rv_staff::{Grace, Outsider};
 use std::alloc::Global;
 
@@ -97,7 +97,7 @@ impl<'a, T, F> Follower<'a, T, F> {
 
     // Whether the run has served as many commands as it may, the last of which didn't end it.
     pub(crate) fn is_served_out(&self) -> bool {
-        self.served >= MOST_COMMANDS
+        self.served >= most_served(&self.asked)
     }
 
     // How long its end waits for threads; none where no grace is asked.

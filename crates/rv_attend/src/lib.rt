@@ -23,6 +23,7 @@ mod notes;
 mod outsiders;
 mod reserve;
 mod room;
+mod serving;
 mod spending;
 mod telling;
 mod tending;

@@ -6,7 +6,7 @@ use Rattle.std.specs.Str.{IsUtf8, bytes_eq}
 use Rattle.std.specs.Str.Lines.{lines, strip_carriage_return}
 use Rattle.rv_text.specs.Sections.{is_line_feed}
 
--- an input: the bytes that were read ahead, and how many it gave
+-- an input: the bytes that were read ahead, and how many it gave that count towards the greatest length
 pub record Reading : Type 0 where
   pub ahead : List ℕ
   pub given : ℕ

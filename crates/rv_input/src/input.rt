@@ -28,7 +28,7 @@ pub struct Preamble {
     pub run: Vec<u8>,
 }
 
-/// An input of which some bytes were read ahead. Contracts see these, and how many bytes it gave.
+/// An input of which some bytes were read ahead. Contracts see these, and how many bytes it gave that count towards the greatest length.
 #[derive(Drop)]
 pub struct Input {
     alloc: Global,
@@ -139,11 +139,18 @@ impl Input {
         Ok(line)
     }
 
-    /// How many bytes it gave.
+    /// How many bytes it gave that count.
     pub fn given(&self) -> usize
         ensures { result ≡ self.now.given }
     {
         self.given
+    }
+
+    /// From here on the greatest length is counted anew: what it gave so far doesn't count.
+    pub fn renew(&mut self)
+        ensures { self.new ≡ record self.old { given = 0 } }
+    {
+        self.given = 0;
     }
 
     /// What was read ahead of what was given, for whoever reads on by other means.

@@ -11,7 +11,7 @@ use Rattle.rv_run.specs.declared.outputs.KeptFailure.{KeptFailure}
 use Rattle.rv_run.specs.declared.outputs.KeptFailure.TheVariants.{Run, File}
 use Rattle.rv_run.specs.Commanding.{Admission, AdmitsAll}
 use Rattle.rv_run.specs.Finishing.{Served}
-use Rattle.rv_run.specs.ServingLines.{Flushes}
+use Rattle.rv_run.specs.ServingLines.{Flushes, most_commands}
 use Rattle.rv_run.specs.Staging.{Fails, GoesOn, Outcome, Stage, stage}
 
 -- what a run comes to that may keep its journal in a file
@@ -39,12 +39,14 @@ abbrev pub moment : {C : Type 0} → C → Staffed → Known → Reading → Kno
 moment chores staff written input left errors = record { chores = chores; stage = stage staff written input left; errors = errors }
 
 -- What is done until the next command comes, with a line that came, of what stands against a unit text, where no line comes any more,
--- and of the host that was closed; which units are let in; and whether threads are given up that don't end in time.
+-- and of the host that was closed; which units are let in; how many commands are served at most; and whether threads are given up that
+-- don't end in time.
 pub record Beside (C : Type 0) : Type 1 where
   pub tends : Moment C → Moment C → Result Goes KeptFailure → Type 0
   pub heeds : Moment C → List ℕ → Moment C → Option Outcome → Type 0
   pub hears : C → Known → Known → Type 0
   pub admits : C → Admission
+  pub most : C → ℕ
   pub leaves : C → Known → Known → Outcome → Type 0
   pub hurries : C → Bool → Type 0
   pub closes : C → Known → Closed → Ended → C → Known → Ended → Type 0
@@ -63,6 +65,7 @@ no_chores = record {
   heeds = λ m line n answer. (n ≡ m) × (answer ≡ None);
   hears = λ chores old new. new ≡ old;
   admits = λ chores. AdmitsAll;
+  most = λ chores. most_commands;
   leaves = λ chores old new result. (new ≡ old) × (result ≡ Ok Out);
   hurries = λ chores hurried. hurried ≡ false;
   closes = λ chores errors closed served chores' errors' kept. (errors' ≡ errors) × (kept ≡ served);

@@ -7,7 +7,6 @@ use Rattle.rv_run.specs.declared.command.Goes.TheVariants.{On, Out}
 use Rattle.rv_run.specs.declared.outputs.KeptFailure.{KeptFailure}
 use Rattle.rv_run.specs.Beside.{Beside, Ended, IsOfRun, Moment}
 use Rattle.rv_run.specs.Commanding.{Commands}
-use Rattle.rv_run.specs.ServingLines.{most_commands}
 use Rattle.rv_run.specs.Staging.{Comes, Fails, Outcome, Stage}
 
 -- what stands against a unit text is heard, if anything does
@@ -77,16 +76,16 @@ abbrev pub ServesUpToWith : {C : Type 0} → Beside C → ℕ → Moment C → M
 ServesUpToWith does zero m n = n ≡ m
 ServesUpToWith {C} does (suc count) m n = (u : Moment C) × ServesUpToWith does count m u × ServesOneWith does u n (Ok On)
 
--- commands are served to the last that a run serves
+-- commands are served to the last that is served at most
 pub record ServesMostWith {C : Type 0} (does : Beside C) (m n : Moment C) : Type 0 where
   pub count : ℕ
-  pub all : count ≡ most_commands
+  pub all : count ≡ does.most m.chores
   pub served : ServesUpToWith does count m n
 
 -- so many commands are served, and then one behind which the run doesn't go on
 pub record StopsBehindWith {C : Type 0} (does : Beside C) (m n : Moment C) (result : Result Goes KeptFailure) : Type 0 where
   pub count : ℕ
-  pub within : count < most_commands
+  pub within : count < does.most m.chores
   pub before : Moment C
   pub served : ServesUpToWith does count m before
   pub last : ServesOneWith does before n result

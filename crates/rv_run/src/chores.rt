@@ -1,6 +1,6 @@
 //! What is done beside the commands of a run.
 
-ghost use Rattle.std.specs.Prelude.{is_some};
+ghost use Rattle.std.specs.Prelude.{◌≡◌, is_some};
 ghost use Rattle.rv_input.specs.Coming.{Reading};
 ghost use Rattle.rv_run.specs.Beside.{Beside, moment, no_chores};
 ghost use Rattle.rv_staff.specs.Saying.{Known};
@@ -16,6 +16,9 @@ use rv_shell::Order;
 use rv_staff::{Grace, Session};
 use rv_step::reading::StepError;
 use std::io::Write;
+
+/// How many commands a run serves that doesn't last. What comes behind them is as the end of input.
+pub const MOST_COMMANDS: usize = 100_000;
 
 /// What is done beside the commands of a run.
 pub trait Chores<T, W: Write, E: Write> {
@@ -57,6 +60,10 @@ pub trait Chores<T, W: Write, E: Write> {
     /// Whether a unit that a command `load` brings is let in over those that are loaded; of one that isn't `full` is said.
     fn admits(&self, catalogue: &Catalogue, shape: &UnitShape) -> bool
         ensures { does.admits self.now catalogue.now shape.now result };
+
+    /// How many commands are served at most. What comes behind them is as the end of input.
+    fn most(&self) -> usize
+        ensures { result ≡ does.most self.now };
 
     /// Ends the run where no command comes any more.
     fn leave(&self, writer: &mut W) -> Result<Goes, Failure>
@@ -113,6 +120,10 @@ impl<T, W: Write, E: Write> Chores<T, W, E> for NoChores {
 
     fn admits(&self, _catalogue: &Catalogue, _shape: &UnitShape) -> bool {
         true
+    }
+
+    fn most(&self) -> usize {
+        MOST_COMMANDS
     }
 
     fn leave(&self, _writer: &mut W) -> Result<Goes, Failure> {

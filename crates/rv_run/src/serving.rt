@@ -17,9 +17,6 @@ use std::io::{Read, Write};
 use std::sync::Wait;
 use std::thread::Threads;
 
-/// How many commands a run serves. What comes behind them is as the end of input.
-pub const MOST_COMMANDS: usize = 100_000;
-
 /// What a run comes to that has nothing to do with its file.
 pub fn of_run<X>(done: Result<X, Failure>) -> Result<X, KeptFailure>
     ensures { IsOfRun done result }
@@ -107,7 +104,7 @@ fn serve_one<T: Threads + Wait, H: Hires, R: Read, W: Write, E: Write, C: Chores
     }
 }
 
-// Serves commands, each answered before the next is read.
+// Serves commands, each answered before the next is read, up to as many as the chores have it.
 fn serve<T: Threads + Wait, H: Hires, R: Read, W: Write, E: Write, C: Chores<T, W, E>>(
     rt: &T,
     hires: &H,
@@ -122,7 +119,8 @@ fn serve<T: Threads + Wait, H: Hires, R: Read, W: Write, E: Write, C: Chores<T, 
         (moment chores.new session.new.staff (W.contents outputs.new.writer) input.new (R.remaining reader.new) (E.contents outputs.new.errors))
         result }
 {
-    for _ in 0..MOST_COMMANDS {
+    let most = chores.most();
+    for _ in 0..most {
         match serve_one(rt, hires, session, chores, input, reader, outputs) {
             Ok(Goes::On) => {}
             Ok(Goes::Out) => return Ok(()),
