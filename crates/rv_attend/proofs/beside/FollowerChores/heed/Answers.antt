@@ -14,10 +14,10 @@ returns g c = λ left. record {
   unread = record { input = refl; left = refl };
   same = ap (λ (k : _). holding (g.F.Write.contents k.file) k.next (terms c.heed.new.follower.asked c.heed.new.follower.room.capacity)
       (heard c.heed.new.follower.source.feed) (told c.heed.new.follower.source.stop)) c.heed.ensures.keeper
-    ∙ ap (λ (a : Attention). holding (g.F.Write.contents c.args.self.now.keeper.file) c.args.self.now.keeper.next (terms a c.heed.new.follower.room.capacity)
+      ∙ ap (λ (a : Attention). holding (g.F.Write.contents c.args.self.now.keeper.file) c.args.self.now.keeper.next (terms a c.heed.new.follower.room.capacity)
       (heard c.heed.new.follower.source.feed) (told c.heed.new.follower.source.stop)) c.heed.ensures.asked
-    ∙ ap (λ (r : _). holding (g.F.Write.contents c.args.self.now.keeper.file) c.args.self.now.keeper.next (terms c.args.self.now.asked r.capacity)
+      ∙ ap (λ (r : _). holding (g.F.Write.contents c.args.self.now.keeper.file) c.args.self.now.keeper.next (terms c.args.self.now.asked r.capacity)
       (heard c.heed.new.follower.source.feed) (told c.heed.new.follower.source.stop)) c.heed.ensures.room
-    ∙ ap (λ (s : _). holding (g.F.Write.contents c.args.self.now.keeper.file) c.args.self.now.keeper.next (terms c.args.self.now.asked c.args.self.now.room.capacity)
+      ∙ ap (λ (s : _). holding (g.F.Write.contents c.args.self.now.keeper.file) c.args.self.now.keeper.next (terms c.args.self.now.asked c.args.self.now.room.capacity)
       (heard s.feed) (told s.stop)) c.heed.ensures.source;
 }
