@@ -68,7 +68,11 @@ fn first_kept(asked: &Attention, archive: &Archive) -> usize {
 }
 
 // Writes what the tasks wait for, behind a status that was shown.
-fn put_waits<T, W: Write, F>(session: &Session, follower: &Follower<'_, T, F>, writer: &mut W) -> Result<Next, LineFault> {
+fn put_waits<T, W: Write, F>(
+    session: &Session,
+    follower: &Follower<'_, T, F>,
+    writer: &mut W,
+) -> Result<Next, LineFault> {
     let alloc = follower.alloc;
     match waits_text(alloc, session.staff.catalogue(), &follower.room.tally) {
         Ok(text) => put_made(writer, cut_text(alloc, follower.asked.columns, text)),

@@ -43,7 +43,13 @@ fn waits(course: &Course) -> bool {
 }
 
 // Tells of a task, where any of its delays was late, and there is memory for the line.
-fn tell_of<E: Write>(alloc: Global, catalogue: &Catalogue, actor: usize, course: &Course, errors: &mut E) {
+fn tell_of<E: Write>(
+    alloc: Global,
+    catalogue: &Catalogue,
+    actor: usize,
+    course: &Course,
+    errors: &mut E,
+) {
     if course.late == 0 {
         return;
     }
@@ -87,7 +93,11 @@ fn put_task(
 
 /// What stands behind the status of a console: for each task what it waits for and since when, if it waits, and how late its delays were,
 /// if any was. Err where memory was refused.
-pub(crate) fn waits_text(alloc: Global, catalogue: &Catalogue, tally: &Tally) -> Result<String, AllocError> {
+pub(crate) fn waits_text(
+    alloc: Global,
+    catalogue: &Catalogue,
+    tally: &Tally,
+) -> Result<String, AllocError> {
     let mut text = String::new(alloc);
     for actor in FIRST_TASK..FIRST_TASK + catalogue.tasks() {
         put_task(&mut text, alloc, catalogue, actor, &tally.course(actor))?;

@@ -160,7 +160,7 @@ each past entry old middle new other lt is own named =
     named_step middle new (named_in (next_of entry)) (clock_of past) other lt named
     ∙ ap (λ (c : Course). if names other entry then freed (clock_of past) c else c) (own_step old middle entry (clock_of past) other lt own)
     ∙ ap (λ (c : Course). if names other entry then freed (clock_of past) (if is_own other entry then behind entry (clock_of past) c else c)
-        else (if is_own other entry then behind entry (clock_of past) c else c)) is
+    else (if is_own other entry then behind entry (clock_of past) c else c)) is
     ∙ two_steps (names other entry) (is_own other entry) entry (clock_of past) (course other past)
     ∙ sym (by_step other entry past)
 

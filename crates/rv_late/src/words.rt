@@ -25,7 +25,10 @@ pub fn late_line(
     ensures { IfOk result (λ line. string_bytes line ≡ late_line mark.now catalogue.now actor course.now) }
 {
     let Course {
-        delays, late, most, ..
+        delays,
+        late,
+        most,
+        ..
     } = *course;
     let who = catalogue.who(actor);
     let ticks = ticks_word(most);

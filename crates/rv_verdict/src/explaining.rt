@@ -128,7 +128,8 @@ impl<'t> Observer for Explainer<'t> {
     ) -> Result<(), AllocError> {
         match *deed {
             Deed::Asks(actor, request, _) => {
-                self.tally.before(self.lasting, host, number, actor, &request)
+                self.tally
+                    .before(self.lasting, host, number, actor, &request)
             }
             Deed::Loads(_, name, _) => take_load(
                 self.alloc,
