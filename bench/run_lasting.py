@@ -2,7 +2,8 @@
 """Lets a run that lasts go on for so many seconds (600): four units, in which tasks call without a pause, while the operator ticks and changes
 the list. Once with a capacity of 4,096, and once with the least that is taken. Its memory at the end may be at most 1 MiB above that after
 the first minute, or after the first third where it is shorter; no text may end by Full, no answer may take 0.1 s, and the files that it leaves,
-of 64 MiB at most, have to be audited as legal over the file of its units. Of its file of times each line has to come behind the one before.
+of 64 MiB at most, have to be audited as legal over the file of its units, each end explained without want of room. Commands go on past
+the 100,000th, and past 16 MiB. Of its file of times each line has to come behind the one before.
 In 600 seconds there have to be ten million entries at 4,096. Says how many there were. Ends with 1 where something is wrong. It is no test.
 
     bench/run_lasting.py [SECONDS [PROGRAM [FOLDER]]]
@@ -96,8 +97,24 @@ def soak(program, folder, capacity, seconds):
     look_at_times(times, entries)
     said = audit(program, journals(file), units)
     expect_that("the audit", said == (f"legal {entries} entries\n", ""), said)
+    said = audit(program, journals(file), units, "--explain", "--lasting")
+    expect_that("its ends", re.fullmatch(rf"legal {entries} entries\nends \d+ explained\n", said[0]), said)
     for name in journals(file):
         os.remove(name)
+
+
+def endless(program, folder):
+    """Commands have no end in a run that lasts, and their bytes are counted anew for each; one that is longer than all may be ends it."""
+    script, count = sections(4096) + "@run\n", 100_100
+    words = [program, "run", "--lasting", "--journal", os.path.join(folder, "endless"), "--end-status", "--notes", "always"]
+    done = subprocess.run(words, input=(script + ("x" * 180 + "\n") * count + "quit\n").encode(), stdout=subprocess.PIPE, stderr=subprocess.PIPE)
+    said = done.stdout.decode().splitlines()
+    expect_that("commands without end", said[:-1] == ["bad command"] * count and said[-1].startswith("entries ") and done.returncode == 0,
+                (len(said), said[-3:], done.stderr[-300:], done.returncode))
+    words[4] = os.path.join(folder, "long")
+    done = subprocess.run(words, input=(script + "tick 1\n" + "y" * 16_777_217 + "\nquit\n").encode(), stdout=subprocess.PIPE, stderr=subprocess.PIPE)
+    expect_that("a command that is too long", b"note: the run ends, since this command is longer than 16777216 bytes\n" in done.stderr and done.returncode == 5,
+                (done.stdout[-200:], done.stderr[-300:], done.returncode))
 
 
 def main():
@@ -107,6 +124,7 @@ def main():
     with tempfile.TemporaryDirectory(dir=sys.argv[3] if sys.argv[3:] else None) as folder:
         for capacity in (4096, least(program, folder)):
             soak(program, folder, capacity, seconds)
+        endless(program, folder)
     print(f"{len(faults)} faults")
     return 1 if faults else 0
 

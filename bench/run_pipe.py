@@ -758,6 +758,58 @@ def reasons(program):
     expect_that("the reason at a full journal", "task Bad.Pilot ended: full" in err.splitlines() and status == 0, (out, err, status))
 
 
+# A task that delays itself from one tenth tick to the next.
+DELAYS = """with Ada.Real_Time;
+package Slow is
+   task T;
+end Slow;
+package body Slow is
+   task body T is
+      Next : Ada.Real_Time.Time := Ada.Real_Time.Clock;
+   begin
+      loop
+         Next := Next + Ada.Real_Time.Milliseconds (10);
+         delay until Next;
+      end loop;
+   end T;
+end Slow;
+"""
+
+
+def last(run):
+    """The last line of the journal so far."""
+    return "".join(run.journal()[-1:])
+
+
+def late(program):
+    """A note at the end tells how late delays were answered, and a console what a task waits for, and how late it was so far."""
+    script = unit(DELAYS) + "@list\n@run\n"
+    run = Run(program, script, ("--notes", "always"))
+    for ticks, time in ((10, 20), (15, 30), (5, 40)):
+        until(f"a delay until {time - 10}", lambda: last(run).endswith(f"Slow.T delay {time - 10} -> delayed"))
+        expect(f"{ticks} ticks", run.ask(f"tick {ticks}"), "accepted 0")
+    until("the last delay", lambda: last(run).endswith("Slow.T delay 40 -> delayed"))
+    _, err, status = run.end()
+    expect_that("how late a task's delays were", err.count("note: late ") == 1 and "note: late Slow.T: 1 of 3, at most 5 ticks\n" in err and status == 0, err)
+    run = Run(program, script, ("--notes", "always"))
+    until("a delay", lambda: last(run).endswith("delayed"))
+    run.ask("tick 10")
+    until("a delay that was in time", lambda: last(run).endswith("Slow.T delay 20 -> delayed"))
+    _, err, status = run.end()
+    expect_that("a task that was in time", "late" not in err and status == 0, err)
+    console = Run(program, "", ("--console",), bufsize=0)
+    typed = Typed(console.process.stdout.fileno(), console.process.stdin.fileno())
+    typed.send(script)
+    typed.prompted()
+    waits = "\nSlow.T waits until tick 10, since tick 0\n"
+    until("what a task waits for", lambda: typed.ask("status").endswith(waits))
+    typed.ask("tick 11")
+    waits = "\nSlow.T waits until tick 20, since tick 11\nlate Slow.T: 1 of 1, at most 1 tick\n"
+    until("how late it was", lambda: typed.ask("status").endswith(waits))
+    out, _, status = console.end("quit\n")
+    expect_that("quit of a console with a task that waits", re.fullmatch(r"quit\nentries \d+\n", out) and status == 0, out)
+
+
 PROMPT = "> "
 MISSPELT = "append allow Post Post.Gaet Pass"
 NOTE = "warning: list line 2 names Post.Gaet; Post has Gate\n"
@@ -815,7 +867,7 @@ def converse(console, name, note):
     # Its entry may come between the look that counts and the one that is shown.
     status = until(f"{name}: a caller in a queue", lambda: next(filter(lambda said: waits in said and "Post 1" in said, [console.ask("status")]), None))
     due = (r"status\nclock 0\nroom for \d+ entries beside those that are owed\nlist version 1, lines 1\n" + re.escape(waits)
-           + r"journal: 4,093 of 4,096 entries left; Post 1\n")
+           + r"journal: 4,093 of 4,096 entries left; Post 1\nPost\.Guard waits in the queue of Post\.Gate, since tick 0\n")
     expect_that(f"{name}: status", status and re.fullmatch(due, status), status)
     help_text = console.ask("help")
     expect_that(f"{name}: help", help_text.startswith("help\nappend LINE  ") and help_text.endswith("\nquit            the run ends\n"), help_text)
@@ -1185,7 +1237,7 @@ def main():
     program = os.path.abspath(sys.argv[1]) if sys.argv[1:] else os.path.join(TOP, "crates/ravenhost/out/ravenhost")
     named = sys.argv[2:]
     for part in (commands, row, device, two_devices, deepest, deepest_of_all, live, no_thread, refused, closed, edges, ticks, usage, prompt,
-                 stops, all_flags, quota, halt_below, lasting, unread, come, reasons, console, told_at_console, columns, notes_at_commands, explains,
+                 stops, all_flags, quota, halt_below, lasting, unread, come, reasons, late, console, told_at_console, columns, notes_at_commands, explains,
                  advised, unended_loads, end_status, sections_end):
         if named and part.__name__ not in named:
             continue

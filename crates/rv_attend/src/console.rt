@@ -88,9 +88,12 @@ fn after_word<T, W: Write, F>(
     shown: Result<Next, LineFault>,
     writer: &mut W,
 ) -> Result<Next, LineFault> {
-    match (word, shown) {
-        (Word::Status, Ok(_)) => put_waits(session, follower, writer),
-        (_, shown) => shown,
+    match word {
+        Word::Status => match shown {
+            Ok(_) => put_waits(session, follower, writer),
+            Err(fault) => Err(fault),
+        },
+        _ => shown,
     }
 }
 
